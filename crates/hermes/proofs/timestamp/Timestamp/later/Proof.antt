@@ -1,0 +1,14 @@
+use mathlib.Core.Path.{refl}
+use Rattle.hermes.specs.Order.{later}
+use Rattle.hermes.proofs.timestamp.Timestamp.later.Statement.{statement}
+use Rattle.hermes.proofs.timestamp.Timestamp.later.Tie as tie
+use Rattle.hermes.proofs.timestamp.Timestamp.later.Reads as reads
+use Rattle.hermes.proofs.timestamp.Timestamp.later.Lts as lts
+
+-- src/timestamp.rt:13:5
+returns : tie.Need-returns
+unfolding later
+returns c = refl
+
+pub later-spec : {M : Type 1} → statement M
+later-spec = tie.close (tie.spec returns)

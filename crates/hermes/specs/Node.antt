@@ -1,0 +1,112 @@
+-- A replica with its lent memory: the table of records and the store (01, "Laptop and record").
+use Prim.Native.Nat.{ℕ, zero, suc}
+use mathlib.Core.Bool.{Bool}
+use mathlib.Core.List.{List, [], _∷_}
+use lib.ListN.{length, getD, set, replicate}
+use Rattle.hermes.specs.declared.record.Record.{Record}
+use Rattle.hermes.specs.declared.message.Outgoing.the-variants.{None}
+use Rattle.hermes.specs.declared.event.Replica.{Replica}
+use Rattle.hermes.specs.declared.event.Event.{Event}
+use Rattle.hermes.specs.declared.event.Answer.{Answer}
+use Rattle.hermes.specs.declared.event.Admission.{Admission}
+use Rattle.hermes.specs.declared.event.Admission.the-variants.{Admitted, Refused}
+use Rattle.hermes.specs.Members.{lowest}
+use Rattle.hermes.specs.Record.{freshRecord}
+use Rattle.hermes.specs.Store.{slot, valueAt}
+use Rattle.hermes.specs.Guards.{Question, firstNo, question1, question2, question3, question18, question19}
+use Rattle.hermes.specs.Event.{Effect, effect, readPart, answerOf}
+
+-- a laptop of document 01
+pub record Node : Type 0 where
+  pub me : Replica
+  pub table : List Record
+  pub store : List ℕ
+
+-- record i; past the table's end, where question 4 refuses, a fresh one
+abbrev pub recordAt : List Record → ℕ → Record
+recordAt table i = getD table i (freshRecord 0)
+
+abbrev pub recordOf : ℕ → Node → Record
+recordOf i n = recordAt (n .table) i
+
+-- the value of record i
+abbrev pub valueOf : ℕ → Node → List ℕ
+valueOf i n = valueAt i (recordOf i n .len) (n .store)
+
+-- the answer, and the replica with its memory after an event
+pub record Outcome : Type 0 where
+  pub answer : Answer
+  pub node : Node
+
+-- ---- the events on one record
+
+abbrev pub effectOf : (ℕ → ℕ → Bool) → Node → ℕ → Event → List ℕ → Effect
+effectOf wins n i e v = effect wins (n .me) (length (n .table)) i (recordOf i n) (n .store) e v
+
+-- an event on record i, with the value v: the moved record is put back into the table
+unfoldable pub apply : (ℕ → ℕ → Bool) → Node → ℕ → Event → List ℕ → Outcome
+apply wins n i e v = record {
+  answer = effectOf wins n i e v .moved .answer;
+  node = record { me = n .me; table = set (n .table) i (effectOf wins n i e v .moved .after); store = effectOf wins n i e v .store };
+}
+
+-- 01, Read
+abbrev pub read : Node → ℕ → List ℕ
+read n i = readPart (n .me) (length (n .table)) i (recordOf i n) (n .store)
+
+-- ---- fresh start and view
+
+-- each case of an admission, by its number and its identity
+abbrev pub admissionOf : ℕ → Replica → Admission
+admissionOf zero me = Admitted me
+admissionOf (suc k) me = Refused (suc k)
+
+-- the identity after an admission
+abbrev pub identity : Admission → Replica → Replica
+identity (Admitted me) old = me
+identity (Refused k) old = old
+
+abbrev pub admissionNumber : Admission → ℕ
+admissionNumber (Admitted me) = 0
+admissionNumber (Refused k) = k
+
+-- 01, "A fresh start takes number, view and lent memory, and asks questions 1, 2 and 3 below. It sets epoch 0"
+abbrev pub newcomer : ℕ → ℕ → Replica
+newcomer number view = record { number = number; epoch = 0; view = view }
+
+abbrev pub startQuestions : Replica → ℕ → ℕ → List Question
+startQuestions me count bytes = question1 me ∷ question2 count bytes ∷ question3 me ∷ []
+
+-- the admission, and the memory after a fresh start
+pub record Start : Type 0 where
+  pub admission : Admission
+  pub table : List Record
+  pub store : List ℕ
+
+-- 01, fresh start: every record fresh, the store zero
+abbrev pub begin : ℕ → Replica → List Record → List ℕ → Start
+begin zero me table store = record {
+  admission = admissionOf zero me;
+  table = replicate (length table) (freshRecord (lowest (me .view)));
+  store = replicate (length store) 0;
+}
+begin (suc k) me table store = record { admission = admissionOf (suc k) me; table = table; store = store }
+
+unfoldable pub start : ℕ → ℕ → List Record → List ℕ → Start
+start number view table store =
+    begin (firstNo (startQuestions (newcomer number view) (length table) (length store))) (newcomer number view) table store
+
+-- 01, "A view event asks only 1 and 3 of these", then 18 and 19
+abbrev pub viewQuestions : Replica → ℕ → ℕ → List Question
+viewQuestions me epoch view = question1 me ∷ question3 me ∷ question18 me epoch ∷ question19 me view ∷ []
+
+-- 01, View: epoch and view are replaced
+unfoldable pub view : Replica → ℕ → ℕ → Admission
+view me epoch set = admissionOf (firstNo (viewQuestions me epoch set)) (record { number = me .number; epoch = epoch; view = set })
+
+-- 01, View: records, with acknowledgements already in, are untouched
+unfoldable pub viewed : Node → ℕ → ℕ → Outcome
+viewed n epoch set = record {
+  answer = answerOf (admissionNumber (view (n .me) epoch set)) None;
+  node = record { me = identity (view (n .me) epoch set) (n .me); table = n .table; store = n .store };
+}

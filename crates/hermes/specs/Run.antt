@@ -1,0 +1,108 @@
+-- Runs of a whole group (01, "Premises of agreement"): lists of entries, each an event of one replica, and the messages that left.
+use Prim.Native.Nat.{ℕ, zero, suc}
+use mathlib.Core.Bool.{Bool, cond}
+use mathlib.Core.List.{List, [], _∷_, _++_}
+use lib.Dec.{eqb}
+use Rattle.hermes.specs.declared.message.Message.{Message}
+use Rattle.hermes.specs.declared.message.Header.{Header}
+use Rattle.hermes.specs.declared.message.Outgoing.{Outgoing}
+use Rattle.hermes.specs.declared.message.Outgoing.the-variants.{None, Sent}
+use Rattle.hermes.specs.declared.message.Received.{Received}
+use Rattle.hermes.specs.declared.event.Event.{Event}
+use Rattle.hermes.specs.declared.event.Event.the-variants.{Read, Write, Replay, Deliver, Validate, Resend}
+use Rattle.hermes.specs.Event.{bodyOf, sentBy}
+use Rattle.hermes.specs.Node.{Node, Outcome, recordOf, apply, viewed}
+use Rattle.hermes.specs.Store.{valueAt}
+
+-- a message as it left, with the bytes that it took along
+pub record Logged : Type 0 where
+  pub header : Header
+  pub message : Message
+  pub body : List ℕ
+
+-- 01, "An entry is a read, write, replay, delivery, validate, resend or view event .. of any laptop"
+pub data Action : Type 0 where
+  read : ℕ → Action
+  write : ℕ → List ℕ → Action
+  replay : ℕ → Action
+  -- the message with that log number
+  deliver : ℕ → Action
+  validate : ℕ → Action
+  resend : ℕ → Action
+  -- an epoch and its view
+  view : ℕ → ℕ → Action
+
+-- an entry: the replica's number, and what it does
+pub record Entry : Type 0 where
+  pub who : ℕ
+  pub what : Action
+
+-- the replica of each number, and the messages that left, oldest first
+pub record Group : Type 0 where
+  pub at : ℕ → Node
+  pub log : List Logged
+
+-- ---- one entry
+
+-- what an entry comes to: an event, or none where no message has the log number
+pub data Result : Type 0 where
+  nothing : Result
+  event : Outcome → Result
+
+pub data Found : Type 0 where
+  missing : Found
+  found : Logged → Found
+
+abbrev pub find : List Logged → ℕ → Found
+find [] k = missing
+find (x ∷ xs) zero = found x
+find (x ∷ xs) (suc k) = find xs k
+
+abbrev pub received : Logged → Received
+received x = record { sender = x .header .sender; epoch = x .header .epoch; message = x .message }
+
+module _ (wins : ℕ → ℕ → Bool) where
+  -- 01, "a delivery names its message's record and brings its message's bytes"
+  abbrev pub delivery : Found → Node → Result
+  delivery missing n = nothing
+  delivery (found x) n = event (apply wins n (x .header .index) (Deliver (received x)) (x .body))
+
+  abbrev pub perform : Action → List Logged → Node → Result
+  perform (read i) log n = event (apply wins n i Read [])
+  perform (write i v) log n = event (apply wins n i Write v)
+  perform (replay i) log n = event (apply wins n i Replay [])
+  perform (deliver k) log n = delivery (find log k) n
+  perform (validate i) log n = event (apply wins n i Validate [])
+  perform (resend i) log n = event (apply wins n i Resend [])
+  perform (view epoch set) log n = event (viewed n epoch set)
+
+-- the replica after a result
+abbrev pub nodeAfter : Result → Node → Node
+nodeAfter nothing n = n
+nodeAfter (event o) n = o .node
+
+-- the log with what left, and the bytes that an INV took along: the record's value after the event
+abbrev pub logged : List Logged → Node → Outgoing → List Logged
+logged log n None = log
+logged log n (Sent m h) = log ++ (record { header = h; message = m; body = bodyOf m (valueAt (h .index) (recordOf (h .index) n .len) (n .store)) } ∷ [])
+
+abbrev pub logAfter : Result → List Logged → List Logged
+logAfter nothing log = log
+logAfter (event o) log = logged log (o .node) (sentBy (o .answer))
+
+-- ---- lists of entries
+
+module _ (wins : ℕ → ℕ → Bool) where
+  -- 01, "Each entry gets its laptop's number, epoch, view, table and store as the laptop's last entry, or its start, left them"
+  unfoldable pub result : Group → Entry → Result
+  result g a = perform wins (a .what) (g .log) (g .at (a .who))
+
+  unfoldable pub advance : Group → Entry → Group
+  advance g a = record {
+    at = λ n. cond (eqb n (a .who)) (nodeAfter (result g a) (g .at n)) (g .at n);
+    log = logAfter (result g a) (g .log);
+  }
+
+  abbrev pub run : Group → List Entry → Group
+  run g [] = g
+  run g (a ∷ rest) = run (advance g a) rest

@@ -1,0 +1,39 @@
+// A replica, its events and their answers.
+use crate::message::Outgoing;
+use crate::message::Received;
+use crate::record::Record;
+
+// The identity of a replica (document 01's laptop): its number, its epoch, and its view, a set of numbers in 16 bits.
+pub struct Replica {
+    pub number: u8,
+    pub epoch: u32,
+    pub view: u16,
+}
+
+// An event on one record. A write and an invalidation bring a value with them, beside the event.
+pub enum Event {
+    Read,
+    Write,
+    Replay,
+    Deliver(Received),
+    Validate,
+    Resend,
+}
+
+// The answer to an event: accepted, with what leaves; or the number of the question that said no.
+pub enum Answer {
+    Accepted(Outgoing),
+    Refused(u8),
+}
+
+// The answer, and the record as the event leaves it.
+pub struct Moved {
+    pub answer: Answer,
+    pub after: Record,
+}
+
+// The answer to a fresh start and to a view: the identity from then on, or the number of the question that said no.
+pub enum Admission {
+    Admitted(Replica),
+    Refused(u8),
+}

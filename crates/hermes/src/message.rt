@@ -1,0 +1,29 @@
+// Messages between replicas.
+use crate::timestamp::Timestamp;
+
+// An invalidation (INV), an acknowledgement (ACK) or a validation (VAL), each with its timestamp.
+pub enum Message {
+    Inv(Timestamp),
+    Ack(Timestamp),
+    Val(Timestamp),
+}
+
+// Whose message it is, in which epoch it left, and the number of the record that it is about.
+pub struct Header {
+    pub sender: u8,
+    pub epoch: u32,
+    pub index: usize,
+}
+
+// What leaves an event: nothing, or a message with its header.
+pub enum Outgoing {
+    None,
+    Sent(Message, Header),
+}
+
+// A message as it is delivered. The record that it is about is the one that the delivery names.
+pub struct Received {
+    pub sender: u8,
+    pub epoch: u32,
+    pub message: Message,
+}
