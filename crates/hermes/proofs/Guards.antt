@@ -20,7 +20,7 @@ use Rattle.hermes.specs.Order.{sameTimestamp}
 use Rattle.hermes.specs.Record.{oneOf}
 use Rattle.hermes.specs.Guards.{Question, firstNo, question5, shapely, question13, question14}
 use Rattle.hermes.specs.Event.{common, ofKind, own, refusal}
-use Rattle.hermes.proofs.Booleans.{both, not-true}
+use Rattle.hermes.proofs.Tests.{both, not-true}
 
 -- ---- lists of questions
 
