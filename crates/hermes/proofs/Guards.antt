@@ -194,6 +194,10 @@ module _ (me : Replica) (count bytes i : ℕ) (r : Record) where
       let q16 = both (oneOf (r .state) (state.Invalid ∷ [])) _ (y .1 .1 .1 .1 .1 .0) in
       record { common = event-passed Replay n z; invalid = q16 .0; gone = not-true _ (q16 .1) }
 
+-- question 12 of an invalidation
+pub inv-fits : (m : Message) (t : Timestamp) (n : ℕ) → m ≡ Inv t → shapely m n ≡ true → n ≤ 192
+inv-fits m t n e h = leb-true n 192 (both (leb (t .tie) 15) (leb n 192) (rw e at h) .1)
+
 -- the 192 bytes of a record below the count lie in the store
 pub slot-fits : {me : Replica} {count bytes i : ℕ} {r : Record} → Common me count bytes i r → 192 * i + 192 ≤ bytes
 slot-fits p = omega (arith, p .whole, p .inside)

@@ -28,15 +28,15 @@ question14-requires c κs = search needs
 
 -- src/guards.rt:188:1
 returns : tie.Need-returns
-returns c = ?
+returns c = rw (c .enum-told .given .1)
 
 -- src/guards.rt:188:1
 returns-2 : tie.Need-returns-2
-returns-2 c = ?
+returns-2 c = rw (c .before .before .message .given .1) (c .question13 .ensures)
 
 -- src/guards.rt:188:1
 returns-3 : tie.Need-returns-3
-returns-3 c = ?
+returns-3 c = rw (c .before .before .message2 .given .1) (c .question14 .ensures)
 
 pub of-kind-spec : {M : Type 1} → statement M
 of-kind-spec =

@@ -16,7 +16,7 @@ question-requires c κs = search needs
 
 -- src/guards.rt:49:1
 returns : tie.Need-returns
-returns c = ?
+returns c = cc
 
 pub question1-spec : {M : Type 1} → statement M
 question1-spec = tie.close (tie.spec plural-requires question-requires returns)

@@ -31,15 +31,15 @@ question-requires-3 c κs = search needs
 
 -- src/guards.rt:153:1
 returns : tie.Need-returns
-returns c = ?
+returns c = rw (c .before .before .before .message .given .1) (c .question .ensures)
 
 -- src/guards.rt:153:1
 returns-2 : tie.Need-returns-2
-returns-2 c = ?
+returns-2 c = rw (c .before .before .before .message2 .given .1) (c .question2 .ensures)
 
 -- src/guards.rt:153:1
 returns-3 : tie.Need-returns-3
-returns-3 c = ?
+returns-3 c = rw (c .before .before .before .message3 .given .1) (c .question3 .ensures)
 
 pub question12-spec : {M : Type 1} → statement M
 question12-spec =

@@ -26,7 +26,7 @@ question-requires c κs = search needs
 
 -- src/guards.rt:168:1
 returns : tie.Need-returns
-returns c = ?
+returns c = cc
 
 pub question13-spec : {M : Type 1} → statement M
 question13-spec =

@@ -21,7 +21,7 @@ question-requires c κs = search needs
 
 -- src/guards.rt:178:1
 returns : tie.Need-returns
-returns c = ?
+returns c = cc
 
 pub question14-spec : {M : Type 1} → statement M
 question14-spec = tie.close (tie.spec is-valid-requires same-requires question-requires returns)

@@ -21,7 +21,7 @@ question-requires c κs = search needs
 
 -- src/guards.rt:207:1
 returns : tie.Need-returns
-returns c = ?
+returns c = cc
 
 pub question16-spec : {M : Type 1} → statement M
 question16-spec = tie.close (tie.spec is-invalid-requires has-requires question-requires returns)

@@ -21,7 +21,7 @@ question-requires c κs = search needs
 
 -- src/guards.rt:216:1
 returns : tie.Need-returns
-returns c = ?
+returns c = cc
 
 pub question17-spec : {M : Type 1} → statement M
 question17-spec =

@@ -1,3 +1,5 @@
+use Rattle.hermes.proofs.Tests.{and-true, and-false}
+use borrow.Author.Tests.{le-leb, lt-leb}
 use borrow.Author.Needs.{needs}
 use Rattle.replica.proofs.guards.question2.Statement.{statement}
 use Rattle.replica.proofs.guards.question2.Tie as tie
@@ -15,11 +17,11 @@ question-requires c κs = search needs
 
 -- src/guards.rt:56:1
 returns : tie.Need-returns
-returns c = ?
+returns c = rw (le-leb (c .before .before .args .count) 4096 (c .before .if1 .taken), and-true) (c .question .ensures)
 
 -- src/guards.rt:56:1
 returns-2 : tie.Need-returns-2
-returns-2 c = ?
+returns-2 c = rw (lt-leb (c .before .args .count) 4096 (c .if1 .left), and-false)
 
 pub question2-spec : {M : Type 1} → statement M
 question2-spec = tie.close (tie.spec mul-question question-requires returns returns-2)

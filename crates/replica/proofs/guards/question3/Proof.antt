@@ -16,7 +16,7 @@ question-requires c κs = search needs
 
 -- src/guards.rt:66:1
 returns : tie.Need-returns
-returns c = ?
+returns c = cc
 
 pub question3-spec : {M : Type 1} → statement M
 question3-spec = tie.close (tie.spec has-requires question-requires returns)

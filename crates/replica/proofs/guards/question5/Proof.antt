@@ -14,13 +14,13 @@ has-requires c κs = search needs
 cast-short : tie.Need-cast-short
 cast-short c = search needs
 
--- src/guards.rt:84:5
+-- src/guards.rt:83:5
 question-requires : tie.Need-question-requires
 question-requires c κs = search needs
 
 -- src/guards.rt:78:1
 returns : tie.Need-returns
-returns c = ?
+returns c = cc
 
 pub question5-spec : {M : Type 1} → statement M
 question5-spec = tie.close (tie.spec has-requires cast-short question-requires returns)

@@ -16,7 +16,7 @@ question-requires c κs = search needs
 
 -- src/guards.rt:114:1
 returns : tie.Need-returns
-returns c = ?
+returns c = cc
 
 pub question6-spec : {M : Type 1} → statement M
 question6-spec = tie.close (tie.spec is-valid-requires question-requires returns)

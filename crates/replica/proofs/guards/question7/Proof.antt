@@ -16,7 +16,7 @@ question-requires c κs = search needs
 
 -- src/guards.rt:121:1
 returns : tie.Need-returns
-returns c = ?
+returns c = cc
 
 pub question7-spec : {M : Type 1} → statement M
 question7-spec = tie.close (tie.spec is-idle-requires question-requires returns)

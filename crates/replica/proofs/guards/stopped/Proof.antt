@@ -14,11 +14,11 @@ enum-told c = search needs
 
 -- src/guards.rt:34:1
 returns : tie.Need-returns
-returns c = ?
+returns c = rw (c .before .a .given .1)
 
 -- src/guards.rt:34:1
 returns-2 : tie.Need-returns-2
-returns-2 c = ?
+returns-2 c = rw (c .enum-told .given .1)
 
 pub stopped-spec : {M : Type 1} → statement M
 stopped-spec = tie.close (tie.spec enum-known-a enum-told returns returns-2)

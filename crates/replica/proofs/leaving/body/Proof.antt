@@ -47,15 +47,15 @@ slice-aggregate-result-3 c = search needs
 
 -- src/leaving.rt:28:1
 returns : tie.Need-returns
-returns c = ?
+returns c = rw (c .before .before .before .before .before .out .given .1, c .before .before .enum-told .given .1) (c .part .ensures)
 
 -- src/leaving.rt:28:1
 returns-2 : tie.Need-returns-2
-returns-2 c = ?
+returns-2 c = rw (c .before .before .before .before .out .given .1, c .before .enum-told2 .given .1)
 
 -- src/leaving.rt:28:1
 returns-3 : tie.Need-returns-3
-returns-3 c = ?
+returns-3 c = rw (c .before .before .before .before .out .given .1, c .before .enum-told3 .given .1)
 
 -- src/leaving.rt:28:1
 returns-4 : tie.Need-returns-4

@@ -47,7 +47,7 @@ returns-3 c = search needs
 
 -- src/leaving.rt:42:1
 returns-4 : tie.Need-returns-4
-returns-4 c = ?
+returns-4 c = rw (c .before .before .e .given .1) (c .with .ensures)
 
 -- src/leaving.rt:42:1
 returns-5 : tie.Need-returns-5

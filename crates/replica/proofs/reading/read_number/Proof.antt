@@ -1,3 +1,4 @@
+use mathlib.Core.Path.{refl, sym, ap, _∙_}
 use borrow.Author.Needs.{needs}
 use Rattle.replica.proofs.reading.read_number.Statement.{statement}
 use Rattle.replica.proofs.reading.read_number.Tie as tie
@@ -11,7 +12,7 @@ read-event-requires c κs = search needs
 
 -- src/reading.rt:42:1
 returns : tie.Need-returns
-returns c = ?
+returns c = ap (λ m. m .answer) (c .read-event .ensures)
 
 pub read-number-spec : {M : Type 1} → statement M
 read-number-spec = tie.close (tie.spec read-event-requires returns)

@@ -39,7 +39,7 @@ send-requires-3 c κs = search needs
 
 -- src/settle.rt:71:1
 returns : tie.Need-returns
-returns c = ?
+returns c = rw (c .before .enum-told .given .1) (c .send .ensures)
 
 -- src/settle.rt:71:1
 returns-2 : tie.Need-returns-2
@@ -51,11 +51,11 @@ returns-3 c = search needs
 
 -- src/settle.rt:71:1
 returns-4 : tie.Need-returns-4
-returns-4 c = ?
+returns-4 c = rw (c .before .enum-told4 .given .1) (c .send2 .ensures)
 
 -- src/settle.rt:71:1
 returns-5 : tie.Need-returns-5
-returns-5 c = ?
+returns-5 c = rw (c .before .enum-told5 .given .1) (c .send3 .ensures)
 
 pub again-spec : {M : Type 1} → statement M
 again-spec =

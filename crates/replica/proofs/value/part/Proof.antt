@@ -1,3 +1,4 @@
+use Rattle.replica.proofs.Bytes.{part-none, part-short, part-whole}
 use borrow.Author.Needs.{needs}
 use Rattle.replica.proofs.value.part.Statement.{statement}
 use Rattle.replica.proofs.value.part.Tie as tie
@@ -18,7 +19,7 @@ part-result-end c = search needs
 
 -- src/value.rt:31:9
 returns : tie.Need-returns
-returns c = ?
+returns c = part-none (c .before .before .args .i) (c .before .before .args .n) (c .before .before .args .store .now) (c .before .if1 .taken)
 
 -- src/value.rt:33:14
 mul-at : tie.Need-mul-at
@@ -42,7 +43,7 @@ part-result-end-2 c = search needs
 
 -- src/value.rt:35:9
 returns-2 : tie.Need-returns-2
-returns-2 c = ?
+returns-2 c = part-short (c .before .before .before .args .i) (c .before .before .before .args .n) (c .before .before .before .args .store .now) (c .before .if2 .taken)
 
 -- src/value.rt:37:16
 add-result : tie.Need-add-result
@@ -62,7 +63,7 @@ part-result-end-3 c = search needs
 
 -- src/value.rt:26:1
 returns-3 : tie.Need-returns-3
-returns-3 c = ?
+returns-3 c = part-whole (c .before .before .before .args .i) (c .before .before .before .args .n) (c .before .before .before .args .store .now)
 
 pub part-spec : {M : Type 1} → statement M
 part-spec =
