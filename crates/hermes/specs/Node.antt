@@ -22,6 +22,10 @@ pub record Node : Type 0 where
   pub table : List Record
   pub store : List ℕ
 
+-- a replica with the memory lent to it
+abbrev pub lent : Replica → List Record → List ℕ → Node
+lent me table store = record { me = me; table = table; store = store }
+
 -- record i; past the table's end, where question 4 refuses, a fresh one
 abbrev pub recordAt : List Record → ℕ → Record
 recordAt table i = getD table i (freshRecord 0)
