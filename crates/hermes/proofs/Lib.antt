@@ -3,3 +3,5 @@ pub mod Tests
 pub mod Members
 pub mod Order
 pub mod Store
+pub mod Protocol
+pub mod Asked

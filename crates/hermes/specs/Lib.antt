@@ -7,3 +7,4 @@ pub mod Guards
 pub mod Event
 pub mod Node
 pub mod Run
+pub mod Agreement
