@@ -1,20 +1,26 @@
 -- An event whose answer is 0 was asked questions that all said yes.
 use Prim.Native.Nat.{ℕ, zero, suc, _*_, _≤_, _<_}
 use mathlib.Core.Path.{_≡_, refl}
-use mathlib.Core.Bool.{Bool, true, false, cond, _&&_}
+use mathlib.Core.Bool.{Bool, true, false, cond, not, _&&_}
 use mathlib.Core.List.{List, [], _∷_}
 use native.Mathlib.Omega.{arith}
 use lib.Dec.{ltb, leb, eqb}
 use borrow.Author.Tests.{ltb-true, eqb-true}
+use Rattle.hermes.specs.declared.timestamp.Timestamp.{Timestamp}
 use Rattle.hermes.specs.declared.record.Record.{Record}
+use Rattle.hermes.specs.declared.record.State.the-variants as state
 use Rattle.hermes.specs.declared.message.Message.{Message}
 use Rattle.hermes.specs.declared.message.Message.the-variants.{Inv, Ack, Val}
 use Rattle.hermes.specs.declared.event.Replica.{Replica}
 use Rattle.hermes.specs.declared.event.Event.{Event}
 use Rattle.hermes.specs.declared.event.Event.the-variants.{Read, Write, Replay, Deliver, Validate, Resend}
-use Rattle.hermes.specs.Guards.{Question, firstNo, question2}
+use Rattle.hermes.specs.Members.{has}
+use Rattle.hermes.specs.Order.{sameTimestamp}
+use Rattle.hermes.specs.Record.{oneOf}
+use Rattle.hermes.specs.Guards.{Question, firstNo, question2, question13, question14}
 use Rattle.hermes.specs.Event.{common, ofKind, own, refusal}
 use Rattle.hermes.proofs.Tests.{both}
+use Rattle.hermes.proofs.Order.{same-equal}
 
 abbrev pub AllYes : List Question → Type 0
 AllYes [] = Unit
@@ -59,3 +65,14 @@ event-passed me count bytes i r e n z = passed (common me count bytes i r (own m
 -- question 2: the store's bytes
 pub sized : (count bytes : ℕ) → question2 count bytes .yes ≡ true → bytes ≡ 192 * count
 sized count bytes h = eqb-true bytes (192 * count) (both (leb 1 count && leb count 4096) (eqb bytes (192 * count)) h .1)
+
+-- question 13: the timestamp is the last-write timestamp
+pub acked-written : (t : Timestamp) (sender : ℕ) (r : Record) → question13 t sender r .yes ≡ true → t ≡ r .written
+acked-written t sender r h = same-equal t (r .written) (both waits (sameTimestamp t (r .written)) (both (waits && sameTimestamp t (r .written)) (not (has (r .acks) sender)) h .0) .1)
+  where
+    waits : Bool
+    waits = oneOf (r .state) (state.Write ∷ state.InvalidWrite ∷ state.Replay ∷ [])
+
+-- question 14: the timestamp is the record's
+pub validated-timestamp : (t : Timestamp) (r : Record) → question14 t r .yes ≡ true → t ≡ r .timestamp
+validated-timestamp t r h = same-equal t (r .timestamp) (both (not (oneOf (r .state) (state.Valid ∷ []))) (sameTimestamp t (r .timestamp)) h .1)

@@ -5,3 +5,6 @@ pub mod Order
 pub mod Store
 pub mod Protocol
 pub mod Asked
+pub mod Apply
+pub mod Refine
+pub mod Agreement

@@ -178,6 +178,13 @@ has-with s n m = go (decLt n 16) (decLt m 16) (ℕ-discrete m n)
         same : bit (with s n) m ≡ bit s m
         same = rw (add a) (omega (arith, or-bit s (2 ^ n) m, pow-bit-other n m d))
 
+pub with-members : (s n m : ℕ) → Has (with s n) m → Has s m ⊎ (m ≡ n)
+with-members s n m h = go (either (has s m) (eqb m n && ltb n 16) (sym (has-with s n m) ∙ h))
+  where
+    go : Has s m ⊎ ((eqb m n && ltb n 16) ≡ true) → Has s m ⊎ (m ≡ n)
+    go (inl k) = inl k
+    go (inr e) = inr (eqb-true m n (both (eqb m n) (ltb n 16) e .0))
+
 pub has-without : (s n m : ℕ) → has (without s n) m ≡ (has s m && not (eqb m n))
 has-without s n m = go (decLt n 16) (decLt m 16) (ℕ-discrete m n)
   where
