@@ -5,7 +5,8 @@ use mathlib.Core.Bool.{Bool}
 use mathlib.Core.List.{List}
 use lib.ListN.{length, set}
 use lib.Seq.{set-getD}
-use borrow.Author.Tests.{ltb-true}
+use lib.Dec.{leb}
+use borrow.Author.Tests.{ltb-true, leb-true}
 use Rattle.hermes.specs.declared.event.Event.{Event}
 use Rattle.hermes.specs.declared.event.Answer.the-variants.{Accepted, Refused}
 use Rattle.hermes.specs.declared.record.Record.{Record}
@@ -13,7 +14,10 @@ use Rattle.hermes.specs.Guards.{Question}
 use Rattle.hermes.specs.Record.{freshRecord}
 use Rattle.hermes.specs.Event.{Step, common, own, refusal, step, storing, decide, effect}
 use Rattle.hermes.specs.Node.{Node, Outcome, recordOf, apply}
+use Rattle.hermes.specs.Members.{size}
+use Rattle.hermes.proofs.Tests.{both}
 use Rattle.hermes.proofs.Asked.{AllYes, event-passed, sized}
+use Rattle.hermes.proofs.Steps.{SoundStep, five-facts, step-sound}
 
 -- the number that an event on record i answers, its questions and its step
 abbrev pub refusalOf : Node → ℕ → Event → List ℕ → ℕ
@@ -64,3 +68,9 @@ full n i e v y = sized (length (n .table)) (length (n .store)) (y .1 .0)
 -- its own questions
 pub its-own : (n : Node) (i : ℕ) (e : Event) (v : List ℕ) → AllYes (questionsOf n i e v) → AllYes (ownOf n i e v)
 its-own n i e v y = y .1 .1 .1 .1 .1
+
+-- its step leaves a sound record and stores what fits
+pub sound-step : (wins : ℕ → ℕ → Bool) (n : Node) (i : ℕ) (e : Event) (v : List ℕ) → AllYes (questionsOf n i e v) → SoundStep (n .me .number) (stepOf wins n i e v)
+sound-step wins n i e v y =
+    step-sound wins (n .me) i (recordOf i n) (leb-true (n .me .number) 15 (both (leb (n .me .number) 15) (leb 2 (size (n .me .view))) (y .0) .0))
+    (five-facts (n .me) (recordOf i n) (y .1 .1 .1 .1 .0)) e v (its-own n i e v y)

@@ -5,6 +5,7 @@ pub mod Order
 pub mod Store
 pub mod Protocol
 pub mod Asked
+pub mod Steps
 pub mod Apply
 pub mod Refine
 pub mod Agreement

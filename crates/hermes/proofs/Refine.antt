@@ -27,7 +27,7 @@ use Rattle.hermes.specs.Members.{has, size, within, othersIn, with}
 use Rattle.hermes.specs.Order.{TieOrder, later, sameTimestamp, NotAfter, rises}
 use Rattle.hermes.specs.Record.{oneOf, freshRecord, invalidatedState}
 use Rattle.hermes.specs.Store.{slot, valueAt, padded}
-use Rattle.hermes.specs.Guards.{firstNo, shapely}
+use Rattle.hermes.specs.Guards.{firstNo}
 use Rattle.hermes.specs.Event.{Step, Stored, kept, placed, storing, ofKind, invStep, deliverStep, resent, bodyOf, sentBy, answerOf}
 use Rattle.hermes.specs.Node.{Node, Outcome, recordOf, apply, view, viewed, viewQuestions, admissionOf, admissionNumber, identity}
 use Rattle.hermes.specs.Run as run
@@ -38,7 +38,8 @@ use Rattle.hermes.proofs.Members.{Has, within-members, others-members, 
 use Rattle.hermes.proofs.Order.{notAfter-refl, notAfter-total}
 use Rattle.hermes.proofs.Store.{take-padded, value-slot, slot-same, slot-other}
 use Rattle.hermes.proofs.Asked.{AllYes, passed, acked-written, validated-timestamp}
-use Rattle.hermes.proofs.Apply.{stepOf, questionsOf, ownOf, done, Applied, refused, accepted, applied, inside, full, its-own}
+use Rattle.hermes.proofs.Apply.{stepOf, ownOf, done, Applied, refused, accepted, applied, inside, full, its-own, sound-step}
+use Rattle.hermes.proofs.Steps.{Fits, SoundStep}
 use Rattle.hermes.proofs.Protocol as protocol
 use Rattle.hermes.proofs.Protocol.{Setting, Copy, Msg, inv, ack, val, Move, stay, write, replay, rcvInv, rcvAck, rcvVal, sendVals, shrink, Honest}
 
@@ -93,10 +94,6 @@ abbrev pub bytesOf : Stored → List ℕ → List ℕ
 bytesOf kept b = b
 bytesOf (placed v) b = padded v
 
-abbrev pub Fits : Stored → Type 0
-Fits kept = Unit
-Fits (placed v) = length v ≤ 192
-
 -- the copy that a step makes of record j
 abbrev pub stepped : ℕ → Node → Step → Copy Cell
 stepped j n s = copyOf (n .me) (s .after) (bytesOf (s .stored) (slot j (n .store)))
@@ -133,8 +130,6 @@ module _ (wins : ℕ → ℕ → Bool) (issued : ℕ → ℕ) where
   -- an accepted step on record j
   record Good (log : List Logged) (j : ℕ) (n : Node) (s : Step) : Type 0 where
     moves : Move (setting wins issued) (n .me .number) (Known j log) (copy j n) (stepped j n s)
-    fits : Fits (s .stored)
-    short : s .after .len ≤ 192
     says : Says (n .me) j (stepped j n s) (s .sent)
 
   -- an entry, accepted or refused, as record i sees it
@@ -176,7 +171,7 @@ module _ (wins : ℕ → ℕ → Bool) (issued : ℕ → ℕ) where
 
   -- an event on record j whose step is good, as record i sees it
   of-event : (log : List Logged) (n : Node) (j : ℕ) (e : Event) (v : List ℕ)
-      → (AllYes (ownOf n j e v) → recordOf j n .len ≤ 192 → Good log j n (stepOf wins n j e v)) → (i : ℕ) → Refined log i n (run.event (apply wins n j e v))
+      → (AllYes (ownOf n j e v) → Good log j n (stepOf wins n j e v)) → (i : ℕ) → Refined log i n (run.event (apply wins n j e v))
   of-event log n j e v good i = go (apply wins n j e v) (applied wins n j e v)
     where
       s : Step
@@ -184,23 +179,23 @@ module _ (wins : ℕ → ℕ → Bool) (issued : ℕ → ℕ) where
 
       go : (o : Outcome) → Applied wins n j e v o → Refined log i n (run.event o)
       go o (refused k z q) = rw q (record { number = refl; moves = stay refl; left = λ p k. inl k })
-      go o (accepted y q) = rw q (record { number = refl; moves = move (ℕ-discrete i j); left = λ p k. joins i j log (done n j s) (s .sent) (rw here-record (g .short)) (rw here (g .says)) p k })
+      go o (accepted y q) = rw q (record { number = refl; moves = move (ℕ-discrete i j); left = λ p k. joins i j log (done n j s) (s .sent) (rw here-record (sound .after .short)) (rw here (g .says)) p k })
         where
           g : Good log j n s
-          g = good (its-own n j e v y) (leb-true (recordOf j n .len) 192 (five y))
-            where
-              five : AllYes (questionsOf n j e v) → leb (recordOf j n .len) 192 ≡ true
-              five y = both _ _ (both _ _ (both _ _ (both _ _ (y .1 .1 .1 .1 .0) .0) .0) .0) .0
+          g = good (its-own n j e v y)
+
+          sound : SoundStep (n .me .number) s
+          sound = sound-step wins n j e v y
 
           here-record : recordOf j (done n j s) ≡ s .after
           here-record = getD-set-same (n .table) j (s .after) _ (inside n j e v y)
 
           here : copy j (done n j s) ≡ stepped j n s
-          here = copy-here j n (inside n j e v y) (full n j e v y) s (g .fits)
+          here = copy-here j n (inside n j e v y) (full n j e v y) s (sound .fits)
 
           move : Dec (i ≡ j) → Move (setting wins issued) (n .me .number) (Known i log) (copy i n) (copy i (done n j s))
           move (yes d) = rw (d, here) (g .moves)
-          move (no d) = stay (copy-there j n (inside n j e v y) (full n j e v y) s (g .fits) i d)
+          move (no d) = stay (copy-there j n (inside n j e v y) (full n j e v y) s (sound .fits) i d)
 
 -- ---- the events
 
@@ -232,30 +227,26 @@ module _ (wins : ℕ → ℕ → Bool) (ord : TieOrder wins) (issued : ℕ → �
   resent-says j state.Write e = (refl, refl)
   resent-says j state.Replay e = (refl, refl)
 
-  inv-good : (j sender epoch : ℕ) (t : Timestamp) (v : List ℕ) → Known j log (inv sender epoch t (cellOf v)) → length v ≤ 192 → recordOf j n .len ≤ 192
+  inv-good : (j sender epoch : ℕ) (t : Timestamp) (v : List ℕ) → Known j log (inv sender epoch t (cellOf v))
       → (g : Bool) → later wins t (recordOf j n .timestamp) ≡ g → Good wins issued log j n (invStep g (n .me) j (recordOf j n) t sender v)
-  inv-good j sender epoch t v k f l true g = record {
+  inv-good j sender epoch t v k true g = record {
     moves = rcvInv sender epoch t (cellOf v) (clean-cell v) k (rises g) (rw (invalid-shown (recordOf j n .state), invalid-own (recordOf j n .state)));
-    fits = f;
-    short = f;
     says = (refl, notAfter-refl wins t);
   }
-  inv-good j sender epoch t v k f l false g = record { moves = stay refl; fits = tt; short = l; says = (refl, notAfter-total wins ord t (recordOf j n .timestamp) g) }
+  inv-good j sender epoch t v k false g = record { moves = stay refl; says = (refl, notAfter-total wins ord t (recordOf j n .timestamp) g) }
 
-  deliver-good : (j sender epoch : ℕ) (m : Message) (v : List ℕ) → Known j log (msg sender epoch m v) → epoch ≡ n .me .epoch → shapely m (length v) ≡ true
-      → AllYes (ofKind m sender (recordOf j n)) → recordOf j n .len ≤ 192 → Good wins issued log j n (deliverStep wins (n .me) j (recordOf j n) sender m v)
-  deliver-good j sender epoch (Inv t) v k p b y l =
-      inv-good j sender epoch t v k (leb-true (length v) 192 (both (leb (t .tie) 15) (leb (length v) 192) b .1)) l (later wins t (recordOf j n .timestamp)) refl
-  deliver-good j sender epoch (Ack t) v k p b y l = record {
+  deliver-good : (j sender epoch : ℕ) (m : Message) (v : List ℕ) → Known j log (msg sender epoch m v) → epoch ≡ n .me .epoch
+      → AllYes (ofKind m sender (recordOf j n)) → Good wins issued log j n (deliverStep wins (n .me) j (recordOf j n) sender m v)
+  deliver-good j sender epoch (Inv t) v k p y =
+      inv-good j sender epoch t v k (later wins t (recordOf j n .timestamp)) refl
+  deliver-good j sender epoch (Ack t) v k p y = record {
     moves = rcvAck sender epoch (with (recordOf j n .acks) sender) (rw (← e) k) (with-members (recordOf j n .acks) sender) refl;
-    fits = tt;
-    short = l;
     says = tt;
   }
     where
       e : t ≡ recordOf j n .written
       e = acked-written t sender (recordOf j n) (y .0)
-  deliver-good j sender epoch (Val t) v k p b y l = record { moves = rcvVal sender (rw (← p, ← e) k) refl; fits = tt; short = l; says = tt }
+  deliver-good j sender epoch (Val t) v k p y = record { moves = rcvVal sender (rw (← p, ← e) k) refl; says = tt }
     where
       e : t ≡ recordOf j n .timestamp
       e = validated-timestamp t (recordOf j n) (y .0)
@@ -281,19 +272,19 @@ module _ (wins : ℕ → ℕ → Bool) (ord : TieOrder wins) (issued : ℕ → �
 
   -- every entry, as record i of its replica sees it
   pub refined : (a : Action) → AsIssued issued a → (i : ℕ) → Refined wins issued log i n (perform wins a log n)
-  refined (run.read j) c = of-event wins issued log n j Read [] (λ y l. record { moves = stay refl; fits = tt; short = l; says = tt })
+  refined (run.read j) c = of-event wins issued log n j Read [] (λ y. record { moves = stay refl; says = tt })
   refined (run.write j v) c = of-event wins issued log n j Write v
-      (λ y l. record { moves = write (cellOf v) (clean-cell v) 0 none-in-zero (rw (y .1 .1 .0)); fits = leb-true (length v) 192 (y .1 .0); short = leb-true (length v) 192 (y .1 .0); says = (refl, refl) })
-  refined (run.replay j) c = of-event wins issued log n j Replay [] (λ y l. record { moves = replay 0 none-in-zero refl; fits = tt; short = l; says = (refl, refl) })
+      (λ y. record { moves = write (cellOf v) (clean-cell v) 0 none-in-zero (rw (y .1 .1 .0)); says = (refl, refl) })
+  refined (run.replay j) c = of-event wins issued log n j Replay [] (λ y. record { moves = replay 0 none-in-zero refl; says = (refl, refl) })
   refined (run.validate j) c = of-event wins issued log n j Validate []
-      (λ y l. let (p, q) = both _ _ (y .0) in
-      record { moves = sendVals p (others-members (n .me .number) (n .me .view) (recordOf j n .acks) q) refl; fits = tt; short = l; says = (refl, (refl, refl)) })
+      (λ y. let (p, q) = both _ _ (y .0) in
+      record { moves = sendVals p (others-members (n .me .number) (n .me .view) (recordOf j n .acks) q) refl; says = (refl, (refl, refl)) })
   refined (run.resend j) c = of-event wins issued log n j Resend []
-      (λ y l. record { moves = stay refl; fits = tt; short = l; says = resent-says j (recordOf j n .state) refl })
+      (λ y. record { moves = stay refl; says = resent-says j (recordOf j n .state) refl })
   refined (run.deliver k) c = go (find log k) refl
     where
       go : (f : Found) → find log k ≡ f → (i : ℕ) → Refined wins issued log i n (delivery wins f n)
       go run.missing e = λ i. idle wins issued log i n
       go (run.found x) e = of-event wins issued log n (x .header .index) (Deliver (received x)) (x .body)
-          (λ y l. deliver-good (x .header .index) (x .header .sender) (x .header .epoch) (x .message) (x .body) (x, found-in log k x e, refl, refl) (eqb-true _ _ (y .0)) (y .1 .1 .0) (y .1 .1 .1) l)
+          (λ y. deliver-good (x .header .index) (x .header .sender) (x .header .epoch) (x .message) (x .body) (x, found-in log k x e, refl, refl) (eqb-true _ _ (y .0)) (y .1 .1 .1))
   refined (run.view epoch next) c = viewed-refined epoch next c

@@ -1,0 +1,86 @@
+-- An accepted step leaves a sound record (question 5) and stores a value of at most 192 bytes.
+use Prim.Native.Nat.{ℕ, _≤_, _<_}
+use mathlib.Core.Path.{_≡_, refl, sym, ap, _∙_}
+use mathlib.Core.Bool.{Bool, true, false, not, _&&_, false≢true}
+use mathlib.Core.Logic.{_⊎_, inl, inr}
+use mathlib.Core.List.{List, []}
+use native.Mathlib.Omega.{arith}
+use lib.Dec.{leb, eqb}
+use lib.ListN.{length}
+use borrow.Author.Tests.{leb-true, le-leb, eqb-false, not-true}
+use Rattle.hermes.specs.declared.timestamp.Timestamp.{Timestamp}
+use Rattle.hermes.specs.declared.record.Record.{Record}
+use Rattle.hermes.specs.declared.message.Message.{Message}
+use Rattle.hermes.specs.declared.message.Message.the-variants.{Inv, Ack, Val}
+use Rattle.hermes.specs.declared.event.Replica.{Replica}
+use Rattle.hermes.specs.declared.event.Event.{Event}
+use Rattle.hermes.specs.declared.event.Event.the-variants.{Read, Write, Replay, Deliver, Validate, Resend}
+use Rattle.hermes.specs.Members.{has, size, with}
+use Rattle.hermes.specs.Order.{later}
+use Rattle.hermes.specs.Guards.{question1, question5, shapely}
+use Rattle.hermes.specs.Event.{Stored, kept, placed, Step, invStep, deliverStep, step, own}
+use Rattle.hermes.proofs.Tests.{both, is-false}
+use Rattle.hermes.proofs.Members.{Has, has-small, has-zero, with-members}
+use Rattle.hermes.proofs.Asked.{AllYes}
+
+-- question 5, as facts
+pub record SoundRecord (number : ℕ) (r : Record) : Type 0 where
+  pub short : r .len ≤ 192
+  pub tie : r .timestamp .tie ≤ 15
+  pub writtenTie : r .written .tie ≤ 15
+  pub writer : r .writer ≤ 15
+  pub notSelf : has (r .acks) number ≡ false
+
+pub five-facts : (me : Replica) (r : Record) → question5 me r .yes ≡ true → SoundRecord (me .number) r
+five-facts me r h =
+    let (p, e) = both (leb (r .len) 192 && leb (r .timestamp .tie) 15 && leb (r .written .tie) 15 && leb (r .writer) 15) (not (has (r .acks) (me .number))) h in
+    let (q, d) = both (leb (r .len) 192 && leb (r .timestamp .tie) 15 && leb (r .written .tie) 15) (leb (r .writer) 15) p in
+    let (s, c) = both (leb (r .len) 192 && leb (r .timestamp .tie) 15) (leb (r .written .tie) 15) q in
+    let (a, b) = both (leb (r .len) 192) (leb (r .timestamp .tie) 15) s in
+    record { short = leb-true _ _ a; tie = leb-true _ _ b; writtenTie = leb-true _ _ c; writer = leb-true _ _ d; notSelf = not-true _ e }
+
+pub facts-five : (me : Replica) (r : Record) → SoundRecord (me .number) r → question5 me r .yes ≡ true
+facts-five me r f = rw (le-leb (r .len) 192 (f .short), le-leb (r .timestamp .tie) 15 (f .tie), le-leb (r .written .tie) 15 (f .writtenTie), le-leb (r .writer) 15 (f .writer), f .notSelf)
+
+-- what a step stores fits in the record's 192 bytes
+abbrev pub Fits : Stored → Type 0
+Fits kept = Unit
+Fits (placed v) = length v ≤ 192
+
+pub record SoundStep (number : ℕ) (s : Step) : Type 0 where
+  pub after : SoundRecord number (s .after)
+  pub fits : Fits (s .stored)
+
+module _ (wins : ℕ → ℕ → Bool) (me : Replica) (i : ℕ) (r : Record) (small : me .number ≤ 15) (ok : SoundRecord (me .number) r) where
+  inv-sound : (t : Timestamp) (sender : ℕ) (v : List ℕ) → t .tie ≤ 15 → sender ≤ 15 → length v ≤ 192 → (g : Bool) → SoundStep (me .number) (invStep g me i r t sender v)
+  inv-sound t sender v a b c true = record { after = record { short = c; tie = a; writtenTie = ok .writtenTie; writer = b; notSelf = ok .notSelf }; fits = c }
+  inv-sound t sender v a b c false = record { after = ok; fits = tt }
+
+  deliver-sound : (sender : ℕ) (m : Message) (v : List ℕ) → has (me .view) sender ≡ true → eqb sender (me .number) ≡ false → shapely m (length v) ≡ true
+      → SoundStep (me .number) (deliverStep wins me i r sender m v)
+  deliver-sound sender (Inv t) v h d b =
+      let (p, q) = both (leb (t .tie) 15) (leb (length v) 192) b in
+      inv-sound t sender v (leb-true _ _ p) (omega (arith, has-small (me .view) sender h)) (leb-true _ _ q) (later wins t (r .timestamp))
+  deliver-sound sender (Ack t) v h d b = record {
+    after = record { short = ok .short; tie = ok .tie; writtenTie = ok .writtenTie; writer = ok .writer; notSelf = is-false _ (λ k. other (with-members (r .acks) sender (me .number) k)) };
+    fits = tt;
+  }
+    where
+      other : Has (r .acks) (me .number) ⊎ (me .number ≡ sender) → ⊥
+      other (inl k) = false≢true (sym (ok .notSelf) ∙ k)
+      other (inr e) = eqb-false sender (me .number) d (sym e)
+  deliver-sound sender (Val t) v h d b = record { after = record { short = ok .short; tie = ok .tie; writtenTie = ok .writtenTie; writer = ok .writer; notSelf = ok .notSelf }; fits = tt }
+
+  -- a step whose own questions all said yes
+  pub step-sound : (e : Event) (v : List ℕ) → AllYes (own me r e (length v)) → SoundStep (me .number) (step wins me i r e v)
+  step-sound Read v y = record { after = ok; fits = tt }
+  step-sound Write v y = record {
+    after = record { short = leb-true (length v) 192 (y .1 .0); tie = small; writtenTie = small; writer = small; notSelf = has-zero (me .number) };
+    fits = leb-true (length v) 192 (y .1 .0);
+  }
+  step-sound Replay v y = record { after = record { short = ok .short; tie = ok .tie; writtenTie = ok .tie; writer = small; notSelf = has-zero (me .number) }; fits = tt }
+  step-sound (Deliver m) v y =
+      let (p, q) = both (has (me .view) (m .sender)) (not (eqb (m .sender) (me .number))) (y .1 .0) in
+      deliver-sound (m .sender) (m .message) v p (not-true _ q) (y .1 .1 .0)
+  step-sound Validate v y = record { after = record { short = ok .short; tie = ok .tie; writtenTie = ok .writtenTie; writer = ok .writer; notSelf = ok .notSelf }; fits = tt }
+  step-sound Resend v y = record { after = ok; fits = tt }
