@@ -15,49 +15,24 @@ use Rattle.hermes.specs.declared.record.State.{State}
 use Rattle.hermes.specs.declared.record.State.the-variants.{Valid}
 use Rattle.hermes.specs.declared.event.Replica.{Replica}
 use Rattle.hermes.specs.declared.event.Event.the-variants.{Validate}
-use Rattle.hermes.specs.declared.event.Admission.{Admission}
-use Rattle.hermes.specs.declared.event.Admission.the-variants.{Admitted, Refused}
 use Rattle.hermes.specs.Members.{lowest}
 use Rattle.hermes.specs.Order.{TieOrder, higher, NotAfter}
 use Rattle.hermes.specs.Record.{oneOf, freshRecord, validated}
 use Rattle.hermes.specs.Store.{slot, padded}
-use Rattle.hermes.specs.Guards.{firstNo}
 use Rattle.hermes.specs.Event.{numberOf}
-use Rattle.hermes.specs.Node.{Node, Outcome, recordOf, apply, newcomer, startQuestions, Start, begin, start}
+use Rattle.hermes.specs.Node.{Node, Outcome, recordOf, apply, newcomer}
 use Rattle.hermes.specs.Run as run
 use Rattle.hermes.specs.Run.{Action, Entry, Group, Result, nodeAfter, logAfter, perform, result, advance, run}
 use Rattle.hermes.specs.Agreement.{FreshStart, Started, AsIssued, Entries, Sees, Shows, Alike, IsAccepted, Validation, validates, Agreement, Demand3By, Demand3}
 use Rattle.hermes.proofs.Members.{Has, has-zero}
 use Rattle.hermes.proofs.Order.{higher-order, notAfter-refl, notAfter-trans}
 use Rattle.hermes.proofs.Store.{zeros, slot-zero}
-use Rattle.hermes.proofs.Asked.{passed, sized}
+use Rattle.hermes.proofs.Asked.{sized}
+use Rattle.hermes.proofs.Start.{Begun, begun}
 use Rattle.hermes.proofs.Apply.{stepOf, done, Applied, refused, accepted, applied, inside, full}
 use Rattle.hermes.proofs.Protocol as protocol
 use Rattle.hermes.proofs.Protocol.{Copy, Msg, Move, Honest, Invariant, Step, preserve, rises}
 use Rattle.hermes.proofs.Refine.{Cell, clean-cell, setting, copy, copyOf, copy-here, stepped, Known, Refined, refined}
-
--- ---- the start
-
--- what an accepted fresh start left
-pub record Begun (k view : ℕ) (table : List Record) (store : List ℕ) (me : Replica) : Type 0 where
-  pub identity : me ≡ newcomer k view
-  pub tableAfter : start k view table store .table ≡ replicate (length table) (freshRecord (lowest view))
-  pub storeAfter : start k view table store .store ≡ zeros (length store)
-  pub full : length store ≡ 192 * length table
-
-pub begun : (k view : ℕ) (table : List Record) (store : List ℕ) (me : Replica) → start k view table store .admission ≡ Admitted me → Begun k view table store me
-unfolding start
-begun k view table store me a = go (firstNo (startQuestions (newcomer k view) (length table) (length store))) refl a
-  where
-    go : (z : ℕ) → firstNo (startQuestions (newcomer k view) (length table) (length store)) ≡ z → begin z (newcomer k view) table store .admission ≡ Admitted me
-        → Begun k view table store me
-    go zero e a = record {
-      identity = cc;
-      tableAfter = rw e;
-      storeAfter = rw e;
-      full = sized (length table) (length store) (passed (startQuestions (newcomer k view) (length table) (length store)) refl e .1 .0);
-    }
-    go (suc z) e a = let q : _≡_ {A = ℕ} 0 1 = cc in absurd (omega arith)
 
 -- ---- lists of entries
 
@@ -180,7 +155,7 @@ module _ (wins : ℕ → ℕ → Bool) (ord : TieOrder wins) (member : ℕ → B
             p = rw (f .tableAfter, b .tableAfter) (getD-replicate (length (f .table)) i _ _ (omega (arith, f .records)))
 
             q : slot i (g .at k .store) ≡ zeros 192
-            q = rw (f .storeAfter, b .storeAfter) (slot-zero i (length (f .store)) (omega (arith, f .records, b .full)))
+            q = rw (f .storeAfter, b .storeAfter) (slot-zero i (length (f .store)) (omega (arith, f .records, sized (length (f .table)) (length (f .store)) (b .asked .1 .0))))
 
     start-ok : Ok g
     unfolding absent padded

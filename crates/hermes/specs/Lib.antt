@@ -8,3 +8,4 @@ pub mod Event
 pub mod Node
 pub mod Run
 pub mod Agreement
+pub mod Reads

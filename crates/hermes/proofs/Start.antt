@@ -1,0 +1,55 @@
+-- What an accepted fresh start leaves.
+use Prim.Native.Nat.{ℕ, zero, suc, _+_, _*_, _≤_, _<_}
+use mathlib.Core.Path.{_≡_, refl, sym, _∙_}
+use mathlib.Core.Bool.{Bool, true, false, cond, false≢true}
+use mathlib.Core.List.{List}
+use native.Mathlib.Omega.{arith}
+use native.Mathlib.Decide.{ℕ-discrete}
+use lib.ListN.{length, replicate}
+use Rattle.hermes.specs.declared.record.Record.{Record}
+use Rattle.hermes.specs.declared.event.Replica.{Replica}
+use Rattle.hermes.specs.declared.event.Admission.the-variants.{Admitted, Refused}
+use Rattle.hermes.specs.Members.{has, lowest, lowestFrom}
+use Rattle.hermes.specs.Record.{freshRecord}
+use Rattle.hermes.specs.Guards.{firstNo, question1, question2, question3}
+use Rattle.hermes.specs.Node.{newcomer, startQuestions, begin, start}
+use Rattle.hermes.proofs.Members.{Has, has-small}
+use Rattle.hermes.proofs.Store.{zeros}
+use Rattle.hermes.proofs.Asked.{AllYes, passed, sized}
+
+pub record Begun (k view : ℕ) (table : List Record) (store : List ℕ) (me : Replica) : Type 0 where
+  pub identity : me ≡ newcomer k view
+  pub tableAfter : start k view table store .table ≡ replicate (length table) (freshRecord (lowest view))
+  pub storeAfter : start k view table store .store ≡ zeros (length store)
+  pub asked : AllYes (startQuestions (newcomer k view) (length table) (length store))
+
+pub begun : (k view : ℕ) (table : List Record) (store : List ℕ) (me : Replica) → start k view table store .admission ≡ Admitted me → Begun k view table store me
+unfolding start
+begun k view table store me a = go (firstNo (startQuestions (newcomer k view) (length table) (length store))) refl a
+  where
+    go : (z : ℕ) → firstNo (startQuestions (newcomer k view) (length table) (length store)) ≡ z → begin z (newcomer k view) table store .admission ≡ Admitted me
+        → Begun k view table store me
+    go zero e a = record {
+      identity = cc;
+      tableAfter = rw e;
+      storeAfter = rw e;
+      asked = passed (startQuestions (newcomer k view) (length table) (length store)) refl e;
+    }
+    go (suc z) e a = let q : _≡_ {A = ℕ} 0 1 = cc in absurd (omega arith)
+
+-- the lowest number of a view is at most any in it
+lowest-below : (f k s m : ℕ) → Has s m → k ≤ m → m < k + f → lowestFrom f k s ≤ m
+lowest-below zero k s m h l u = absurd (omega arith)
+lowest-below (suc f) k s m h l u = go (has s k) refl (λ (d : suc k ≤ m). lowest-below f (suc k) s m h d (omega arith))
+  where
+    go : (b : Bool) → has s k ≡ b → (suc k ≤ m → lowestFrom f (suc k) s ≤ m) → cond b k (lowestFrom f (suc k) s) ≤ m
+    go true e rest = l
+    go false e rest = rest (next (ℕ-discrete k m))
+      where
+        next : Dec (k ≡ m) → suc k ≤ m
+        next (yes q) = absurd (false≢true (sym (rw q at e) ∙ h))
+        next (no d) = omega arith
+
+pub lowest-small : (s m : ℕ) → Has s m → lowest s ≤ 15
+unfolding lowest
+lowest-small s m h = omega (arith, has-small s m h, lowest-below 16 0 s m h (omega arith) (omega (arith, has-small s m h)))
