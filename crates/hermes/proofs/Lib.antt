@@ -11,3 +11,4 @@ pub mod Start
 pub mod Refine
 pub mod Agreement
 pub mod Sound
+pub mod Premises

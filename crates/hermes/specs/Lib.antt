@@ -9,3 +9,4 @@ pub mod Node
 pub mod Run
 pub mod Agreement
 pub mod Reads
+pub mod Played
