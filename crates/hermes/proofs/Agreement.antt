@@ -29,7 +29,7 @@ use Rattle.hermes.proofs.Order.{higher-order, notAfter-refl, notAfter-t
 use Rattle.hermes.proofs.Store.{zeros, slot-zero}
 use Rattle.hermes.proofs.Asked.{sized}
 use Rattle.hermes.proofs.Start.{Begun, begun}
-use Rattle.hermes.proofs.Apply.{stepOf, done, Applied, refused, accepted, applied, inside, full}
+use Rattle.hermes.proofs.Apply.{stepOf, done, Applied, refused, accepted, applied}
 use Rattle.hermes.proofs.Protocol as protocol
 use Rattle.hermes.proofs.Protocol.{Copy, Msg, Move, Honest, Invariant, Step, preserve, rises}
 use Rattle.hermes.proofs.Refine.{Cell, clean-cell, setting, copy, copyOf, copy-here, stepped, Known, Refined, refined}
@@ -65,10 +65,10 @@ finishes wins i n = go (apply wins n i Validate []) (applied wins n i Validate [
   where
     go : (o : Outcome) → Applied wins n i Validate [] o → numberOf (o .answer) ≡ 0 → Finished i n (o .node)
     go o (refused k z q) e = absurd (omega (arith, ap (λ (x : Outcome). numberOf (x .answer)) q))
-    go o (accepted y q) e = rw q (record { valid = ap (λ (c : Copy Cell). c .valid) h; timestamp = ap (λ (c : Copy Cell). c .timestamp) h; view = refl })
+    go o (accepted y c q) e = rw q (record { valid = ap (λ (c : Copy Cell). c .valid) h; timestamp = ap (λ (c : Copy Cell). c .timestamp) h; view = refl })
       where
         h : copy i (done n i (stepOf wins n i Validate [])) ≡ stepped i n (stepOf wins n i Validate [])
-        h = copy-here i n (inside n i Validate [] y) (full n i Validate [] y) (stepOf wins n i Validate []) tt
+        h = copy-here i n (stepOf wins n i Validate []) c
 
 module _ (wins : ℕ → ℕ → Bool) (ord : TieOrder wins) (member : ℕ → Bool) (count : ℕ) (issued : ℕ → ℕ) where
   -- a number that no replica has stands as a fresh one that never moves

@@ -1,10 +1,11 @@
 -- What an event on a record comes to: refused, and nothing has changed; or every question said yes, and its step is done.
-use Prim.Native.Nat.{ℕ, zero, suc, _*_, _<_}
+use Prim.Native.Nat.{ℕ, zero, suc, _+_, _*_, _≤_, _<_}
 use mathlib.Core.Path.{_≡_, refl, ap}
 use mathlib.Core.Bool.{Bool}
 use mathlib.Core.List.{List}
-use lib.ListN.{length, set}
-use lib.Seq.{set-getD}
+use native.Mathlib.Omega.{arith}
+use lib.ListN.{length, set, take, drop, length-set}
+use lib.Seq.{set-getD, getD-set-same, getD-set-other}
 use lib.Dec.{leb}
 use borrow.Author.Tests.{ltb-true, leb-true}
 use Rattle.hermes.specs.declared.event.Event.{Event}
@@ -12,12 +13,15 @@ use Rattle.hermes.specs.declared.event.Answer.the-variants.{Accepted, Re
 use Rattle.hermes.specs.declared.record.Record.{Record}
 use Rattle.hermes.specs.Guards.{Question}
 use Rattle.hermes.specs.Record.{freshRecord}
-use Rattle.hermes.specs.Event.{Step, common, own, refusal, step, storing, decide, effect}
+use Rattle.hermes.specs.Event.{Stored, kept, placed, Step, common, own, refusal, step, storing, decide, effect}
 use Rattle.hermes.specs.Node.{Node, Outcome, recordOf, apply}
 use Rattle.hermes.specs.Members.{size}
+use Rattle.hermes.specs.Store.{slot}
+use Rattle.hermes.specs.Frame.{bytesAfter, Changed}
 use Rattle.hermes.proofs.Tests.{both}
 use Rattle.hermes.proofs.Asked.{AllYes, event-passed, sized}
-use Rattle.hermes.proofs.Steps.{SoundStep, five-facts, step-sound}
+use Rattle.hermes.proofs.Store.{slot-same, length-place, take-place, drop-place}
+use Rattle.hermes.proofs.Steps.{Fits, SoundStep, five-facts, step-sound}
 
 -- the number that an event on record i answers, its questions and its step
 abbrev pub refusalOf : Node → ℕ → Event → List ℕ → ℕ
@@ -36,28 +40,6 @@ stepOf wins n i e v = step wins (n .me) i (recordOf i n) e v
 abbrev pub done : Node → ℕ → Step → Node
 done n i s = record { me = n .me; table = set (n .table) i (s .after); store = storing i (s .stored) (n .store) }
 
-pub data Applied (wins : ℕ → ℕ → Bool) (n : Node) (i : ℕ) (e : Event) (v : List ℕ) (o : Outcome) : Type 0 where
-  refused : (k : ℕ) → refusalOf n i e v ≡ suc k → o ≡ record { answer = Refused (suc k); node = n } → Applied wins n i e v o
-  accepted : AllYes (questionsOf n i e v) → o ≡ record { answer = Accepted (stepOf wins n i e v .sent); node = done n i (stepOf wins n i e v) } → Applied wins n i e v o
-
-pub applied : (wins : ℕ → ℕ → Bool) (n : Node) (i : ℕ) (e : Event) (v : List ℕ) → Applied wins n i e v (apply wins n i e v)
-unfolding apply effect
-applied wins n i e v = go (refusalOf n i e v) refl
-  where
-    landed : ℕ → Outcome
-    landed k = record {
-      answer = decide k i (recordOf i n) (n .store) (stepOf wins n i e v) .moved .answer;
-      node = record {
-        me = n .me;
-        table = set (n .table) i (decide k i (recordOf i n) (n .store) (stepOf wins n i e v) .moved .after);
-        store = decide k i (recordOf i n) (n .store) (stepOf wins n i e v) .store;
-      };
-    }
-
-    go : (k : ℕ) → refusalOf n i e v ≡ k → Applied wins n i e v (landed (refusalOf n i e v))
-    go zero z = accepted (event-passed (n .me) (length (n .table)) (length (n .store)) i (recordOf i n) e (length v) z) (ap landed z)
-    go (suc k) z = refused k z (rw z (ap (λ (t : List Record). record { answer = Refused (suc k); node = record { me = n .me; table = t; store = n .store } }) (set-getD (n .table) i (freshRecord 0))))
-
 -- questions 2 and 4 of a passed event
 pub inside : (n : Node) (i : ℕ) (e : Event) (v : List ℕ) → AllYes (questionsOf n i e v) → i < length (n .table)
 inside n i e v y = ltb-true i (length (n .table)) (y .1 .1 .1 .0)
@@ -74,3 +56,71 @@ pub sound-step : (wins : ℕ → ℕ → Bool) (n : Node) (i : ℕ) (e : Event) 
 sound-step wins n i e v y =
     step-sound wins (n .me) i (recordOf i n) (leb-true (n .me .number) 15 (both (leb (n .me .number) 15) (leb 2 (size (n .me .view))) (y .0) .0))
     (five-facts (n .me) (recordOf i n) (y .1 .1 .1 .1 .0)) e v (its-own n i e v y)
+
+-- ---- the store
+
+module _ (i : ℕ) (s : List ℕ) (room : 192 * i + 192 ≤ length s) where
+  storing-slot : (b : Stored) → Fits b → slot i (storing i b s) ≡ bytesAfter b (slot i s)
+  storing-slot kept f = refl
+  storing-slot (placed v) f = slot-same i v s room f
+
+  storing-length : (b : Stored) → Fits b → length (storing i b s) ≡ length s
+  storing-length kept f = refl
+  storing-length (placed v) f = length-place i v s room f
+
+  storing-before : (b : Stored) → Fits b → take (192 * i) (storing i b s) ≡ take (192 * i) s
+  storing-before kept f = refl
+  storing-before (placed v) f = take-place i v s room f
+
+  storing-behind : (b : Stored) → Fits b → drop (192 * i + 192) (storing i b s) ≡ drop (192 * i + 192) s
+  storing-behind kept f = refl
+  storing-behind (placed v) f = drop-place i v s room f
+
+-- ---- an event
+
+-- the step is done on record i, and all else is as it was
+pub changed : (wins : ℕ → ℕ → Bool) (n : Node) (i : ℕ) (e : Event) (v : List ℕ) → AllYes (questionsOf n i e v)
+    → Changed i (stepOf wins n i e v) n (done n i (stepOf wins n i e v))
+changed wins n i e v y = record {
+  here = getD-set-same (n .table) i (s .after) (freshRecord 0) (inside n i e v y);
+  bytes = storing-slot i (n .store) room (s .stored) fits;
+  identity = refl;
+  count = length-set (n .table) i (s .after);
+  room = storing-length i (n .store) room (s .stored) fits;
+  others = λ j d. getD-set-other (n .table) i j (s .after) (freshRecord 0) d;
+  before = storing-before i (n .store) room (s .stored) fits;
+  behind = storing-behind i (n .store) room (s .stored) fits;
+}
+  where
+    s : Step
+    s = stepOf wins n i e v
+
+    fits : Fits (s .stored)
+    fits = sound-step wins n i e v y .fits
+
+    room : 192 * i + 192 ≤ length (n .store)
+    room = omega (arith, inside n i e v y, full n i e v y)
+
+pub data Applied (wins : ℕ → ℕ → Bool) (n : Node) (i : ℕ) (e : Event) (v : List ℕ) (o : Outcome) : Type 0 where
+  refused : (k : ℕ) → refusalOf n i e v ≡ suc k → o ≡ record { answer = Refused (suc k); node = n } → Applied wins n i e v o
+  accepted : AllYes (questionsOf n i e v) → Changed i (stepOf wins n i e v) n (done n i (stepOf wins n i e v))
+      → o ≡ record { answer = Accepted (stepOf wins n i e v .sent); node = done n i (stepOf wins n i e v) } → Applied wins n i e v o
+
+pub applied : (wins : ℕ → ℕ → Bool) (n : Node) (i : ℕ) (e : Event) (v : List ℕ) → Applied wins n i e v (apply wins n i e v)
+unfolding apply effect
+applied wins n i e v = go (refusalOf n i e v) refl
+  where
+    landed : ℕ → Outcome
+    landed k = record {
+      answer = decide k i (recordOf i n) (n .store) (stepOf wins n i e v) .moved .answer;
+      node = record {
+        me = n .me;
+        table = set (n .table) i (decide k i (recordOf i n) (n .store) (stepOf wins n i e v) .moved .after);
+        store = decide k i (recordOf i n) (n .store) (stepOf wins n i e v) .store;
+      };
+    }
+
+    go : (k : ℕ) → refusalOf n i e v ≡ k → Applied wins n i e v (landed (refusalOf n i e v))
+    go zero z = let y : AllYes (questionsOf n i e v) = event-passed (n .me) (length (n .table)) (length (n .store)) i (recordOf i n) e (length v) z in
+        accepted y (changed wins n i e v y) (ap landed z)
+    go (suc k) z = refused k z (rw z (ap (λ (t : List Record). record { answer = Refused (suc k); node = record { me = n .me; table = t; store = n .store } }) (set-getD (n .table) i (freshRecord 0))))

@@ -7,6 +7,7 @@ pub mod Protocol
 pub mod Asked
 pub mod Steps
 pub mod Apply
+pub mod Frame
 pub mod Start
 pub mod Refine
 pub mod Agreement

@@ -9,7 +9,6 @@ use native.Mathlib.Omega.{arith}
 use native.Mathlib.Decide.{ℕ-discrete}
 use lib.Dec.{ltb, leb, eqb}
 use lib.ListN.{length, take, getD, set}
-use lib.Seq.{getD-set-same, getD-set-other}
 use borrow.Author.Tests.{leb-true, eqb-true, ltb-true}
 use Rattle.hermes.specs.declared.timestamp.Timestamp.{Timestamp}
 use Rattle.hermes.specs.declared.record.Record.{Record}
@@ -32,14 +31,14 @@ use Rattle.hermes.specs.Event.{Step, Stored, kept, placed, storing, ofKi
 use Rattle.hermes.specs.Node.{Node, Outcome, recordOf, apply, view, viewed, viewQuestions, admissionOf, admissionNumber, identity}
 use Rattle.hermes.specs.Run as run
 use Rattle.hermes.specs.Run.{Logged, Action, Result, Found, find, received, delivery, perform, nodeAfter, logged, logAfter}
+use Rattle.hermes.specs.Frame.{bytesAfter, Changed}
 use Rattle.hermes.specs.Agreement.{AsIssued}
 use Rattle.hermes.proofs.Tests.{both}
 use Rattle.hermes.proofs.Members.{Has, within-members, others-members, has-zero, with-members}
 use Rattle.hermes.proofs.Order.{notAfter-refl, notAfter-total}
-use Rattle.hermes.proofs.Store.{take-padded, value-slot, slot-same, slot-other}
+use Rattle.hermes.proofs.Store.{take-padded, value-slot, slot-elsewhere}
 use Rattle.hermes.proofs.Asked.{AllYes, passed, acked-written, validated-timestamp}
 use Rattle.hermes.proofs.Apply.{stepOf, ownOf, done, Applied, refused, accepted, applied, inside, full, its-own, sound-step}
-use Rattle.hermes.proofs.Steps.{Fits, SoundStep}
 use Rattle.hermes.proofs.Protocol as protocol
 use Rattle.hermes.proofs.Protocol.{Setting, Copy, Msg, inv, ack, val, Move, stay, write, replay, rcvInv, rcvAck, rcvVal, sendVals, shrink, Honest}
 
@@ -90,28 +89,16 @@ Known i log p = (x : Logged) × List·Memᴰ x log × (x .header .index ≡ i) �
 
 -- ---- one record put back into its table and store
 
-abbrev pub bytesOf : Stored → List ℕ → List ℕ
-bytesOf kept b = b
-bytesOf (placed v) b = padded v
-
 -- the copy that a step makes of record j
 abbrev pub stepped : ℕ → Node → Step → Copy Cell
-stepped j n s = copyOf (n .me) (s .after) (bytesOf (s .stored) (slot j (n .store)))
+stepped j n s = copyOf (n .me) (s .after) (bytesAfter (s .stored) (slot j (n .store)))
 
-module _ (j : ℕ) (n : Node) (below : j < length (n .table)) (all : length (n .store) ≡ 192 * length (n .table)) where
-  slot-here : (b : Stored) → Fits b → slot j (storing j b (n .store)) ≡ bytesOf b (slot j (n .store))
-  slot-here kept f = refl
-  slot-here (placed v) f = slot-same j v (n .store) (omega arith) f
+module _ (j : ℕ) (n : Node) (s : Step) (c : Changed j s n (done n j s)) where
+  pub copy-here : copy j (done n j s) ≡ stepped j n s
+  copy-here = ap₂ (copyOf (n .me)) (c .here) (c .bytes)
 
-  slot-there : (b : Stored) → Fits b → (i : ℕ) → i ≢ j → slot i (storing j b (n .store)) ≡ slot i (n .store)
-  slot-there kept f i d = refl
-  slot-there (placed v) f i d = slot-other j v (n .store) (omega arith) f i d
-
-  pub copy-here : (s : Step) → Fits (s .stored) → copy j (done n j s) ≡ stepped j n s
-  copy-here s f = ap₂ (copyOf (n .me)) (getD-set-same (n .table) j (s .after) _ below) (slot-here (s .stored) f)
-
-  pub copy-there : (s : Step) → Fits (s .stored) → (i : ℕ) → i ≢ j → copy i (done n j s) ≡ copy i n
-  copy-there s f i d = ap₂ (copyOf (n .me)) (getD-set-other (n .table) j i (s .after) _ d) (slot-there (s .stored) f i d)
+  pub copy-there : 192 * j ≤ length (n .store) → (i : ℕ) → i ≢ j → copy i (done n j s) ≡ copy i n
+  copy-there h i d = ap₂ (copyOf (n .me)) (c .others i d) (slot-elsewhere j (done n j s .store) (n .store) (omega (arith, c .room)) h (c .before) (c .behind) i d)
 
 -- ---- what an entry is to a record
 
@@ -179,23 +166,17 @@ module _ (wins : ℕ → ℕ → Bool) (issued : ℕ → ℕ) where
 
       go : (o : Outcome) → Applied wins n j e v o → Refined log i n (run.event o)
       go o (refused k z q) = rw q (record { number = refl; moves = stay refl; left = λ p k. inl k })
-      go o (accepted y q) = rw q (record { number = refl; moves = move (ℕ-discrete i j); left = λ p k. joins i j log (done n j s) (s .sent) (rw here-record (sound .after .short)) (rw here (g .says)) p k })
+      go o (accepted y c q) = rw q (record { number = refl; moves = move (ℕ-discrete i j); left = λ p k. joins i j log (done n j s) (s .sent) (rw (c .here) (sound-step wins n j e v y .after .short)) (rw here (g .says)) p k })
         where
           g : Good log j n s
           g = good (its-own n j e v y)
 
-          sound : SoundStep (n .me .number) s
-          sound = sound-step wins n j e v y
-
-          here-record : recordOf j (done n j s) ≡ s .after
-          here-record = getD-set-same (n .table) j (s .after) _ (inside n j e v y)
-
           here : copy j (done n j s) ≡ stepped j n s
-          here = copy-here j n (inside n j e v y) (full n j e v y) s (sound .fits)
+          here = copy-here j n s c
 
           move : Dec (i ≡ j) → Move (setting wins issued) (n .me .number) (Known i log) (copy i n) (copy i (done n j s))
           move (yes d) = rw (d, here) (g .moves)
-          move (no d) = stay (copy-there j n (inside n j e v y) (full n j e v y) s (sound .fits) i d)
+          move (no d) = stay (copy-there j n s c (omega (arith, inside n j e v y, full n j e v y)) i d)
 
 -- ---- the events
 

@@ -8,8 +8,7 @@ use mathlib.Core.List.{List, [], _∷_}
 use native.Mathlib.Omega.{arith}
 use native.Mathlib.Decide.{ℕ-discrete}
 use lib.Dec.{ltb, leb, eqb}
-use lib.ListN.{length, replicate, set, length-set, length-replicate, getD-replicate}
-use lib.Seq.{getD-set-same, getD-set-other}
+use lib.ListN.{length, length-replicate, getD-replicate}
 use borrow.Author.Tests.{leb-true, le-leb, lt-ltb}
 use Rattle.hermes.specs.declared.record.State.{State}
 use Rattle.hermes.specs.declared.record.State.the-variants as state
@@ -20,7 +19,7 @@ use Rattle.hermes.specs.declared.event.Event.the-variants.{Read, Write, 
 use Rattle.hermes.specs.Members.{has, size, within, lowest}
 use Rattle.hermes.specs.Record.{oneOf, freshRecord}
 use Rattle.hermes.specs.Guards.{firstNo, question1, question2, question3, question5}
-use Rattle.hermes.specs.Event.{Stored, kept, placed, Step, refusal, storing, numberOf}
+use Rattle.hermes.specs.Event.{Step, refusal, numberOf}
 use Rattle.hermes.specs.Node.{Node, Outcome, recordOf, apply, newcomer, view, viewed, viewQuestions, admissionOf, admissionNumber, identity}
 use Rattle.hermes.specs.Run as run
 use Rattle.hermes.specs.Run.{Action, Entry, Group, Logged, Found, find, received, delivery, perform, nodeAfter, result, advance, run}
@@ -28,16 +27,12 @@ use Rattle.hermes.specs.Agreement.{FreshStart, Started, Entries, Sees, S
 use Rattle.hermes.specs.Reads.{Sound, StaySound, ReadsTell}
 use Rattle.hermes.proofs.Tests.{both}
 use Rattle.hermes.proofs.Members.{has-zero}
-use Rattle.hermes.proofs.Store.{zeros, length-place}
+use Rattle.hermes.proofs.Store.{zeros}
 use Rattle.hermes.proofs.Asked.{passed, all-passed}
-use Rattle.hermes.proofs.Steps.{Fits, SoundStep, facts-five}
-use Rattle.hermes.proofs.Apply.{questionsOf, refusalOf, stepOf, done, Applied, refused, accepted, applied, inside, full, its-own, sound-step}
+use Rattle.hermes.proofs.Steps.{facts-five}
+use Rattle.hermes.proofs.Apply.{questionsOf, refusalOf, stepOf, done, Applied, refused, accepted, applied, its-own, sound-step}
 use Rattle.hermes.proofs.Start.{Begun, begun, lowest-small}
 use Rattle.hermes.proofs.Agreement.{at-who, at-other}
-
-pub length-storing : (i : ℕ) (b : Stored) (s : List ℕ) → 192 * i + 192 ≤ length s → Fits b → length (storing i b s) ≡ length s
-length-storing i kept s h f = refl
-length-storing i (placed v) s h f = length-place i v s h f
 
 module _ (wins : ℕ → ℕ → Bool) (count k : ℕ) where
   -- ---- one entry
@@ -49,20 +44,17 @@ module _ (wins : ℕ → ℕ → Bool) (count k : ℕ) where
 
       go : (o : Outcome) → Applied wins n j e v o → Sound count k (o .node)
       go o (refused z y q) = rw q ok
-      go o (accepted y q) = rw q (record {
+      go o (accepted y c q) = rw q (record {
         number = ok .number;
-        records = length-set (n .table) j (s .after) ∙ ok .records;
+        records = c .count ∙ ok .records;
         first = ok .first;
-        second = rw (length-set (n .table) j (s .after), length-storing j (s .stored) (n .store) (omega (arith, inside n j e v y, full n j e v y)) (good .fits)) (ok .second);
+        second = rw (c .count, c .room) (ok .second);
         fifth = λ i h. fifth i h (ℕ-discrete i j);
       })
         where
-          good : SoundStep (n .me .number) s
-          good = sound-step wins n j e v y
-
           fifth : (i : ℕ) → i < count → Dec (i ≡ j) → question5 (n .me) (recordOf i (done n j s)) .yes ≡ true
-          fifth i h (yes d) = rw (d, getD-set-same (n .table) j (s .after) (freshRecord 0) (inside n j e v y)) (facts-five (n .me) (s .after) (good .after))
-          fifth i h (no d) = rw (getD-set-other (n .table) j i (s .after) (freshRecord 0) d) (ok .fifth i h)
+          fifth i h (yes d) = rw (d, c .here) (facts-five (n .me) (s .after) (sound-step wins n j e v y .after))
+          fifth i h (no d) = rw (c .others i d) (ok .fifth i h)
 
   viewed-sound : (n : Node) → Sound count k n → (epoch next : ℕ) → Sound count k (viewed n epoch next .node)
   unfolding viewed view
@@ -147,7 +139,7 @@ read-tells wins count k n ok i h v = go (apply wins n i Read []) (applied wins n
       where
         answers : Shows n i → refusalOf n i Read [] ≡ 0
         answers e = unfold refusal in all-passed (questionsOf n i Read []) (ok .first, (ok .second, (rw (ok .number) v, (lt-ltb i (length (n .table)) (omega (arith, ok .records)), (ok .fifth i h, (rw e, tt))))))
-    go o (accepted y q) = (λ e. ap (λ (x : Outcome). numberOf (x .answer)) q, λ e. is-valid (recordOf i n .state) (its-own n i Read [] y .0))
+    go o (accepted y c q) = (λ e. ap (λ (x : Outcome). numberOf (x .answer)) q, λ e. is-valid (recordOf i n .state) (its-own n i Read [] y .0))
 
 pub reads-tell : (wins : ℕ → ℕ → Bool) → ReadsTell wins
 reads-tell wins member count issued g s entries c i k h e = read-tells wins count k (after wins g entries k) (stay-sound wins member count issued g s entries c k e) i h

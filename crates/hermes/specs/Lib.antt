@@ -7,6 +7,8 @@ pub mod Guards
 pub mod Event
 pub mod Node
 pub mod Run
+pub mod Frame
+pub mod Locality
 pub mod Agreement
 pub mod Reads
 pub mod Played
