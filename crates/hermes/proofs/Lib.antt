@@ -8,6 +8,7 @@ pub mod Asked
 pub mod Steps
 pub mod Apply
 pub mod Frame
+pub mod Locality
 pub mod Start
 pub mod Refine
 pub mod Agreement

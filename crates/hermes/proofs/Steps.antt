@@ -10,15 +10,19 @@ use lib.ListN.{length}
 use borrow.Author.Tests.{leb-true, le-leb, eqb-false, not-true}
 use Rattle.hermes.specs.declared.timestamp.Timestamp.{Timestamp}
 use Rattle.hermes.specs.declared.record.Record.{Record}
+use Rattle.hermes.specs.declared.record.State.{State}
+use Rattle.hermes.specs.declared.record.State.the-variants as state
 use Rattle.hermes.specs.declared.message.Message.{Message}
 use Rattle.hermes.specs.declared.message.Message.the-variants.{Inv, Ack, Val}
+use Rattle.hermes.specs.declared.message.Outgoing.{Outgoing}
+use Rattle.hermes.specs.declared.message.Outgoing.the-variants.{None, Sent}
 use Rattle.hermes.specs.declared.event.Replica.{Replica}
 use Rattle.hermes.specs.declared.event.Event.{Event}
 use Rattle.hermes.specs.declared.event.Event.the-variants.{Read, Write, Replay, Deliver, Validate, Resend}
 use Rattle.hermes.specs.Members.{has, size, with}
 use Rattle.hermes.specs.Order.{later}
 use Rattle.hermes.specs.Guards.{question1, question5, shapely}
-use Rattle.hermes.specs.Event.{Stored, kept, placed, Step, invStep, deliverStep, step, own}
+use Rattle.hermes.specs.Event.{Stored, kept, placed, Step, invStep, deliverStep, resent, step, own}
 use Rattle.hermes.proofs.Tests.{both, is-false}
 use Rattle.hermes.proofs.Members.{Has, has-small, has-zero, with-members}
 use Rattle.hermes.proofs.Asked.{AllYes}
@@ -84,3 +88,33 @@ module _ (wins : ℕ → ℕ → Bool) (me : Replica) (i : ℕ) (r : Record) (sm
       deliver-sound (m .sender) (m .message) v p (not-true _ q) (y .1 .1 .0)
   step-sound Validate v y = record { after = record { short = ok .short; tie = ok .tie; writtenTie = ok .writtenTie; writer = ok .writer; notSelf = ok .notSelf }; fits = tt }
   step-sound Resend v y = record { after = ok; fits = tt }
+
+-- ---- a message that leaves a step on record i is about record i
+
+abbrev pub About : ℕ → Outgoing → Type 0
+About i None = Unit
+About i (Sent m h) = h .index ≡ i
+
+inv-about : (me : Replica) (i : ℕ) (r : Record) (t : Timestamp) (sender : ℕ) (v : List ℕ) (g : Bool) → About i (invStep g me i r t sender v .sent)
+inv-about me i r t sender v true = refl
+inv-about me i r t sender v false = refl
+
+deliver-about : (wins : ℕ → ℕ → Bool) (me : Replica) (i : ℕ) (r : Record) (sender : ℕ) (m : Message) (v : List ℕ) → About i (deliverStep wins me i r sender m v .sent)
+deliver-about wins me i r sender (Inv t) v = inv-about me i r t sender v (later wins t (r .timestamp))
+deliver-about wins me i r sender (Ack t) v = tt
+deliver-about wins me i r sender (Val t) v = tt
+
+resent-about : (me : Replica) (i : ℕ) (s : State) (t : Timestamp) → About i (resent me i s t)
+resent-about me i state.Valid t = refl
+resent-about me i state.Invalid t = tt
+resent-about me i state.InvalidWrite t = tt
+resent-about me i state.Write t = refl
+resent-about me i state.Replay t = refl
+
+pub step-about : (wins : ℕ → ℕ → Bool) (me : Replica) (i : ℕ) (r : Record) (e : Event) (v : List ℕ) → About i (step wins me i r e v .sent)
+step-about wins me i r Read v = tt
+step-about wins me i r Write v = refl
+step-about wins me i r Replay v = refl
+step-about wins me i r (Deliver m) v = deliver-about wins me i r (m .sender) (m .message) v
+step-about wins me i r Validate v = refl
+step-about wins me i r Resend v = resent-about me i (r .state) (r .timestamp)
