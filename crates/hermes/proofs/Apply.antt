@@ -19,7 +19,8 @@ use Rattle.hermes.specs.Members.{size}
 use Rattle.hermes.specs.Store.{slot}
 use Rattle.hermes.specs.Frame.{bytesAfter, Changed}
 use Rattle.hermes.proofs.Tests.{both}
-use Rattle.hermes.proofs.Asked.{AllYes, event-passed, sized}
+use Rattle.hermes.specs.Conformance.{AllYes}
+use Rattle.hermes.proofs.Asked.{event-passed, sized}
 use Rattle.hermes.proofs.Store.{slot-same, length-place, take-place, drop-place}
 use Rattle.hermes.proofs.Steps.{Fits, SoundStep, five-facts, step-sound}
 

@@ -18,13 +18,10 @@ use Rattle.hermes.specs.Members.{has}
 use Rattle.hermes.specs.Order.{sameTimestamp}
 use Rattle.hermes.specs.Record.{oneOf}
 use Rattle.hermes.specs.Guards.{Question, firstNo, question2, question13, question14}
+use Rattle.hermes.specs.Conformance.{AllYes}
 use Rattle.hermes.specs.Event.{common, ofKind, own, refusal}
 use Rattle.hermes.proofs.Tests.{both}
 use Rattle.hermes.proofs.Order.{same-equal}
-
-abbrev pub AllYes : List Question → Type 0
-AllYes [] = Unit
-AllYes (q ∷ qs) = (q .yes ≡ true) × AllYes qs
 
 -- no question has number 0
 abbrev pub positive : List Question → Bool

@@ -7,6 +7,7 @@ pub mod Protocol
 pub mod Asked
 pub mod Steps
 pub mod Apply
+pub mod Words
 pub mod Frame
 pub mod Locality
 pub mod Start

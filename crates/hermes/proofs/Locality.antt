@@ -18,7 +18,8 @@ use Rattle.hermes.specs.Node.{Node, Outcome, recordOf, apply, read}
 use Rattle.hermes.specs.Frame.{bytesAfter, Changed}
 use Rattle.hermes.specs.Locality.{EqualAt, AnswersAlike, Locality, ReadLocality}
 use Rattle.hermes.proofs.Store.{value-slot}
-use Rattle.hermes.proofs.Asked.{AllYes, all-passed, event-passed}
+use Rattle.hermes.specs.Conformance.{AllYes}
+use Rattle.hermes.proofs.Asked.{all-passed, event-passed}
 use Rattle.hermes.proofs.Steps.{SoundRecord, five-facts, About, step-about}
 use Rattle.hermes.proofs.Apply.{refusalOf, questionsOf, stepOf, done, Applied, refused, accepted, applied, sound-step}
 

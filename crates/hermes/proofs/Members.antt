@@ -185,6 +185,10 @@ with-members s n m h = go (either (has s m) (eqb m n && ltb n 16) (sym (has-with
     go (inl k) = inl k
     go (inr e) = inr (eqb-true m n (both (eqb m n) (ltb n 16) e .0))
 
+pub members-with : (s n m : ℕ) → n < 16 → Has s m ⊎ (m ≡ n) → Has (with s n) m
+members-with s n m l (inl k) = rw (has-with s n m, k)
+members-with s n m l (inr e) = rw (has-with s n m, eq-eqb m n e, lt-ltb n 16 l) (or-true (has s m))
+
 pub has-without : (s n m : ℕ) → has (without s n) m ≡ (has s m && not (eqb m n))
 has-without s n m = go (decLt n 16) (decLt m 16) (ℕ-discrete m n)
   where

@@ -37,7 +37,8 @@ use Rattle.hermes.proofs.Tests.{both}
 use Rattle.hermes.proofs.Members.{Has, within-members, others-members, has-zero, with-members}
 use Rattle.hermes.proofs.Order.{notAfter-refl, notAfter-total}
 use Rattle.hermes.proofs.Store.{take-padded, value-slot, slot-elsewhere}
-use Rattle.hermes.proofs.Asked.{AllYes, passed, acked-written, validated-timestamp}
+use Rattle.hermes.specs.Conformance.{AllYes}
+use Rattle.hermes.proofs.Asked.{passed, acked-written, validated-timestamp}
 use Rattle.hermes.proofs.Apply.{stepOf, ownOf, done, Applied, refused, accepted, applied, inside, full, its-own, sound-step}
 use Rattle.hermes.proofs.Protocol as protocol
 use Rattle.hermes.proofs.Protocol.{Setting, Copy, Msg, inv, ack, val, Move, stay, write, replay, rcvInv, rcvAck, rcvVal, sendVals, shrink, Honest}

@@ -15,7 +15,8 @@ use Rattle.hermes.specs.Guards.{firstNo, question1, question2, question3
 use Rattle.hermes.specs.Node.{newcomer, startQuestions, begin, start}
 use Rattle.hermes.proofs.Members.{Has, has-small}
 use Rattle.hermes.proofs.Store.{zeros}
-use Rattle.hermes.proofs.Asked.{AllYes, passed, sized}
+use Rattle.hermes.specs.Conformance.{AllYes}
+use Rattle.hermes.proofs.Asked.{passed, sized}
 
 pub record Begun (k view : ℕ) (table : List Record) (store : List ℕ) (me : Replica) : Type 0 where
   pub identity : me ≡ newcomer k view

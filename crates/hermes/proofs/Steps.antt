@@ -25,7 +25,7 @@ use Rattle.hermes.specs.Guards.{question1, question5, shapely}
 use Rattle.hermes.specs.Event.{Stored, kept, placed, Step, invStep, deliverStep, resent, step, own}
 use Rattle.hermes.proofs.Tests.{both, is-false}
 use Rattle.hermes.proofs.Members.{Has, has-small, has-zero, with-members}
-use Rattle.hermes.proofs.Asked.{AllYes}
+use Rattle.hermes.specs.Conformance.{AllYes}
 
 -- question 5, as facts
 pub record SoundRecord (number : ℕ) (r : Record) : Type 0 where

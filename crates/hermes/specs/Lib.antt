@@ -9,6 +9,8 @@ pub mod Node
 pub mod Run
 pub mod Frame
 pub mod Locality
+pub mod Source
+pub mod Conformance
 pub mod Agreement
 pub mod Reads
 pub mod Played
