@@ -15,3 +15,4 @@ pub mod Refine
 pub mod Agreement
 pub mod Sound
 pub mod Premises
+pub mod Conformance

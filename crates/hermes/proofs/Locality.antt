@@ -24,11 +24,11 @@ use Rattle.hermes.proofs.Steps.{SoundRecord, five-facts, About, step-ab
 use Rattle.hermes.proofs.Apply.{refusalOf, questionsOf, stepOf, done, Applied, refused, accepted, applied, sound-step}
 
 -- the bytes that leave, taken from the record's 192
-abbrev leavingSlot : Outgoing → Record → List ℕ → List ℕ
+abbrev pub leavingSlot : Outgoing → Record → List ℕ → List ℕ
 leavingSlot None r b = []
 leavingSlot (Sent m h) r b = bodyOf m (take (r .len) b)
 
-leaving-slot : (i : ℕ) (o : Outgoing) → About i o → (r : Record) (s : List ℕ) → r .len ≤ 192 → leavingBody o r s ≡ leavingSlot o r (slot i s)
+pub leaving-slot : (i : ℕ) (o : Outgoing) → About i o → (r : Record) (s : List ℕ) → r .len ≤ 192 → leavingBody o r s ≡ leavingSlot o r (slot i s)
 leaving-slot i None a r s h = refl
 leaving-slot i (Sent m d) a r s h = ap (bodyOf m) (ap (λ (j : ℕ). valueAt j (r .len) s) a ∙ value-slot i (r .len) s h)
 
@@ -49,7 +49,7 @@ module _ (wins : ℕ → ℕ → Bool) (i : ℕ) (n m : Node) (q : EqualAt i n m
     bytes = c .bytes ∙ (λ t. bytesAfter (same-step t .stored) (q .bytes t)) ∙ sym (d .bytes);
   }
 
-passed-zero : (n : Node) (i : ℕ) (e : Event) (v : List ℕ) → AllYes (questionsOf n i e v) → refusalOf n i e v ≡ 0
+pub passed-zero : (n : Node) (i : ℕ) (e : Event) (v : List ℕ) → AllYes (questionsOf n i e v) → refusalOf n i e v ≡ 0
 unfolding refusal
 passed-zero n i e v y = all-passed (questionsOf n i e v) y
 

@@ -11,6 +11,7 @@ use Rattle.hermes.specs.declared.event.Replica.{Replica}
 use Rattle.hermes.specs.declared.event.Admission.the-variants.{Admitted, Refused}
 use Rattle.hermes.specs.Members.{has, lowest, lowestFrom}
 use Rattle.hermes.specs.Record.{freshRecord}
+use Rattle.hermes.specs.Source.{Lowest}
 use Rattle.hermes.specs.Guards.{firstNo, question1, question2, question3}
 use Rattle.hermes.specs.Node.{newcomer, startQuestions, begin, start}
 use Rattle.hermes.proofs.Members.{Has, has-small}
@@ -38,7 +39,7 @@ begun k view table store me a = go (firstNo (startQuestions (newcomer k view) (l
     }
     go (suc z) e a = let q : _≡_ {A = ℕ} 0 1 = cc in absurd (omega arith)
 
--- the lowest number of a view is at most any in it
+-- the lowest number of a view is at most any in it, and is in it
 lowest-below : (f k s m : ℕ) → Has s m → k ≤ m → m < k + f → lowestFrom f k s ≤ m
 lowest-below zero k s m h l u = absurd (omega arith)
 lowest-below (suc f) k s m h l u = go (has s k) refl (λ (d : suc k ≤ m). lowest-below f (suc k) s m h d (omega arith))
@@ -54,3 +55,22 @@ lowest-below (suc f) k s m h l u = go (has s k) refl (λ (d : suc k ≤ m). lowe
 pub lowest-small : (s m : ℕ) → Has s m → lowest s ≤ 15
 unfolding lowest
 lowest-small s m h = omega (arith, has-small s m h, lowest-below 16 0 s m h (omega arith) (omega (arith, has-small s m h)))
+
+lowest-in : (f k s m : ℕ) → Has s m → k ≤ m → m < k + f → Has s (lowestFrom f k s)
+lowest-in zero k s m h l u = absurd (omega arith)
+lowest-in (suc f) k s m h l u = go (has s k) refl (λ (d : suc k ≤ m). lowest-in f (suc k) s m h d (omega arith))
+  where
+    go : (b : Bool) → has s k ≡ b → (suc k ≤ m → Has s (lowestFrom f (suc k) s)) → Has s (cond b k (lowestFrom f (suc k) s))
+    go true e rest = e
+    go false e rest = rest (next (ℕ-discrete k m))
+      where
+        next : Dec (k ≡ m) → suc k ≤ m
+        next (yes q) = absurd (false≢true (sym (rw q at e) ∙ h))
+        next (no d) = omega arith
+
+pub lowest-lowest : (s m : ℕ) → Has s m → Lowest s (lowest s)
+unfolding lowest
+lowest-lowest s m h = record {
+  member = lowest-in 16 0 s m h (omega arith) (omega (arith, has-small s m h));
+  least = λ k g. lowest-below 16 0 s k g (omega arith) (omega (arith, has-small s k g));
+}

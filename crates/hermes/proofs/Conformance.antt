@@ -1,0 +1,212 @@
+-- Demand 2: every event is the source's action. The idea: its questions are document 01's own and the action's guard, one by one; and its
+-- step, read as the source's variables, is the action's effect.
+use Prim.Native.Nat.{ℕ, zero, suc, _+_, _≤_, _<_}
+use mathlib.Core.Path.{_≡_, refl, sym, ap, subst₃, _∙_}
+use mathlib.Core.Bool.{Bool, true, false, not, _&&_, _||_, false≢true}
+use mathlib.Core.Logic.{_⊎_, inl, inr, _≢_, _↔_}
+use mathlib.Core.List.{List, [], _∷_}
+use native.Mathlib.Omega.{arith}
+use native.Mathlib.Decide.{ℕ-discrete}
+use lib.Dec.{ltb, leb, eqb}
+use lib.ListN.{length, take, replicate, getD-replicate}
+use borrow.Author.Tests.{ltb-true, eqb-true, eqb-false, lt-ltb, eq-eqb, ne-eqb, not-true}
+use Rattle.hermes.specs.declared.timestamp.Timestamp.{Timestamp}
+use Rattle.hermes.specs.declared.record.Record.{Record}
+use Rattle.hermes.specs.declared.record.State.{State}
+use Rattle.hermes.specs.declared.record.State.the-variants as state
+use Rattle.hermes.specs.declared.message.Message.{Message}
+use Rattle.hermes.specs.declared.message.Message.the-variants.{Inv, Ack, Val}
+use Rattle.hermes.specs.declared.message.Outgoing.{Outgoing}
+use Rattle.hermes.specs.declared.message.Outgoing.the-variants.{None, Sent}
+use Rattle.hermes.specs.declared.event.Replica.{Replica}
+use Rattle.hermes.specs.declared.event.Event.{Event}
+use Rattle.hermes.specs.declared.event.Event.the-variants.{Read, Write, Replay, Deliver, Validate, Resend}
+use Rattle.hermes.specs.declared.event.Admission.the-variants.{Admitted}
+use Rattle.hermes.specs.Members.{has, size, within, othersIn, with, lowest}
+use Rattle.hermes.specs.Order.{higher, later, sameTimestamp}
+use Rattle.hermes.specs.Record.{oneOf, invalidatedState, freshRecord}
+use Rattle.hermes.specs.Store.{slot, valueAt}
+use Rattle.hermes.specs.Guards.{Question, firstNo, question8, question10, question11, question12, question13, question14, question15, question16, question17, question19}
+use Rattle.hermes.specs.Event.{Step, invStep, resent, numberOf, answerOf, sentBy, leavingBody}
+use Rattle.hermes.specs.Node.{Node, Outcome, recordOf, apply, newcomer, startQuestions, begin, start, view, viewed, viewQuestions, admissionOf, admissionNumber}
+use Rattle.hermes.specs.Frame.{bytesAfter, Changed}
+use Rattle.hermes.specs.Locality.{body}
+use Rattle.hermes.specs.Source as source
+use Rattle.hermes.specs.Source.{Vars, Sending, In, InvTaken, HInit, HReadGuard, HWriteGuard, HReplayWriteGuard, HRcvInvGuard, HRcvInv, HRcvAckGuard, HRcvValGuard, HSendValsGuard, receivedAllAcks, NodeFailureGuard, ResendGuard, Resent, greaterTS, sendInv, sendVal}
+use Rattle.hermes.specs.Conformance.{AllYes, varsOf, fiveAnd, delivered, message, Follows, ViewFollows, StartFollows, Demand2By, Demand2}
+use Rattle.hermes.proofs.Tests.{both, either, is-false, or-true}
+use Rattle.hermes.proofs.Members.{Has, has-small, has-zero, within-members, members-within, others-members, members-others, with-members, members-with}
+use Rattle.hermes.proofs.Store.{value-slot, take-padded}
+use Rattle.hermes.proofs.Asked.{passed, all-passed}
+use Rattle.hermes.proofs.Steps.{five-facts, step-about}
+use Rattle.hermes.proofs.Apply.{refusalOf, questionsOf, ownOf, stepOf, done, Applied, refused, accepted, applied, its-own, sound-step}
+use Rattle.hermes.proofs.Words.{one-in, in-one, is-state, state-is, same-ts, ts-same, later-greater, greater-later, Two, size-two, two-size}
+use Rattle.hermes.proofs.Locality.{leavingSlot, leaving-slot, passed-zero}
+use Rattle.hermes.proofs.Frame.{view-frame}
+use Rattle.hermes.proofs.Start.{Begun, begun, lowest-lowest}
+
+-- ---- an event of a replica, as the source sees it
+
+-- the source's variables of a record with its 192 bytes
+abbrev seen : Record → List ℕ → Vars
+seen r b = record { nodeTS = r .timestamp; nodeState = r .state; nodeRcvdAcks = r .acks; nodeLastWriter = r .writer; nodeLastWriteTS = r .written; value = take (r .len) b }
+
+vars-seen : (i : ℕ) (n : Node) → recordOf i n .len ≤ 192 → varsOf i n ≡ seen (recordOf i n) (slot i (n .store))
+vars-seen i n h = λ t. record {
+  nodeTS = recordOf i n .timestamp;
+  nodeState = recordOf i n .state;
+  nodeRcvdAcks = recordOf i n .acks;
+  nodeLastWriter = recordOf i n .writer;
+  nodeLastWriteTS = recordOf i n .written;
+  value = value-slot i (recordOf i n .len) (n .store) h t;
+}
+
+-- what a step that found these 192 bytes makes of them, and what it sends
+abbrev stepVars : Step → List ℕ → Vars
+stepVars s b = seen (s .after) (bytesAfter (s .stored) b)
+
+abbrev stepSends : Step → List ℕ → Sending
+stepSends s b = record { message = s .sent; body = leavingSlot (s .sent) (s .after) (bytesAfter (s .stored) b) }
+
+module _ (wins : ℕ → ℕ → Bool) (n : Node) (i : ℕ) (e : Event) (v : List ℕ) where
+  abbrev s : Step
+  s = stepOf wins n i e v
+
+  -- the step as the source sees it is what the event left
+  acted : (action : Vars → Vars → Sending → Type 0) → AllYes (questionsOf n i e v) → Changed i s n (done n i s)
+      → action (seen (recordOf i n) (slot i (n .store))) (stepVars s (slot i (n .store))) (stepSends s (slot i (n .store)))
+      → action (varsOf i n) (varsOf i (done n i s)) (record { message = s .sent; body = leavingBody (s .sent) (recordOf i (done n i s)) (done n i s .store) })
+  acted action y c h = subst₃ action (sym (vars-seen i n short)) (sym after) (sym sent) h
+    where
+      short : recordOf i n .len ≤ 192
+      short = five-facts (n .me) (recordOf i n) (y .1 .1 .1 .1 .0) .short
+
+      short′ : recordOf i (done n i s) .len ≤ 192
+      short′ = rw (c .here) (sound-step wins n i e v y .after .short)
+
+      after : varsOf i (done n i s) ≡ stepVars s (slot i (n .store))
+      after = vars-seen i (done n i s) short′ ∙ (λ t. seen (c .here t) (c .bytes t))
+
+      sent : record { message = s .sent; body = leavingBody (s .sent) (recordOf i (done n i s)) (done n i s .store) } ≡ stepSends s (slot i (n .store))
+      sent = (λ t. record { message = s .sent; body = leaving-slot i (s .sent) (step-about wins (n .me) i (recordOf i n) e v) (recordOf i (done n i s)) (done n i s .store) short′ t })
+          ∙ (λ t. record { message = s .sent; body = leavingSlot (s .sent) (c .here t) (c .bytes t) })
+
+  follows : (own : List Question) (guard : Vars → Type 0) (action : Vars → Vars → Sending → Type 0)
+      → (AllYes (questionsOf n i e v) → AllYes own × guard (varsOf i n)) → (AllYes own × guard (varsOf i n) → AllYes (questionsOf n i e v))
+      → (AllYes (questionsOf n i e v) → action (seen (recordOf i n) (slot i (n .store))) (stepVars s (slot i (n .store))) (stepSends s (slot i (n .store))))
+      → Follows wins n i e v own guard action
+  follows own guard action to from act = record { accepted = exactly (apply wins n i e v) (applied wins n i e v); does = does (apply wins n i e v) (applied wins n i e v); refused = stays (apply wins n i e v) (applied wins n i e v) }
+    where
+      number : Outcome → ℕ
+      number o = numberOf (o .answer)
+
+      exactly : (o : Outcome) → Applied wins n i e v o → (numberOf (o .answer) ≡ 0) ↔ (AllYes own × guard (varsOf i n))
+      exactly o (refused k z q) = (λ a. absurd (omega (arith, ap number q)), λ g. absurd (omega (arith, z, passed-zero n i e v (from g))))
+      exactly o (accepted y c q) = (λ a. to y, λ g. ap number q)
+
+      does : (o : Outcome) → Applied wins n i e v o → numberOf (o .answer) ≡ 0 → action (varsOf i n) (varsOf i (o .node)) (record { message = sentBy (o .answer); body = body i o })
+      does o (refused k z q) a = absurd (omega (arith, ap number q))
+      does o (accepted y c q) a = rw q (acted action y c (act y))
+
+      stays : (o : Outcome) → Applied wins n i e v o → (numberOf (o .answer) ≡ 0 → ⊥) → (o .node ≡ n) × (sentBy (o .answer) ≡ None)
+      stays o (refused k z q) a = (ap (λ (x : Outcome). x .node) q, ap (λ (x : Outcome). sentBy (x .answer)) q)
+      stays o (accepted y c q) a = absurd (a (ap number q))
+
+  -- questions 1 to 5, with others, of a passed event; and back
+  five : (more : List Question) → AllYes (questionsOf n i e v) → AllYes more → AllYes (fiveAnd n i more)
+  five more y m = (y .0, (y .1 .0, (y .1 .1 .0, (y .1 .1 .1 .0, (y .1 .1 .1 .1 .0, m)))))
+
+  back : (more : List Question) → AllYes (fiveAnd n i more) → AllYes (ownOf n i e v) → AllYes (questionsOf n i e v)
+  back more f m = (f .0, (f .1 .0, (f .1 .1 .0, (f .1 .1 .1 .0, (f .1 .1 .1 .1 .0, m)))))
+
+-- ---- the actions
+
+and-yes : (a b : Bool) → a ≡ true → b ≡ true → (a && b) ≡ true
+and-yes a b p q = rw (p, q)
+
+follower : (s : State) → In s (state.Valid ∷ state.Invalid ∷ state.Replay ∷ []) → invalidatedState s ≡ state.Invalid
+follower s (inl e) = rw e
+follower s (inr (inl e)) = rw e
+follower s (inr (inr (inl e))) = rw e
+follower s (inr (inr (inr e))) = absurd e
+
+coordinator : (s : State) → In s (state.Write ∷ state.InvalidWrite ∷ []) → invalidatedState s ≡ state.InvalidWrite
+coordinator s (inl e) = rw e
+coordinator s (inr (inl e)) = rw e
+coordinator s (inr (inr e)) = absurd e
+
+module _ (wins : ℕ → ℕ → Bool) (n : Node) (i : ℕ) (v : List ℕ) where
+  follows-read : Follows wins n i Read v (fiveAnd n i []) HReadGuard source.HRead
+  follows-read = follows wins n i Read v (fiveAnd n i []) HReadGuard source.HRead
+      (λ y. (five wins n i Read v [] y tt, is-state (recordOf i n .state) state.Valid (its-own n i Read v y .0)))
+      (λ g. back wins n i Read v [] (g .0) (state-is (recordOf i n .state) state.Valid (g .1), tt))
+      (λ y. record { unchanged = refl; send = refl })
+
+  follows-write : Follows wins n i Write v (fiveAnd n i (question8 (length v) ∷ [])) HWriteGuard (source.HWrite (n .me) i v)
+  follows-write = follows wins n i Write v (fiveAnd n i (question8 (length v) ∷ [])) HWriteGuard (source.HWrite (n .me) i v)
+      (λ y. let o = its-own n i Write v y in
+      (five wins n i Write v (question8 (length v) ∷ []) y (o .1 .0, tt), (one-in (recordOf i n .state) (state.Valid ∷ state.Invalid ∷ []) (o .0), ltb-true (recordOf i n .timestamp .version) 4294967295 (o .1 .1 .0))))
+      (λ g. back wins n i Write v (question8 (length v) ∷ []) (g .0)
+      (in-one (recordOf i n .state) (state.Valid ∷ state.Invalid ∷ []) (g .1 .0), (g .0 .1 .1 .1 .1 .1 .0, (lt-ltb (recordOf i n .timestamp .version) 4294967295 (g .1 .1), tt))))
+      (λ y. record {
+        nodeRcvdAcks = has-zero;
+        nodeLastWriter = refl;
+        nodeState = refl;
+        nodeTS = rw (its-own n i Write v y .1 .1 .0);
+        nodeLastWriteTS = rw (its-own n i Write v y .1 .1 .0);
+        value = take-padded v;
+        send = refl;
+      })
+
+  follows-replay : Follows wins n i Replay v (fiveAnd n i []) (HReplayWriteGuard (n .me)) (source.HReplayWrite (n .me) i)
+  follows-replay = follows wins n i Replay v (fiveAnd n i []) (HReplayWriteGuard (n .me)) (source.HReplayWrite (n .me) i)
+      (λ y. let (p, q) = both (oneOf (recordOf i n .state) (state.Invalid ∷ [])) (not (has (n .me .view) (recordOf i n .writer))) (its-own n i Replay v y .0) in
+      (five wins n i Replay v [] y tt, (is-state (recordOf i n .state) state.Invalid p, λ h. false≢true (sym (not-true _ q) ∙ h))))
+      (λ g. back wins n i Replay v [] (g .0) (and-yes _ _ (state-is (recordOf i n .state) state.Invalid (g .1 .0)) (ap not (is-false (has (n .me .view) (recordOf i n .writer)) (g .1 .1))), tt))
+      (λ y. record { nodeLastWriter = refl; nodeState = refl; nodeRcvdAcks = has-zero; nodeLastWriteTS = refl; nodeTS = refl; value = refl; send = refl })
+
+  follows-validate : Follows wins n i Validate v (fiveAnd n i []) (HSendValsGuard (n .me)) (source.HSendVals (n .me) i)
+  follows-validate = follows wins n i Validate v (fiveAnd n i []) (HSendValsGuard (n .me)) (source.HSendVals (n .me) i)
+      (λ y. let (p, q) = both (oneOf (recordOf i n .state) (state.Write ∷ state.Replay ∷ [])) (othersIn (n .me .number) (n .me .view) (recordOf i n .acks)) (its-own n i Validate v y .0) in
+      (five wins n i Validate v [] y tt, (one-in (recordOf i n .state) (state.Write ∷ state.Replay ∷ []) p, λ k a d. other k d (others-members (n .me .number) (n .me .view) (recordOf i n .acks) q k a))))
+      (λ g. back wins n i Validate v [] (g .0)
+      (and-yes _ _ (in-one (recordOf i n .state) (state.Write ∷ state.Replay ∷ []) (g .1 .0)) (members-others (n .me .number) (n .me .view) (recordOf i n .acks) (λ k a. which k (g .1 .1 k a) (ℕ-discrete k (n .me .number)))), tt))
+      (λ y. record { valid = record { nodeState = refl; nodeTS = refl; nodeLastWriter = refl; nodeLastWriteTS = refl; nodeRcvdAcks = refl; value = refl }; send = refl })
+    where
+      other : (k : ℕ) → k ≢ n .me .number → (k ≡ n .me .number) ⊎ Has (recordOf i n .acks) k → Has (recordOf i n .acks) k
+      other k d (inl e) = absurd (d e)
+      other k d (inr h) = h
+
+      which : (k : ℕ) → (k ≢ n .me .number → Has (recordOf i n .acks) k) → Dec (k ≡ n .me .number) → (k ≡ n .me .number) ⊎ Has (recordOf i n .acks) k
+      which k f (yes e) = inl e
+      which k f (no d) = inr (f d)
+
+  follows-resend : Follows wins n i Resend v (fiveAnd n i []) (ResendGuard (n .me)) (Resent (n .me) i)
+  follows-resend = follows wins n i Resend v (fiveAnd n i []) (ResendGuard (n .me)) (Resent (n .me) i)
+      (λ y. (five wins n i Resend v [] y tt, to (either writes holds (its-own n i Resend v y .0))))
+      (λ g. back wins n i Resend v [] (g .0) (from (g .1), tt))
+      (λ y. record { unchanged = refl; writing = writing; settled = λ e. ap sends e })
+    where
+      writes : Bool
+      writes = oneOf (recordOf i n .state) (state.Write ∷ state.Replay ∷ [])
+
+      holds : Bool
+      holds = oneOf (recordOf i n .state) (state.Valid ∷ []) && eqb (recordOf i n .writer) (n .me .number)
+
+      to : (writes ≡ true) ⊎ (holds ≡ true) → ResendGuard (n .me) (varsOf i n)
+      to (inl h) = inl (one-in (recordOf i n .state) (state.Write ∷ state.Replay ∷ []) h)
+      to (inr h) =
+          let (p, q) = both (oneOf (recordOf i n .state) (state.Valid ∷ [])) (eqb (recordOf i n .writer) (n .me .number)) h in
+          inr (is-state (recordOf i n .state) state.Valid p, eqb-true _ _ q)
+
+      from : ResendGuard (n .me) (varsOf i n) → (writes || holds) ≡ true
+      from (inl h) = rw (in-one (recordOf i n .state) (state.Write ∷ state.Replay ∷ []) h)
+      from (inr (p, q)) = rw (state-is (recordOf i n .state) state.Valid p, eq-eqb (recordOf i n .writer) (n .me .number) q) (or-true writes)
+
+      sends : State → Sending
+      sends s = record { message = resent (n .me) i s (recordOf i n .timestamp); body = leavingSlot (resent (n .me) i s (recordOf i n .timestamp)) (recordOf i n) (slot i (n .store)) }
+
+      writing : In (recordOf i n .state) (state.Write ∷ state.Replay ∷ []) → sends (recordOf i n .state) ≡ sendInv (n .me) i (seen (recordOf i n) (slot i (n .store)))
+      writing (inl e) = ap sends e
+      writing (inr (inl e)) = ap sends e
+      writing (inr (inr e)) = absurd e
