@@ -26,7 +26,7 @@ use Rattle.hermes.specs.Members.{has, size, within, othersIn, with, lowe
 use Rattle.hermes.specs.Order.{higher, later, sameTimestamp}
 use Rattle.hermes.specs.Record.{oneOf, invalidatedState, freshRecord}
 use Rattle.hermes.specs.Store.{slot, valueAt}
-use Rattle.hermes.specs.Guards.{Question, firstNo, question8, question10, question11, question12, question13, question14, question15, question16, question17, question19}
+use Rattle.hermes.specs.Guards.{Question, ask, firstNo, question1, question3, question8, question10, question11, question12, question18}
 use Rattle.hermes.specs.Event.{Step, invStep, resent, numberOf, answerOf, sentBy, leavingBody}
 use Rattle.hermes.specs.Node.{Node, Outcome, recordOf, apply, newcomer, startQuestions, begin, start, view, viewed, viewQuestions, admissionOf, admissionNumber}
 use Rattle.hermes.specs.Frame.{bytesAfter, Changed}
@@ -210,3 +210,182 @@ module _ (wins : ℕ → ℕ → Bool) (n : Node) (i : ℕ) (v : List ℕ) where
       writing (inl e) = ap sends e
       writing (inr (inl e)) = ap sends e
       writing (inr (inr e)) = absurd e
+
+-- ---- deliveries
+
+inv-does : (wins : ℕ → ℕ → Bool) (me : Replica) (i : ℕ) (r : Record) (b : List ℕ) (t : Timestamp) (sender : ℕ) (v : List ℕ) (g : Bool) → later wins t (r .timestamp) ≡ g
+    → HRcvInv wins me i sender t v (seen r b) (stepVars (invStep g me i r t sender v) b) (stepSends (invStep g me i r t sender v) b)
+inv-does wins me i r b t sender v true g = record {
+  send = refl;
+  greater = λ h. record { nodeTS = refl; nodeLastWriter = refl; follower = follower (r .state); coordinator = coordinator (r .state); value = take-padded v; nodeLastWriteTS = refl; nodeRcvdAcks = refl };
+  otherwise = λ h. absurd (h (later-greater wins t (r .timestamp) g));
+}
+inv-does wins me i r b t sender v false g = record {
+  send = refl;
+  greater = λ h. absurd (false≢true (sym g ∙ greater-later wins t (r .timestamp) h));
+  otherwise = λ h. refl;
+}
+
+module _ (wins : ℕ → ℕ → Bool) (n : Node) (i sender epoch : ℕ) (t : Timestamp) (v : List ℕ) where
+  -- question 11 in its two parts
+  eleven : (has (n .me .view) sender && not (eqb sender (n .me .number))) ≡ true → (has (n .me .view) sender ≡ true) × (sender ≢ n .me .number)
+  eleven h = let (p, q) = both (has (n .me .view) sender) (not (eqb sender (n .me .number))) h in (p, eqb-false sender (n .me .number) (not-true _ q))
+
+  both-eleven : has (n .me .view) sender ≡ true → sender ≢ n .me .number → (has (n .me .view) sender && not (eqb sender (n .me .number))) ≡ true
+  both-eleven p d = rw (p, ne-eqb sender (n .me .number) d)
+
+  abbrev more : Message → List Question
+  more m = question10 (n .me) (message sender epoch m) ∷ ask 11 (has (n .me .view) sender) ∷ question12 (message sender epoch m) (length v) ∷ []
+
+  -- the delivery's own questions in the order of document 01, with question 11 split
+  split : (m : Message) → AllYes (questionsOf n i (Deliver (message sender epoch m)) v) → AllYes (delivered n i (message sender epoch m) v) × (sender ≢ n .me .number)
+  split m y =
+      let o = its-own n i (Deliver (message sender epoch m)) v y in
+      let (p, d) = eleven (o .1 .0) in
+      (five wins n i (Deliver (message sender epoch m)) v (more m) y (o .0, (p, (o .1 .1 .0, tt))), d)
+
+  follows-inv : Follows wins n i (Deliver (message sender epoch (Inv t))) v (delivered n i (message sender epoch (Inv t)) v) (λ s. HRcvInvGuard (n .me) sender) (HRcvInv wins (n .me) i sender t v)
+  follows-inv = follows wins n i (Deliver (message sender epoch (Inv t))) v (delivered n i (message sender epoch (Inv t)) v) (λ s. HRcvInvGuard (n .me) sender) (HRcvInv wins (n .me) i sender t v)
+      (λ y. split (Inv t) y)
+      (λ g. back wins n i (Deliver (message sender epoch (Inv t))) v (more (Inv t)) (g .0) (g .0 .1 .1 .1 .1 .1 .0, (both-eleven (g .0 .1 .1 .1 .1 .1 .1 .0) (g .1), (g .0 .1 .1 .1 .1 .1 .1 .1 .0, tt))))
+      (λ y. inv-does wins (n .me) i (recordOf i n) (slot i (n .store)) t sender v (later wins t (recordOf i n .timestamp)) refl)
+
+  follows-ack : Follows wins n i (Deliver (message sender epoch (Ack t))) v (delivered n i (message sender epoch (Ack t)) v) (HRcvAckGuard (n .me) sender t) (source.HRcvAck sender)
+  follows-ack = follows wins n i (Deliver (message sender epoch (Ack t))) v (delivered n i (message sender epoch (Ack t)) v) (HRcvAckGuard (n .me) sender t) (source.HRcvAck sender)
+      (λ y. let (f, d) = split (Ack t) y in
+      let (a, c) = both (waits && same) fresh (its-own n i (Deliver (message sender epoch (Ack t))) v y .1 .1 .1 .0) in
+      let (p, q) = both waits same a in
+      (f, (d, not-true _ c, same-ts t (recordOf i n .written) q, one-in (recordOf i n .state) (state.Write ∷ state.InvalidWrite ∷ state.Replay ∷ []) p)))
+      (λ g. back wins n i (Deliver (message sender epoch (Ack t))) v (more (Ack t)) (g .0) (
+        g .0 .1 .1 .1 .1 .1 .0,
+        (
+          both-eleven (g .0 .1 .1 .1 .1 .1 .1 .0) (g .1 .0),
+          (
+            g .0 .1 .1 .1 .1 .1 .1 .1 .0,
+            (and-yes (waits && same) fresh (and-yes waits same (in-one (recordOf i n .state) (state.Write ∷ state.InvalidWrite ∷ state.Replay ∷ []) (g .1 .3)) (ts-same t (recordOf i n .written) (g .1 .2))) (ap not (g .1 .1)), tt),
+          ),
+        ),
+      ))
+      (λ y. record {
+        nodeRcvdAcks = λ m. (with-members (recordOf i n .acks) sender m, members-with (recordOf i n .acks) sender m (has-small (n .me .view) sender (split (Ack t) y .0 .1 .1 .1 .1 .1 .1 .0)));
+        nodeLastWriter = refl;
+        nodeLastWriteTS = refl;
+        nodeTS = refl;
+        nodeState = refl;
+        value = refl;
+        send = refl;
+      })
+    where
+      waits : Bool
+      waits = oneOf (recordOf i n .state) (state.Write ∷ state.InvalidWrite ∷ state.Replay ∷ [])
+
+      same : Bool
+      same = sameTimestamp t (recordOf i n .written)
+
+      fresh : Bool
+      fresh = not (has (recordOf i n .acks) sender)
+
+  valOwn : List Question
+  valOwn = question10 (n .me) (message sender epoch (Val t)) ∷ question11 (n .me) (message sender epoch (Val t)) ∷ question12 (message sender epoch (Val t)) (length v) ∷ []
+
+  follows-val : Follows wins n i (Deliver (message sender epoch (Val t))) v (fiveAnd n i valOwn) (HRcvValGuard t) source.HRcvVal
+  unfolding valOwn
+  follows-val = follows wins n i (Deliver (message sender epoch (Val t))) v (fiveAnd n i valOwn) (HRcvValGuard t) source.HRcvVal
+      (λ y. let o = its-own n i (Deliver (message sender epoch (Val t))) v y in
+      let (p, q) = both (not valid) same (o .1 .1 .1 .0) in (
+        five wins n i (Deliver (message sender epoch (Val t))) v valOwn y (o .0, (o .1 .0, (o .1 .1 .0, tt))),
+        (λ e. false≢true (sym (not-true valid p) ∙ state-is (recordOf i n .state) state.Valid e), same-ts t (recordOf i n .timestamp) q),
+      ))
+      (λ g. back wins n i (Deliver (message sender epoch (Val t))) v valOwn (g .0) (
+        g .0 .1 .1 .1 .1 .1 .0,
+        (
+          g .0 .1 .1 .1 .1 .1 .1 .0,
+          (
+            g .0 .1 .1 .1 .1 .1 .1 .1 .0,
+            (and-yes (not valid) same (ap not (is-false valid (λ h. g .1 .0 (is-state (recordOf i n .state) state.Valid h)))) (ts-same t (recordOf i n .timestamp) (g .1 .1)), tt),
+          ),
+        ),
+      ))
+      (λ y. record { valid = record { nodeState = refl; nodeTS = refl; nodeLastWriter = refl; nodeLastWriteTS = refl; nodeRcvdAcks = refl; value = refl }; send = refl })
+    where
+      valid : Bool
+      valid = oneOf (recordOf i n .state) (state.Valid ∷ [])
+
+      same : Bool
+      same = sameTimestamp t (recordOf i n .timestamp)
+
+-- ---- fresh start and view
+
+start-follows : (k view : ℕ) (table : List Record) (store : List ℕ) → StartFollows k view table store
+start-follows k view table store = record { accepted = (to, from); does = λ a i h. inits (begun k view table store (newcomer k view) a) i h }
+  where
+    questions : List Question
+    questions = startQuestions (newcomer k view) (length table) (length store)
+
+    to : start k view table store .admission ≡ Admitted (newcomer k view) → AllYes questions
+    to a = begun k view table store (newcomer k view) a .asked
+
+    from : AllYes questions → start k view table store .admission ≡ Admitted (newcomer k view)
+    from y = unfold start in rw (all-passed questions y)
+
+    inits : Begun k view table store (newcomer k view) → (i : ℕ) → i < length table
+        → HInit view (varsOf i (record { me = newcomer k view; table = start k view table store .table; store = start k view table store .store }))
+    inits b i h = rw (b .tableAfter, getD-replicate (length table) i (freshRecord (lowest view)) (freshRecord 0) h) (record {
+      nodeRcvdAcks = has-zero;
+      nodeState = refl;
+      nodeLastWriter = low;
+      version = refl;
+      tieBreaker = low;
+      lastVersion = refl;
+      lastTieBreaker = low;
+      value = refl;
+    })
+      where
+        low : source.Lowest view (lowest view)
+        low = lowest-lowest view k (b .asked .1 .1 .0)
+
+view-follows : (n : Node) (epoch alive : ℕ) → ViewFollows n epoch alive
+unfolding viewed view
+view-follows n epoch alive = record { accepted = (to (firstNo questions) refl, from); does = view-frame n epoch alive .accepted; refused = view-frame n epoch alive .refused }
+  where
+    questions : List Question
+    questions = viewQuestions (n .me) epoch alive
+
+    next : Replica
+    next = record { number = n .me .number; epoch = epoch; view = alive }
+
+    guard : AllYes questions → NodeFailureGuard (n .me) alive
+    guard y =
+        let (p, q) = both (within alive (n .me .view)) (leb 2 (size alive)) (y .1 .1 .1 .0) in
+        let w : Two 16 (has alive) = size-two alive q in
+        record { fewer = within-members alive (n .me .view) p; one = w .one; two = w .two; apart = w .apart; oneStays = w .onePasses; twoStays = w .twoPasses }
+
+    to : (k : ℕ) → firstNo questions ≡ k → numberOf (answerOf (admissionNumber (admissionOf k next)) None) ≡ 0
+        → AllYes (question1 (n .me) ∷ question3 (n .me) ∷ question18 (n .me) epoch ∷ []) × NodeFailureGuard (n .me) alive
+    to zero z a = let y : AllYes questions = passed questions refl z in ((y .0, (y .1 .0, (y .1 .1 .0, tt))), guard y)
+    to (suc k) z a = absurd (omega arith)
+
+    from : AllYes (question1 (n .me) ∷ question3 (n .me) ∷ question18 (n .me) epoch ∷ []) × NodeFailureGuard (n .me) alive
+        → numberOf (answerOf (admissionNumber (admissionOf (firstNo questions) next)) None) ≡ 0
+    from (y, g) = rw (all-passed questions (y .0, (y .1 .0, (y .1 .1 .0, (and-yes _ _ (members-within alive (n .me .view) (g .fewer)) (two-size alive (g .one) (g .two) (g .apart) (g .oneStays) (g .twoStays)), tt)))))
+
+-- ---- the theorems
+
+pub conformance-by : (wins : ℕ → ℕ → Bool) → Demand2By wins
+unfolding valOwn
+conformance-by wins = record {
+  start = start-follows;
+  read = follows-read wins;
+  write = follows-write wins;
+  replay = follows-replay wins;
+  inv = follows-inv wins;
+  ack = follows-ack wins;
+  val = follows-val wins;
+  validate = follows-validate wins;
+  resend = follows-resend wins;
+  view = view-follows;
+}
+
+-- demand 2
+pub conformance : Demand2
+conformance = conformance-by higher
