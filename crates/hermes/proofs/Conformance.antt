@@ -26,7 +26,7 @@ use Rattle.hermes.specs.Members.{has, size, within, othersIn, with, lowe
 use Rattle.hermes.specs.Order.{higher, later, sameTimestamp}
 use Rattle.hermes.specs.Record.{oneOf, invalidatedState, freshRecord}
 use Rattle.hermes.specs.Store.{slot, valueAt}
-use Rattle.hermes.specs.Guards.{Question, ask, firstNo, question1, question3, question8, question10, question11, question12, question18}
+use Rattle.hermes.specs.Guards.{Question, ask, firstNo, question1, question3, question8, question10, question11, question12}
 use Rattle.hermes.specs.Event.{Step, invStep, resent, numberOf, answerOf, sentBy, leavingBody}
 use Rattle.hermes.specs.Node.{Node, Outcome, recordOf, apply, newcomer, startQuestions, begin, start, view, viewed, viewQuestions, admissionOf, admissionNumber}
 use Rattle.hermes.specs.Frame.{bytesAfter, Changed}
@@ -354,20 +354,20 @@ view-follows n epoch alive = record { accepted = (to (firstNo questions) refl, f
     next : Replica
     next = record { number = n .me .number; epoch = epoch; view = alive }
 
-    guard : AllYes questions → NodeFailureGuard (n .me) alive
+    guard : AllYes questions → NodeFailureGuard (n .me) epoch alive
     guard y =
         let (p, q) = both (within alive (n .me .view)) (leb 2 (size alive)) (y .1 .1 .1 .0) in
         let w : Two 16 (has alive) = size-two alive q in
-        record { fewer = within-members alive (n .me .view) p; one = w .one; two = w .two; apart = w .apart; oneStays = w .onePasses; twoStays = w .twoPasses }
+        record { later = ltb-true (n .me .epoch) epoch (y .1 .1 .0); fewer = within-members alive (n .me .view) p; one = w .one; two = w .two; apart = w .apart; oneStays = w .onePasses; twoStays = w .twoPasses }
 
     to : (k : ℕ) → firstNo questions ≡ k → numberOf (answerOf (admissionNumber (admissionOf k next)) None) ≡ 0
-        → AllYes (question1 (n .me) ∷ question3 (n .me) ∷ question18 (n .me) epoch ∷ []) × NodeFailureGuard (n .me) alive
-    to zero z a = let y : AllYes questions = passed questions refl z in ((y .0, (y .1 .0, (y .1 .1 .0, tt))), guard y)
+        → AllYes (question1 (n .me) ∷ question3 (n .me) ∷ []) × NodeFailureGuard (n .me) epoch alive
+    to zero z a = let y : AllYes questions = passed questions refl z in ((y .0, (y .1 .0, tt)), guard y)
     to (suc k) z a = absurd (omega arith)
 
-    from : AllYes (question1 (n .me) ∷ question3 (n .me) ∷ question18 (n .me) epoch ∷ []) × NodeFailureGuard (n .me) alive
+    from : AllYes (question1 (n .me) ∷ question3 (n .me) ∷ []) × NodeFailureGuard (n .me) epoch alive
         → numberOf (answerOf (admissionNumber (admissionOf (firstNo questions) next)) None) ≡ 0
-    from (y, g) = rw (all-passed questions (y .0, (y .1 .0, (y .1 .1 .0, (and-yes _ _ (members-within alive (n .me .view) (g .fewer)) (two-size alive (g .one) (g .two) (g .apart) (g .oneStays) (g .twoStays)), tt)))))
+    from (y, g) = rw (all-passed questions (y .0, (y .1 .0, (lt-ltb (n .me .epoch) epoch (g .later), (and-yes _ _ (members-within alive (n .me .view) (g .fewer)) (two-size alive (g .one) (g .two) (g .apart) (g .oneStays) (g .twoStays)), tt)))))
 
 -- ---- the theorems
 

@@ -18,7 +18,7 @@ use Rattle.hermes.specs.declared.event.Event.the-variants.{Read, Write, 
 use Rattle.hermes.specs.declared.event.Admission.the-variants.{Admitted}
 use Rattle.hermes.specs.Members.{has}
 use Rattle.hermes.specs.Order.{higher}
-use Rattle.hermes.specs.Guards.{Question, ask, question1, question2, question3, question4, question5, question8, question10, question11, question12, question18}
+use Rattle.hermes.specs.Guards.{Question, ask, question1, question2, question3, question4, question5, question8, question10, question11, question12}
 use Rattle.hermes.specs.Event.{numberOf, sentBy}
 use Rattle.hermes.specs.Node.{Node, recordOf, valueOf, apply, viewed, newcomer, start}
 use Rattle.hermes.specs.Locality.{body}
@@ -73,9 +73,9 @@ delivered n i m v = fiveAnd n i (question10 (n .me) m ∷ ask 11 (has (n .me .vi
 abbrev pub message : ℕ → ℕ → Message → Received
 message sender epoch m = record { sender = sender; epoch = epoch; message = m }
 
--- a view: 1, 3 and 18 are document 01's own
+-- a view: 1 and 3 are document 01's own
 pub record ViewFollows (n : Node) (epoch alive : ℕ) : Type 0 where
-  pub accepted : (numberOf (viewed n epoch alive .answer) ≡ 0) ↔ (AllYes (question1 (n .me) ∷ question3 (n .me) ∷ question18 (n .me) epoch ∷ []) × NodeFailureGuard (n .me) alive)
+  pub accepted : (numberOf (viewed n epoch alive .answer) ≡ 0) ↔ (AllYes (question1 (n .me) ∷ question3 (n .me) ∷ []) × NodeFailureGuard (n .me) epoch alive)
   -- aliveNodes and the epoch are replaced, the rest is UNCHANGED
   pub does : numberOf (viewed n epoch alive .answer) ≡ 0
       → viewed n epoch alive .node ≡ record { me = record { number = n .me .number; epoch = epoch; view = alive }; table = n .table; store = n .store }

@@ -198,8 +198,9 @@ pub record HSendVals (n : Replica) (i : ℕ) (s s′ : Vars) (m : Sending) : Typ
   pub valid : BecomesValid s s′
   pub send : m ≡ sendVal n i s′
 
--- nodeFailure, of all nodes that are not in the set `alive`: at least two stay
-pub record NodeFailureGuard (n : Replica) (alive : ℕ) : Type 0 where
+-- nodeFailure, of all nodes that are not in the set `alive`: at least two stay, and the epoch rises (004)
+pub record NodeFailureGuard (n : Replica) (epoch alive : ℕ) : Type 0 where
+  pub later : n .epoch < epoch
   pub fewer : (k : ℕ) → Member alive k → isAlive n k
   pub one : ℕ
   pub two : ℕ
