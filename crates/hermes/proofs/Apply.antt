@@ -20,7 +20,7 @@ use Rattle.hermes.specs.Store.{slot}
 use Rattle.hermes.specs.Frame.{bytesAfter, Changed}
 use Rattle.hermes.proofs.Tests.{both}
 use Rattle.hermes.specs.Conformance.{AllYes}
-use Rattle.hermes.proofs.Asked.{event-passed, sized}
+use Rattle.hermes.proofs.Asked.{event-zero, event-passed, sized}
 use Rattle.hermes.proofs.Store.{slot-same, length-place, take-place, drop-place}
 use Rattle.hermes.proofs.Steps.{Fits, SoundStep, five-facts, step-sound}
 
@@ -36,6 +36,9 @@ questionsOf n i e v = common (n .me) (length (n .table)) (length (n .store)) i (
 
 abbrev pub stepOf : (ℕ → ℕ → Bool) → Node → ℕ → Event → List ℕ → Step
 stepOf wins n i e v = step wins (n .me) i (recordOf i n) e v
+
+pub passed-zero : (n : Node) (i : ℕ) (e : Event) (v : List ℕ) → AllYes (questionsOf n i e v) → refusalOf n i e v ≡ 0
+passed-zero n i e v y = event-zero (n .me) (length (n .table)) (length (n .store)) i (recordOf i n) e (length v) y
 
 -- the replica with a step done on record i
 abbrev pub done : Node → ℕ → Step → Node
@@ -111,17 +114,10 @@ pub applied : (wins : ℕ → ℕ → Bool) (n : Node) (i : ℕ) (e : Event) (v 
 unfolding apply effect
 applied wins n i e v = go (refusalOf n i e v) refl
   where
-    landed : ℕ → Outcome
-    landed k = record {
-      answer = decide k i (recordOf i n) (n .store) (stepOf wins n i e v) .moved .answer;
-      node = record {
-        me = n .me;
-        table = set (n .table) i (decide k i (recordOf i n) (n .store) (stepOf wins n i e v) .moved .after);
-        store = decide k i (recordOf i n) (n .store) (stepOf wins n i e v) .store;
-      };
-    }
+    o : Outcome
+    o = apply wins n i e v
 
-    go : (k : ℕ) → refusalOf n i e v ≡ k → Applied wins n i e v (landed (refusalOf n i e v))
+    go : (k : ℕ) → refusalOf n i e v ≡ k → Applied wins n i e v o
     go zero z = let y : AllYes (questionsOf n i e v) = event-passed (n .me) (length (n .table)) (length (n .store)) i (recordOf i n) e (length v) z in
-        accepted y (changed wins n i e v y) (ap landed z)
+        accepted y (changed wins n i e v y) (rw z)
     go (suc k) z = refused k z (rw z (ap (λ (t : List Record). record { answer = Refused (suc k); node = record { me = n .me; table = t; store = n .store } }) (set-getD (n .table) i (freshRecord 0))))

@@ -1,26 +1,23 @@
 -- An event whose answer is 0 was asked questions that all said yes.
 use Prim.Native.Nat.{ℕ, zero, suc, _*_, _≤_, _<_}
 use mathlib.Core.Path.{_≡_, refl}
-use mathlib.Core.Bool.{Bool, true, false, cond, not, _&&_}
+use mathlib.Core.Bool.{Bool, true, false, cond, _&&_, false≢true}
 use mathlib.Core.List.{List, [], _∷_}
 use native.Mathlib.Omega.{arith}
 use lib.Dec.{ltb, leb, eqb}
 use borrow.Author.Tests.{ltb-true, eqb-true}
 use Rattle.hermes.specs.declared.timestamp.Timestamp.{Timestamp}
 use Rattle.hermes.specs.declared.record.Record.{Record}
-use Rattle.hermes.specs.declared.record.State.the-variants as state
 use Rattle.hermes.specs.declared.message.Message.{Message}
 use Rattle.hermes.specs.declared.message.Message.the-variants.{Inv, Ack, Val}
 use Rattle.hermes.specs.declared.event.Replica.{Replica}
 use Rattle.hermes.specs.declared.event.Event.{Event}
 use Rattle.hermes.specs.declared.event.Event.the-variants.{Read, Write, Replay, Deliver, Validate, Resend}
-use Rattle.hermes.specs.Members.{has}
 use Rattle.hermes.specs.Order.{sameTimestamp}
-use Rattle.hermes.specs.Record.{oneOf}
 use Rattle.hermes.specs.Guards.{Question, firstNo, question2, question13, question14}
 use Rattle.hermes.specs.Conformance.{AllYes}
 use Rattle.hermes.specs.Event.{common, ofKind, own, refusal}
-use Rattle.hermes.proofs.Tests.{both}
+use Rattle.hermes.proofs.Tests.{both, and-false}
 use Rattle.hermes.proofs.Order.{same-equal}
 
 -- no question has number 0
@@ -53,7 +50,12 @@ own-positive me r Validate n = refl
 own-positive me r Replay n = refl
 own-positive me r Resend n = refl
 
--- an event on a record that answers 0: all its questions said yes
+-- an event on a record answers 0 where all its questions say yes
+pub event-zero : (me : Replica) (count bytes i : ℕ) (r : Record) (e : Event) (n : ℕ) → AllYes (common me count bytes i r (own me r e n)) → refusal me count bytes i r e n ≡ 0
+unfolding refusal
+event-zero me count bytes i r e n y = all-passed (common me count bytes i r (own me r e n)) y
+
+-- and only there
 pub event-passed : (me : Replica) (count bytes i : ℕ) (r : Record) (e : Event) (n : ℕ) → refusal me count bytes i r e n ≡ 0
     → AllYes (common me count bytes i r (own me r e n))
 unfolding refusal
@@ -65,11 +67,16 @@ sized count bytes h = eqb-true bytes (192 * count) (both (leb 1 count && leb cou
 
 -- question 13: the timestamp is the last-write timestamp
 pub acked-written : (t : Timestamp) (sender : ℕ) (r : Record) → question13 t sender r .yes ≡ true → t ≡ r .written
-acked-written t sender r h = same-equal t (r .written) (both waits (sameTimestamp t (r .written)) (both (waits && sameTimestamp t (r .written)) (not (has (r .acks) sender)) h .0) .1)
+acked-written t sender r h = go (sameTimestamp t (r .written)) refl
   where
-    waits : Bool
-    waits = oneOf (r .state) (state.Write ∷ state.InvalidWrite ∷ state.Replay ∷ [])
+    go : (b : Bool) → sameTimestamp t (r .written) ≡ b → t ≡ r .written
+    go true e = same-equal t (r .written) e
+    go false e = absurd (false≢true (simp (e, and-false) at h))
 
 -- question 14: the timestamp is the record's
 pub validated-timestamp : (t : Timestamp) (r : Record) → question14 t r .yes ≡ true → t ≡ r .timestamp
-validated-timestamp t r h = same-equal t (r .timestamp) (both (not (oneOf (r .state) (state.Valid ∷ []))) (sameTimestamp t (r .timestamp)) h .1)
+validated-timestamp t r h = go (sameTimestamp t (r .timestamp)) refl
+  where
+    go : (b : Bool) → sameTimestamp t (r .timestamp) ≡ b → t ≡ r .timestamp
+    go true e = same-equal t (r .timestamp) e
+    go false e = absurd (false≢true (simp (e, and-false) at h))

@@ -38,10 +38,10 @@ use Rattle.hermes.proofs.Tests.{both, either, is-false, or-true}
 use Rattle.hermes.proofs.Members.{Has, has-small, has-zero, within-members, members-within, others-members, members-others, with-members, members-with}
 use Rattle.hermes.proofs.Store.{value-slot, take-padded}
 use Rattle.hermes.proofs.Asked.{passed, all-passed}
-use Rattle.hermes.proofs.Steps.{five-facts, step-about}
-use Rattle.hermes.proofs.Apply.{refusalOf, questionsOf, ownOf, stepOf, done, Applied, refused, accepted, applied, its-own, sound-step}
+use Rattle.hermes.proofs.Steps.{next-version, five-facts, step-about}
+use Rattle.hermes.proofs.Apply.{passed-zero, refusalOf, questionsOf, ownOf, stepOf, done, Applied, refused, accepted, applied, its-own, sound-step}
 use Rattle.hermes.proofs.Words.{one-in, in-one, is-state, state-is, same-ts, ts-same, later-greater, greater-later, Two, size-two, two-size}
-use Rattle.hermes.proofs.Locality.{leavingSlot, leaving-slot, passed-zero}
+use Rattle.hermes.proofs.Locality.{leavingSlot, leaving-slot}
 use Rattle.hermes.proofs.Frame.{view-frame}
 use Rattle.hermes.proofs.Start.{Begun, begun, lowest-lowest}
 
@@ -152,8 +152,8 @@ module _ (wins : ℕ → ℕ → Bool) (n : Node) (i : ℕ) (v : List ℕ) where
         nodeRcvdAcks = has-zero;
         nodeLastWriter = refl;
         nodeState = refl;
-        nodeTS = rw (its-own n i Write v y .1 .1 .0);
-        nodeLastWriteTS = rw (its-own n i Write v y .1 .1 .0);
+        nodeTS = ap (λ (x : ℕ). record { version = x; tie = n .me .number }) (next-version (recordOf i n .timestamp .version) (its-own n i Write v y .1 .1 .0));
+        nodeLastWriteTS = ap (λ (x : ℕ). record { version = x; tie = n .me .number }) (next-version (recordOf i n .timestamp .version) (its-own n i Write v y .1 .1 .0));
         value = take-padded v;
         send = refl;
       })

@@ -19,9 +19,9 @@ use Rattle.hermes.specs.Frame.{bytesAfter, Changed}
 use Rattle.hermes.specs.Locality.{EqualAt, AnswersAlike, Locality, ReadLocality}
 use Rattle.hermes.proofs.Store.{value-slot}
 use Rattle.hermes.specs.Conformance.{AllYes}
-use Rattle.hermes.proofs.Asked.{all-passed, event-passed}
+use Rattle.hermes.proofs.Asked.{event-passed}
 use Rattle.hermes.proofs.Steps.{SoundRecord, five-facts, About, step-about}
-use Rattle.hermes.proofs.Apply.{refusalOf, questionsOf, stepOf, done, Applied, refused, accepted, applied, sound-step}
+use Rattle.hermes.proofs.Apply.{passed-zero, refusalOf, questionsOf, stepOf, done, Applied, refused, accepted, applied, sound-step}
 
 -- the bytes that leave, taken from the record's 192
 abbrev pub leavingSlot : Outgoing → Record → List ℕ → List ℕ
@@ -48,10 +48,6 @@ module _ (wins : ℕ → ℕ → Bool) (i : ℕ) (n m : Node) (q : EqualAt i n m
     here = c .here ∙ ap (λ (s : Step). s .after) same-step ∙ sym (d .here);
     bytes = c .bytes ∙ (λ t. bytesAfter (same-step t .stored) (q .bytes t)) ∙ sym (d .bytes);
   }
-
-pub passed-zero : (n : Node) (i : ℕ) (e : Event) (v : List ℕ) → AllYes (questionsOf n i e v) → refusalOf n i e v ≡ 0
-unfolding refusal
-passed-zero n i e v y = all-passed (questionsOf n i e v) y
 
 pub locality : (wins : ℕ → ℕ → Bool) → Locality wins
 locality wins i n m q e v = go (apply wins n i e v) (applied wins n i e v) (apply wins m i e v) (applied wins m i e v)

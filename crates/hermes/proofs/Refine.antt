@@ -9,6 +9,7 @@ use native.Mathlib.Omega.{arith}
 use native.Mathlib.Decide.{ℕ-discrete}
 use lib.Dec.{ltb, leb, eqb}
 use lib.ListN.{length, take, getD, set}
+use borrow.Author.Needs.{needs}
 use borrow.Author.Tests.{leb-true, eqb-true, ltb-true}
 use Rattle.hermes.specs.declared.timestamp.Timestamp.{Timestamp}
 use Rattle.hermes.specs.declared.record.Record.{Record}
@@ -39,6 +40,7 @@ use Rattle.hermes.proofs.Order.{notAfter-refl, notAfter-total}
 use Rattle.hermes.proofs.Store.{take-padded, value-slot, slot-elsewhere}
 use Rattle.hermes.specs.Conformance.{AllYes}
 use Rattle.hermes.proofs.Asked.{passed, acked-written, validated-timestamp}
+use Rattle.hermes.proofs.Steps.{next-version}
 use Rattle.hermes.proofs.Apply.{stepOf, ownOf, done, Applied, refused, accepted, applied, inside, full, its-own, sound-step}
 use Rattle.hermes.proofs.Protocol as protocol
 use Rattle.hermes.proofs.Protocol.{Setting, Copy, Msg, inv, ack, val, Move, stay, write, replay, rcvInv, rcvAck, rcvVal, sendVals, shrink, Honest}
@@ -215,7 +217,9 @@ module _ (wins : ℕ → ℕ → Bool) (ord : TieOrder wins) (issued : ℕ → �
     moves = rcvInv sender epoch t (cellOf v) (clean-cell v) k (rises g) (rw (invalid-shown (recordOf j n .state), invalid-own (recordOf j n .state)));
     says = (refl, notAfter-refl wins t);
   }
-  inv-good j sender epoch t v k false g = record { moves = stay refl; says = (refl, notAfter-total wins ord t (recordOf j n .timestamp) g) }
+  inv-good j sender epoch t v k false g =
+      let behind : NotAfter wins t (recordOf j n .timestamp) = notAfter-total wins ord t (recordOf j n .timestamp) g in
+      record { moves = stay refl; says = search needs }
 
   deliver-good : (j sender epoch : ℕ) (m : Message) (v : List ℕ) → Known j log (msg sender epoch m v) → epoch ≡ n .me .epoch
       → AllYes (ofKind m sender (recordOf j n)) → Good wins issued log j n (deliverStep wins (n .me) j (recordOf j n) sender m v)
@@ -236,6 +240,19 @@ module _ (wins : ℕ → ℕ → Bool) (ord : TieOrder wins) (issued : ℕ → �
   none-in-zero : (m : ℕ) → Has 0 m → ⊥
   none-in-zero m h = false≢true (sym (has-zero m) ∙ h)
 
+  -- the copy that a write of v at this version leaves
+  writing : ℕ → List ℕ → ℕ → Copy Cell
+  writing j v version = record {
+    epoch = n .me .epoch;
+    view = n .me .view;
+    valid = false;
+    coordinates = true;
+    timestamp = record { version = version; tie = n .me .number };
+    written = record { version = version; tie = n .me .number };
+    acks = 0;
+    cell = cellOf v;
+  }
+
   viewed-refined : (epoch next : ℕ) → next ≡ issued epoch → (i : ℕ) → Refined wins issued log i n (run.event (viewed n epoch next))
   unfolding viewed view
   viewed-refined epoch next q i = go (firstNo (viewQuestions (n .me) epoch next)) refl
@@ -254,9 +271,10 @@ module _ (wins : ℕ → ℕ → Bool) (ord : TieOrder wins) (issued : ℕ → �
 
   -- every entry, as record i of its replica sees it
   pub refined : (a : Action) → AsIssued issued a → (i : ℕ) → Refined wins issued log i n (perform wins a log n)
+  unfolding writing
   refined (run.read j) c = of-event wins issued log n j Read [] (λ y. record { moves = stay refl; says = tt })
   refined (run.write j v) c = of-event wins issued log n j Write v
-      (λ y. record { moves = write (cellOf v) (clean-cell v) 0 none-in-zero (rw (y .1 .1 .0)); says = (refl, refl) })
+      (λ y. record { moves = write (cellOf v) (clean-cell v) 0 none-in-zero (ap (writing j v) (next-version (recordOf j n .timestamp .version) (y .1 .1 .0))); says = (refl, refl) })
   refined (run.replay j) c = of-event wins issued log n j Replay [] (λ y. record { moves = replay 0 none-in-zero refl; says = (refl, refl) })
   refined (run.validate j) c = of-event wins issued log n j Validate []
       (λ y. let (p, q) = both _ _ (y .0) in

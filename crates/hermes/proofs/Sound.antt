@@ -28,9 +28,10 @@ use Rattle.hermes.specs.Reads.{Sound, StaySound, ReadsTell}
 use Rattle.hermes.proofs.Tests.{both}
 use Rattle.hermes.proofs.Members.{has-zero}
 use Rattle.hermes.proofs.Store.{zeros}
-use Rattle.hermes.proofs.Asked.{passed, all-passed}
+use Rattle.hermes.proofs.Asked.{passed}
 use Rattle.hermes.proofs.Steps.{facts-five}
-use Rattle.hermes.proofs.Apply.{questionsOf, refusalOf, stepOf, done, Applied, refused, accepted, applied, its-own, sound-step}
+use Rattle.hermes.proofs.Apply.{passed-zero, refusalOf, stepOf, done, Applied, refused, accepted, applied, its-own, sound-step}
+use Rattle.hermes.proofs.Words.{is-state}
 use Rattle.hermes.proofs.Start.{Begun, begun, lowest-small}
 use Rattle.hermes.proofs.Agreement.{at-who, at-other}
 
@@ -123,13 +124,6 @@ stay-sound wins member count issued g s entries c k e = run-sound wins count k g
 
 -- ---- reads
 
-is-valid : (s : State) → oneOf s (state.Valid ∷ []) ≡ true → s ≡ state.Valid
-is-valid state.Valid e = refl
-is-valid state.Invalid e = absurd (false≢true e)
-is-valid state.InvalidWrite e = absurd (false≢true e)
-is-valid state.Write e = absurd (false≢true e)
-is-valid state.Replay e = absurd (false≢true e)
-
 -- a sound replica in its own view answers a read with 0 exactly where the record is valid
 read-tells : (wins : ℕ → ℕ → Bool) (count k : ℕ) (n : Node) → Sound count k n → (i : ℕ) → i < count → Sees n k → Shows n i ↔ (numberOf (apply wins n i Read [] .answer) ≡ 0)
 read-tells wins count k n ok i h v = go (apply wins n i Read []) (applied wins n i Read [])
@@ -138,8 +132,8 @@ read-tells wins count k n ok i h v = go (apply wins n i Read []) (applied wins n
     go o (refused z y q) = (λ e. absurd (omega (arith, y, answers e)), λ e. absurd (omega (arith, ap (λ (x : Outcome). numberOf (x .answer)) q)))
       where
         answers : Shows n i → refusalOf n i Read [] ≡ 0
-        answers e = unfold refusal in all-passed (questionsOf n i Read []) (ok .first, (ok .second, (rw (ok .number) v, (lt-ltb i (length (n .table)) (omega (arith, ok .records)), (ok .fifth i h, (rw e, tt))))))
-    go o (accepted y c q) = (λ e. ap (λ (x : Outcome). numberOf (x .answer)) q, λ e. is-valid (recordOf i n .state) (its-own n i Read [] y .0))
+        answers e = passed-zero n i Read [] (ok .first, (ok .second, (rw (ok .number) v, (lt-ltb i (length (n .table)) (omega (arith, ok .records)), (ok .fifth i h, (rw e, tt))))))
+    go o (accepted y c q) = (λ e. ap (λ (x : Outcome). numberOf (x .answer)) q, λ e. is-state (recordOf i n .state) state.Valid (its-own n i Read [] y .0))
 
 pub reads-tell : (wins : ℕ → ℕ → Bool) → ReadsTell wins
 reads-tell wins member count issued g s entries c i k h e = read-tells wins count k (after wins g entries k) (stay-sound wins member count issued g s entries c k e) i h

@@ -1,12 +1,13 @@
 -- An accepted step leaves a sound record (question 5) and stores a value of at most 192 bytes.
-use Prim.Native.Nat.{ℕ, _≤_, _<_}
+use Prim.Native.Nat.{ℕ, _+_, _≤_, _<_}
 use mathlib.Core.Path.{_≡_, refl, sym, ap, _∙_}
 use mathlib.Core.Bool.{Bool, true, false, not, _&&_, false≢true}
 use mathlib.Core.Logic.{_⊎_, inl, inr}
 use mathlib.Core.List.{List, []}
 use native.Mathlib.Omega.{arith}
-use lib.Dec.{leb, eqb}
+use lib.Dec.{ltb, leb, eqb}
 use lib.ListN.{length}
+use borrow.Author.Needs.{needs}
 use borrow.Author.Tests.{leb-true, le-leb, eqb-false, not-true}
 use Rattle.hermes.specs.declared.timestamp.Timestamp.{Timestamp}
 use Rattle.hermes.specs.declared.record.Record.{Record}
@@ -21,11 +22,16 @@ use Rattle.hermes.specs.declared.event.Event.{Event}
 use Rattle.hermes.specs.declared.event.Event.the-variants.{Read, Write, Replay, Deliver, Validate, Resend}
 use Rattle.hermes.specs.Members.{has, size, with}
 use Rattle.hermes.specs.Order.{later}
+use Rattle.hermes.specs.Record.{nextVersion}
 use Rattle.hermes.specs.Guards.{question1, question5, shapely}
 use Rattle.hermes.specs.Event.{Stored, kept, placed, Step, invStep, deliverStep, resent, step, own}
 use Rattle.hermes.proofs.Tests.{both, is-false}
 use Rattle.hermes.proofs.Members.{Has, has-small, has-zero, with-members}
 use Rattle.hermes.specs.Conformance.{AllYes}
+
+-- question 9: below the greatest version a write adds one
+pub next-version : (v : ℕ) → ltb v 4294967295 ≡ true → nextVersion v ≡ v + 1
+next-version v h = rw h
 
 -- question 5, as facts
 pub record SoundRecord (number : ℕ) (r : Record) : Type 0 where
@@ -57,7 +63,7 @@ pub record SoundStep (number : ℕ) (s : Step) : Type 0 where
 
 module _ (wins : ℕ → ℕ → Bool) (me : Replica) (i : ℕ) (r : Record) (small : me .number ≤ 15) (ok : SoundRecord (me .number) r) where
   inv-sound : (t : Timestamp) (sender : ℕ) (v : List ℕ) → t .tie ≤ 15 → sender ≤ 15 → length v ≤ 192 → (g : Bool) → SoundStep (me .number) (invStep g me i r t sender v)
-  inv-sound t sender v a b c true = record { after = record { short = c; tie = a; writtenTie = ok .writtenTie; writer = b; notSelf = ok .notSelf }; fits = c }
+  inv-sound t sender v a b c true = record { after = record { short = c; tie = a; writtenTie = ok .writtenTie; writer = b; notSelf = ok .notSelf }; fits = search needs }
   inv-sound t sender v a b c false = record { after = ok; fits = tt }
 
   deliver-sound : (sender : ℕ) (m : Message) (v : List ℕ) → has (me .view) sender ≡ true → eqb sender (me .number) ≡ false → shapely m (length v) ≡ true
@@ -79,10 +85,10 @@ module _ (wins : ℕ → ℕ → Bool) (me : Replica) (i : ℕ) (r : Record) (sm
   pub step-sound : (e : Event) (v : List ℕ) → AllYes (own me r e (length v)) → SoundStep (me .number) (step wins me i r e v)
   step-sound Read v y = record { after = ok; fits = tt }
   step-sound Write v y = record {
-    after = record { short = leb-true (length v) 192 (y .1 .0); tie = small; writtenTie = small; writer = small; notSelf = has-zero (me .number) };
+    after = record { short = leb-true (length v) 192 (y .1 .0); tie = small; writtenTie = small; writer = small; notSelf = search has-zero };
     fits = leb-true (length v) 192 (y .1 .0);
   }
-  step-sound Replay v y = record { after = record { short = ok .short; tie = ok .tie; writtenTie = ok .tie; writer = small; notSelf = has-zero (me .number) }; fits = tt }
+  step-sound Replay v y = record { after = record { short = ok .short; tie = ok .tie; writtenTie = ok .tie; writer = small; notSelf = search has-zero }; fits = tt }
   step-sound (Deliver m) v y =
       let (p, q) = both (has (me .view) (m .sender)) (not (eqb (m .sender) (me .number))) (y .1 .0) in
       deliver-sound (m .sender) (m .message) v p (not-true _ q) (y .1 .1 .0)
@@ -96,8 +102,8 @@ About i None = Unit
 About i (Sent m h) = h .index ≡ i
 
 inv-about : (me : Replica) (i : ℕ) (r : Record) (t : Timestamp) (sender : ℕ) (v : List ℕ) (g : Bool) → About i (invStep g me i r t sender v .sent)
-inv-about me i r t sender v true = refl
-inv-about me i r t sender v false = refl
+inv-about me i r t sender v true = search needs
+inv-about me i r t sender v false = search needs
 
 deliver-about : (wins : ℕ → ℕ → Bool) (me : Replica) (i : ℕ) (r : Record) (sender : ℕ) (m : Message) (v : List ℕ) → About i (deliverStep wins me i r sender m v .sent)
 deliver-about wins me i r sender (Inv t) v = inv-about me i r t sender v (later wins t (r .timestamp))

@@ -58,7 +58,7 @@ module _ (i : ℕ) (v s : List ℕ) (inside : 192 * i + 192 ≤ length s) (fits 
 
   pub slot-same : slot i (place i v s) ≡ padded v
   unfolding place
-  slot-same = rw (drop-at (take (192 * i) s) (padded v ++ drop (192 * i + 192) s) (192 * i) head-length) (take-at (padded v) _ 192 (length-padded v fits))
+  slot-same = ap (take 192) (drop-at (take (192 * i) s) (padded v ++ drop (192 * i + 192) s) (192 * i) head-length) ∙ take-at (padded v) (drop (192 * i + 192) s) 192 (length-padded v fits)
 
   -- the bytes in front of the record, and those behind it
   pub take-place : take (192 * i) (place i v s) ≡ take (192 * i) s
