@@ -27,8 +27,7 @@ use Rattle.hermes.specs.Agreement.{FreshStart, Started, AsIssued, Entrie
 use Rattle.hermes.proofs.Members.{Has, has-zero}
 use Rattle.hermes.proofs.Order.{higher-order, notAfter-refl, notAfter-trans}
 use Rattle.hermes.proofs.Store.{zeros, slot-zero}
-use Rattle.hermes.proofs.Asked.{sized}
-use Rattle.hermes.proofs.Start.{Begun, begun}
+use Rattle.hermes.proofs.Start.{sized, Begun, begun}
 use Rattle.hermes.proofs.Apply.{stepOf, done, Applied, refused, accepted, applied}
 use Rattle.hermes.proofs.Protocol as protocol
 use Rattle.hermes.proofs.Protocol.{Copy, Msg, Move, Honest, Invariant, Step, preserve, rises}

@@ -6,23 +6,18 @@ use mathlib.Core.List.{List}
 use native.Mathlib.Omega.{arith}
 use lib.ListN.{length, set, take, drop, length-set}
 use lib.Seq.{set-getD, getD-set-same, getD-set-other}
-use lib.Dec.{leb}
-use borrow.Author.Tests.{ltb-true, leb-true}
 use Rattle.hermes.specs.declared.event.Event.{Event}
 use Rattle.hermes.specs.declared.event.Answer.the-variants.{Accepted, Refused}
 use Rattle.hermes.specs.declared.record.Record.{Record}
-use Rattle.hermes.specs.Guards.{Question}
+use Rattle.hermes.specs.Guards.{Question, AllYes}
 use Rattle.hermes.specs.Record.{freshRecord}
 use Rattle.hermes.specs.Event.{Stored, kept, placed, Step, common, own, refusal, step, storing, decide, effect}
 use Rattle.hermes.specs.Node.{Node, Outcome, recordOf, apply}
-use Rattle.hermes.specs.Members.{size}
 use Rattle.hermes.specs.Store.{slot}
 use Rattle.hermes.specs.Frame.{bytesAfter, Changed}
-use Rattle.hermes.proofs.Tests.{both}
-use Rattle.hermes.specs.Conformance.{AllYes}
-use Rattle.hermes.proofs.Asked.{event-zero, event-passed, sized}
+use Rattle.hermes.proofs.Guards.{Common, common-passed, passed, none-refuses, slot-fits}
 use Rattle.hermes.proofs.Store.{slot-same, length-place, take-place, drop-place}
-use Rattle.hermes.proofs.Steps.{Fits, SoundStep, five-facts, step-sound}
+use Rattle.hermes.proofs.Steps.{Fits, SoundStep, step-sound}
 
 -- the number that an event on record i answers, its questions and its step
 abbrev pub refusalOf : Node → ℕ → Event → List ℕ → ℕ
@@ -38,28 +33,24 @@ abbrev pub stepOf : (ℕ → ℕ → Bool) → Node → ℕ → Event → List �
 stepOf wins n i e v = step wins (n .me) i (recordOf i n) e v
 
 pub passed-zero : (n : Node) (i : ℕ) (e : Event) (v : List ℕ) → AllYes (questionsOf n i e v) → refusalOf n i e v ≡ 0
-passed-zero n i e v y = event-zero (n .me) (length (n .table)) (length (n .store)) i (recordOf i n) e (length v) y
+passed-zero n i e v y = none-refuses (n .me) (length (n .table)) (length (n .store)) i (recordOf i n) e (length v) y
 
 -- the replica with a step done on record i
 abbrev pub done : Node → ℕ → Step → Node
 done n i s = record { me = n .me; table = set (n .table) i (s .after); store = storing i (s .stored) (n .store) }
 
--- questions 2 and 4 of a passed event
-pub inside : (n : Node) (i : ℕ) (e : Event) (v : List ℕ) → AllYes (questionsOf n i e v) → i < length (n .table)
-inside n i e v y = ltb-true i (length (n .table)) (y .1 .1 .1 .0)
-
-pub full : (n : Node) (i : ℕ) (e : Event) (v : List ℕ) → AllYes (questionsOf n i e v) → length (n .store) ≡ 192 * length (n .table)
-full n i e v y = sized (length (n .table)) (length (n .store)) (y .1 .0)
+-- questions 1 to 5 of a passed event
+pub first-five : (n : Node) (i : ℕ) (e : Event) (v : List ℕ) → AllYes (questionsOf n i e v) → Common (n .me) (length (n .table)) (length (n .store)) i (recordOf i n)
+first-five n i e v y = common-passed (n .me) (length (n .table)) (length (n .store)) i (recordOf i n) (ownOf n i e v) y
 
 -- its own questions
 pub its-own : (n : Node) (i : ℕ) (e : Event) (v : List ℕ) → AllYes (questionsOf n i e v) → AllYes (ownOf n i e v)
 its-own n i e v y = y .1 .1 .1 .1 .1
 
 -- its step leaves a sound record and stores what fits
-pub sound-step : (wins : ℕ → ℕ → Bool) (n : Node) (i : ℕ) (e : Event) (v : List ℕ) → AllYes (questionsOf n i e v) → SoundStep (n .me .number) (stepOf wins n i e v)
+pub sound-step : (wins : ℕ → ℕ → Bool) (n : Node) (i : ℕ) (e : Event) (v : List ℕ) → AllYes (questionsOf n i e v) → SoundStep (n .me) (stepOf wins n i e v)
 sound-step wins n i e v y =
-    step-sound wins (n .me) i (recordOf i n) (leb-true (n .me .number) 15 (both (leb (n .me .number) 15) (leb 2 (size (n .me .view))) (y .0) .0))
-    (five-facts (n .me) (recordOf i n) (y .1 .1 .1 .1 .0)) e v (its-own n i e v y)
+    let c = first-five n i e v y in step-sound wins (n .me) i (recordOf i n) (c .number) (c .sound) e v (its-own n i e v y)
 
 -- ---- the store
 
@@ -86,7 +77,7 @@ module _ (i : ℕ) (s : List ℕ) (room : 192 * i + 192 ≤ length s) where
 pub changed : (wins : ℕ → ℕ → Bool) (n : Node) (i : ℕ) (e : Event) (v : List ℕ) → AllYes (questionsOf n i e v)
     → Changed i (stepOf wins n i e v) n (done n i (stepOf wins n i e v))
 changed wins n i e v y = record {
-  here = getD-set-same (n .table) i (s .after) (freshRecord 0) (inside n i e v y);
+  here = getD-set-same (n .table) i (s .after) (freshRecord 0) (first-five n i e v y .inside);
   bytes = storing-slot i (n .store) room (s .stored) fits;
   identity = refl;
   count = length-set (n .table) i (s .after);
@@ -103,7 +94,7 @@ changed wins n i e v y = record {
     fits = sound-step wins n i e v y .fits
 
     room : 192 * i + 192 ≤ length (n .store)
-    room = omega (arith, inside n i e v y, full n i e v y)
+    room = slot-fits (first-five n i e v y)
 
 pub data Applied (wins : ℕ → ℕ → Bool) (n : Node) (i : ℕ) (e : Event) (v : List ℕ) (o : Outcome) : Type 0 where
   refused : (k : ℕ) → refusalOf n i e v ≡ suc k → o ≡ record { answer = Refused (suc k); node = n } → Applied wins n i e v o
@@ -118,6 +109,6 @@ applied wins n i e v = go (refusalOf n i e v) refl
     o = apply wins n i e v
 
     go : (k : ℕ) → refusalOf n i e v ≡ k → Applied wins n i e v o
-    go zero z = let y : AllYes (questionsOf n i e v) = event-passed (n .me) (length (n .table)) (length (n .store)) i (recordOf i n) e (length v) z in
+    go zero z = let y : AllYes (questionsOf n i e v) = passed (n .me) (length (n .table)) (length (n .store)) i (recordOf i n) e (length v) z in
         accepted y (changed wins n i e v y) (rw z)
     go (suc k) z = refused k z (rw z (ap (λ (t : List Record). record { answer = Refused (suc k); node = record { me = n .me; table = t; store = n .store } }) (set-getD (n .table) i (freshRecord 0))))

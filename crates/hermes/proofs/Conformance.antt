@@ -26,20 +26,20 @@ use Rattle.hermes.specs.Members.{has, size, within, othersIn, with, lowe
 use Rattle.hermes.specs.Order.{higher, later, sameTimestamp}
 use Rattle.hermes.specs.Record.{oneOf, invalidatedState, freshRecord}
 use Rattle.hermes.specs.Store.{slot, valueAt}
-use Rattle.hermes.specs.Guards.{Question, ask, firstNo, question1, question3, question8, question10, question11, question12}
+use Rattle.hermes.specs.Guards.{Question, AllYes, ask, firstNo, question1, question3, question8, question10, question11, question12}
 use Rattle.hermes.specs.Event.{Step, invStep, resent, numberOf, answerOf, sentBy, leavingBody}
 use Rattle.hermes.specs.Node.{Node, Outcome, recordOf, apply, newcomer, startQuestions, begin, start, view, viewed, viewQuestions, admissionOf, admissionNumber}
 use Rattle.hermes.specs.Frame.{bytesAfter, Changed}
 use Rattle.hermes.specs.Locality.{body}
 use Rattle.hermes.specs.Source as source
 use Rattle.hermes.specs.Source.{Vars, Sending, In, InvTaken, HInit, HReadGuard, HWriteGuard, HReplayWriteGuard, HRcvInvGuard, HRcvInv, HRcvAckGuard, HRcvValGuard, HSendValsGuard, receivedAllAcks, NodeFailureGuard, ResendGuard, Resent, greaterTS, sendInv, sendVal}
-use Rattle.hermes.specs.Conformance.{AllYes, varsOf, fiveAnd, delivered, message, Follows, ViewFollows, StartFollows, Demand2By, Demand2}
+use Rattle.hermes.specs.Conformance.{varsOf, fiveAnd, delivered, message, Follows, ViewFollows, StartFollows, Demand2By, Demand2}
 use Rattle.hermes.proofs.Tests.{both, either, is-false, or-true}
 use Rattle.hermes.proofs.Members.{Has, has-small, has-zero, within-members, members-within, others-members, members-others, with-members, members-with}
 use Rattle.hermes.proofs.Store.{value-slot, take-padded}
-use Rattle.hermes.proofs.Asked.{passed, all-passed}
-use Rattle.hermes.proofs.Steps.{next-version, five-facts, step-about}
-use Rattle.hermes.proofs.Apply.{passed-zero, refusalOf, questionsOf, ownOf, stepOf, done, Applied, refused, accepted, applied, its-own, sound-step}
+use Rattle.hermes.proofs.Guards.{all-yes, none-says-no}
+use Rattle.hermes.proofs.Steps.{next-version, step-about}
+use Rattle.hermes.proofs.Apply.{passed-zero, refusalOf, questionsOf, ownOf, stepOf, done, Applied, refused, accepted, applied, first-five, its-own, sound-step}
 use Rattle.hermes.proofs.Words.{one-in, in-one, is-state, state-is, same-ts, ts-same, later-greater, greater-later, Two, size-two, two-size}
 use Rattle.hermes.proofs.Locality.{leavingSlot, leaving-slot}
 use Rattle.hermes.proofs.Frame.{view-frame}
@@ -79,7 +79,7 @@ module _ (wins : ℕ → ℕ → Bool) (n : Node) (i : ℕ) (e : Event) (v : Lis
   acted action y c h = subst₃ action (sym (vars-seen i n short)) (sym after) (sym sent) h
     where
       short : recordOf i n .len ≤ 192
-      short = five-facts (n .me) (recordOf i n) (y .1 .1 .1 .1 .0) .short
+      short = first-five n i e v y .sound .short
 
       short′ : recordOf i (done n i s) .len ≤ 192
       short′ = rw (c .here) (sound-step wins n i e v y .after .short)
@@ -326,7 +326,7 @@ start-follows k view table store = record { accepted = (to, from); does = λ a i
     to a = begun k view table store (newcomer k view) a .asked
 
     from : AllYes questions → start k view table store .admission ≡ Admitted (newcomer k view)
-    from y = unfold start in rw (all-passed questions y)
+    from y = unfold start in rw (none-says-no questions y)
 
     inits : Begun k view table store (newcomer k view) → (i : ℕ) → i < length table
         → HInit view (varsOf i (record { me = newcomer k view; table = start k view table store .table; store = start k view table store .store }))
@@ -362,12 +362,12 @@ view-follows n epoch alive = record { accepted = (to (firstNo questions) refl, f
 
     to : (k : ℕ) → firstNo questions ≡ k → numberOf (answerOf (admissionNumber (admissionOf k next)) None) ≡ 0
         → AllYes (question1 (n .me) ∷ question3 (n .me) ∷ []) × NodeFailureGuard (n .me) epoch alive
-    to zero z a = let y : AllYes questions = passed questions refl z in ((y .0, (y .1 .0, tt)), guard y)
+    to zero z a = let y : AllYes questions = all-yes questions refl z in ((y .0, (y .1 .0, tt)), guard y)
     to (suc k) z a = absurd (omega arith)
 
     from : AllYes (question1 (n .me) ∷ question3 (n .me) ∷ []) × NodeFailureGuard (n .me) epoch alive
         → numberOf (answerOf (admissionNumber (admissionOf (firstNo questions) next)) None) ≡ 0
-    from (y, g) = rw (all-passed questions (y .0, (y .1 .0, (lt-ltb (n .me .epoch) epoch (g .later), (and-yes _ _ (members-within alive (n .me .view) (g .fewer)) (two-size alive (g .one) (g .two) (g .apart) (g .oneStays) (g .twoStays)), tt)))))
+    from (y, g) = rw (none-says-no questions (y .0, (y .1 .0, (lt-ltb (n .me .epoch) epoch (g .later), (and-yes _ _ (members-within alive (n .me .view) (g .fewer)) (two-size alive (g .one) (g .two) (g .apart) (g .oneStays) (g .twoStays)), tt)))))
 
 -- ---- the theorems
 

@@ -18,9 +18,9 @@ use Rattle.hermes.specs.Node.{Node, Outcome, recordOf, apply, read}
 use Rattle.hermes.specs.Frame.{bytesAfter, Changed}
 use Rattle.hermes.specs.Locality.{EqualAt, AnswersAlike, Locality, ReadLocality}
 use Rattle.hermes.proofs.Store.{value-slot}
-use Rattle.hermes.specs.Conformance.{AllYes}
-use Rattle.hermes.proofs.Asked.{event-passed}
-use Rattle.hermes.proofs.Steps.{SoundRecord, five-facts, About, step-about}
+use Rattle.hermes.specs.Guards.{AllYes}
+use Rattle.hermes.proofs.Guards.{event-passed}
+use Rattle.hermes.proofs.Steps.{About, step-about}
 use Rattle.hermes.proofs.Apply.{passed-zero, refusalOf, questionsOf, stepOf, done, Applied, refused, accepted, applied, sound-step}
 
 -- the bytes that leave, taken from the record's 192
@@ -78,7 +78,7 @@ unfolding readPart
 read-locality i n m q = go (refusalOf n i Read []) refl
   where
     value : (x : Node) → refusalOf x i Read [] ≡ 0 → valueAt i (recordOf i x .len) (x .store) ≡ take (recordOf i x .len) (slot i (x .store))
-    value x z = value-slot i (recordOf i x .len) (x .store) (five-facts (x .me) (recordOf i x) (event-passed (x .me) (length (x .table)) (length (x .store)) i (recordOf i x) Read 0 z .1 .1 .1 .1 .0) .short)
+    value x z = value-slot i (recordOf i x .len) (x .store) (event-passed (x .me) (length (x .table)) (length (x .store)) i (recordOf i x) Read 0 z .sound .short)
 
     same : refusalOf n i Read [] ≡ refusalOf m i Read []
     same = λ t. refusal (q .identity t) (q .count t) (q .room t) i (q .here t) Read 0

@@ -27,7 +27,7 @@ use Rattle.hermes.specs.Members.{has, size, within, othersIn, with}
 use Rattle.hermes.specs.Order.{TieOrder, later, sameTimestamp, NotAfter, rises}
 use Rattle.hermes.specs.Record.{oneOf, freshRecord, invalidatedState}
 use Rattle.hermes.specs.Store.{slot, valueAt, padded}
-use Rattle.hermes.specs.Guards.{firstNo}
+use Rattle.hermes.specs.Guards.{AllYes, firstNo}
 use Rattle.hermes.specs.Event.{Step, Stored, kept, placed, storing, ofKind, invStep, deliverStep, resent, bodyOf, sentBy, answerOf}
 use Rattle.hermes.specs.Node.{Node, Outcome, recordOf, apply, view, viewed, viewQuestions, admissionOf, admissionNumber, identity}
 use Rattle.hermes.specs.Run as run
@@ -38,10 +38,9 @@ use Rattle.hermes.proofs.Tests.{both}
 use Rattle.hermes.proofs.Members.{Has, within-members, others-members, has-zero, with-members}
 use Rattle.hermes.proofs.Order.{notAfter-refl, notAfter-total}
 use Rattle.hermes.proofs.Store.{take-padded, value-slot, slot-elsewhere}
-use Rattle.hermes.specs.Conformance.{AllYes}
-use Rattle.hermes.proofs.Asked.{passed, acked-written, validated-timestamp}
+use Rattle.hermes.proofs.Guards.{all-yes, acked-written, validated-timestamp, slot-fits}
 use Rattle.hermes.proofs.Steps.{next-version}
-use Rattle.hermes.proofs.Apply.{stepOf, ownOf, done, Applied, refused, accepted, applied, inside, full, its-own, sound-step}
+use Rattle.hermes.proofs.Apply.{stepOf, ownOf, done, Applied, refused, accepted, applied, first-five, its-own, sound-step}
 use Rattle.hermes.proofs.Protocol as protocol
 use Rattle.hermes.proofs.Protocol.{Setting, Copy, Msg, inv, ack, val, Move, stay, write, replay, rcvInv, rcvAck, rcvVal, sendVals, shrink, Honest}
 
@@ -179,7 +178,7 @@ module _ (wins : ℕ → ℕ → Bool) (issued : ℕ → ℕ) where
 
           move : Dec (i ≡ j) → Move (setting wins issued) (n .me .number) (Known i log) (copy i n) (copy i (done n j s))
           move (yes d) = rw (d, here) (g .moves)
-          move (no d) = stay (copy-there j n s c (omega (arith, inside n j e v y, full n j e v y)) i d)
+          move (no d) = stay (copy-there j n s c (omega (arith, slot-fits (first-five n j e v y))) i d)
 
 -- ---- the events
 
@@ -264,7 +263,7 @@ module _ (wins : ℕ → ℕ → Bool) (ord : TieOrder wins) (issued : ℕ → �
           (run.event (record { answer = answerOf (admissionNumber (admissionOf k to)) None; node = record { me = identity (admissionOf k to) (n .me); table = n .table; store = n .store } }))
       go zero z = record {
         number = refl;
-        moves = shrink epoch (λ m h. within-members next (n .me .view) (both (within next (n .me .view)) (leb 2 (size next)) (passed (viewQuestions (n .me) epoch next) refl z .1 .1 .1 .0) .0) m (rw (← q) at h)) (rw (← q));
+        moves = shrink epoch (λ m h. within-members next (n .me .view) (both (within next (n .me .view)) (leb 2 (size next)) (all-yes (viewQuestions (n .me) epoch next) refl z .1 .1 .1 .0) .0) m (rw (← q) at h)) (rw (← q));
         left = λ p k. inl k;
       }
       go (suc k) z = record { number = refl; moves = stay refl; left = λ p k. inl k }

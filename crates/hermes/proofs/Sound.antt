@@ -28,8 +28,8 @@ use Rattle.hermes.specs.Reads.{Sound, StaySound, ReadsTell}
 use Rattle.hermes.proofs.Tests.{both}
 use Rattle.hermes.proofs.Members.{has-zero}
 use Rattle.hermes.proofs.Store.{zeros}
-use Rattle.hermes.proofs.Asked.{passed}
-use Rattle.hermes.proofs.Steps.{facts-five}
+use Rattle.hermes.proofs.Guards.{all-yes}
+use Rattle.hermes.proofs.Steps.{sound-yes}
 use Rattle.hermes.proofs.Apply.{passed-zero, refusalOf, stepOf, done, Applied, refused, accepted, applied, its-own, sound-step}
 use Rattle.hermes.proofs.Words.{is-state}
 use Rattle.hermes.proofs.Start.{Begun, begun, lowest-small}
@@ -54,7 +54,7 @@ module _ (wins : ℕ → ℕ → Bool) (count k : ℕ) where
       })
         where
           fifth : (i : ℕ) → i < count → Dec (i ≡ j) → question5 (n .me) (recordOf i (done n j s)) .yes ≡ true
-          fifth i h (yes d) = rw (d, c .here) (facts-five (n .me) (s .after) (sound-step wins n j e v y .after))
+          fifth i h (yes d) = rw (d, c .here) (sound-yes (n .me) (s .after) (sound-step wins n j e v y .after))
           fifth i h (no d) = rw (c .others i d) (ok .fifth i h)
 
   viewed-sound : (n : Node) → Sound count k n → (epoch next : ℕ) → Sound count k (viewed n epoch next .node)
@@ -68,7 +68,7 @@ module _ (wins : ℕ → ℕ → Bool) (count k : ℕ) where
       go zero z = record {
         number = ok .number;
         records = ok .records;
-        first = rw (both (leb (n .me .number) 15) (leb 2 (size (n .me .view))) (ok .first) .0) (both (within next (n .me .view)) (leb 2 (size next)) (passed (viewQuestions (n .me) epoch next) refl z .1 .1 .1 .0) .1);
+        first = rw (both (leb (n .me .number) 15) (leb 2 (size (n .me .view))) (ok .first) .0) (both (within next (n .me .view)) (leb 2 (size next)) (all-yes (viewQuestions (n .me) epoch next) refl z .1 .1 .1 .0) .1);
         second = ok .second;
         fifth = ok .fifth;
       }
@@ -110,7 +110,7 @@ module _ (wins : ℕ → ℕ → Bool) (count k : ℕ) where
     first = rw (b .identity) (b .asked .0);
     second = rw (f .tableAfter, b .tableAfter, f .storeAfter, b .storeAfter, length-replicate (length (f .table)) (freshRecord (lowest (issued 0))), length-replicate {A = ℕ} (length (f .store)) 0) (b .asked .1 .0);
     fifth = λ i h. rw (f .tableAfter, b .tableAfter, getD-replicate (length (f .table)) i (freshRecord (lowest (issued 0))) (freshRecord 0) (omega (arith, f .records)))
-        (facts-five (n .me) (freshRecord (lowest (issued 0))) (record { short = omega arith; tie = low; writtenTie = low; writer = low; notSelf = has-zero (n .me .number) }));
+        (sound-yes (n .me) (freshRecord (lowest (issued 0))) (record { short = omega arith; tie = low; own-tie = low; writer = low; uncounted = has-zero (n .me .number) }));
   }
     where
       b : Begun k (issued 0) (f .table) (f .store) (n .me)

@@ -1,23 +1,29 @@
 -- What an accepted fresh start leaves.
 use Prim.Native.Nat.{ℕ, zero, suc, _+_, _*_, _≤_, _<_}
 use mathlib.Core.Path.{_≡_, refl, sym, _∙_}
-use mathlib.Core.Bool.{Bool, true, false, cond, false≢true}
+use mathlib.Core.Bool.{Bool, true, false, cond, _&&_, false≢true}
 use mathlib.Core.List.{List}
 use native.Mathlib.Omega.{arith}
 use native.Mathlib.Decide.{ℕ-discrete}
+use lib.Dec.{leb, eqb}
 use lib.ListN.{length, replicate}
+use borrow.Author.Tests.{eqb-true}
 use Rattle.hermes.specs.declared.record.Record.{Record}
 use Rattle.hermes.specs.declared.event.Replica.{Replica}
 use Rattle.hermes.specs.declared.event.Admission.the-variants.{Admitted, Refused}
 use Rattle.hermes.specs.Members.{has, lowest, lowestFrom}
 use Rattle.hermes.specs.Record.{freshRecord}
 use Rattle.hermes.specs.Source.{Lowest}
-use Rattle.hermes.specs.Guards.{firstNo, question1, question2, question3}
+use Rattle.hermes.specs.Guards.{AllYes, firstNo, question2}
 use Rattle.hermes.specs.Node.{newcomer, startQuestions, begin, start}
+use Rattle.hermes.proofs.Tests.{both}
 use Rattle.hermes.proofs.Members.{Has, has-small}
 use Rattle.hermes.proofs.Store.{zeros}
-use Rattle.hermes.specs.Conformance.{AllYes}
-use Rattle.hermes.proofs.Asked.{passed, sized}
+use Rattle.hermes.proofs.Guards.{all-yes}
+
+-- question 2: the store's bytes
+pub sized : (count bytes : ℕ) → question2 count bytes .yes ≡ true → bytes ≡ 192 * count
+sized count bytes h = eqb-true bytes (192 * count) (both (leb 1 count && leb count 4096) (eqb bytes (192 * count)) h .1)
 
 pub record Begun (k view : ℕ) (table : List Record) (store : List ℕ) (me : Replica) : Type 0 where
   pub identity : me ≡ newcomer k view
@@ -35,7 +41,7 @@ begun k view table store me a = go (firstNo (startQuestions (newcomer k view) (l
       identity = cc;
       tableAfter = rw e;
       storeAfter = rw e;
-      asked = passed (startQuestions (newcomer k view) (length table) (length store)) refl e;
+      asked = all-yes (startQuestions (newcomer k view) (length table) (length store)) refl e;
     }
     go (suc z) e a = let q : _≡_ {A = ℕ} 0 1 = cc in absurd (omega arith)
 

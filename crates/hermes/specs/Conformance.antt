@@ -2,7 +2,7 @@
 -- source's action; refused, nothing moves and nothing leaves.
 use Prim.Native.Nat.{ℕ, _<_}
 use mathlib.Core.Path.{_≡_}
-use mathlib.Core.Bool.{Bool, true}
+use mathlib.Core.Bool.{Bool}
 use mathlib.Core.Logic.{_≢_, _↔_}
 use mathlib.Core.List.{List, [], _∷_}
 use lib.ListN.{length}
@@ -18,7 +18,7 @@ use Rattle.hermes.specs.declared.event.Event.the-variants.{Read, Write, 
 use Rattle.hermes.specs.declared.event.Admission.the-variants.{Admitted}
 use Rattle.hermes.specs.Members.{has}
 use Rattle.hermes.specs.Order.{higher}
-use Rattle.hermes.specs.Guards.{Question, ask, question1, question2, question3, question4, question5, question8, question10, question11, question12}
+use Rattle.hermes.specs.Guards.{Question, AllYes, ask, question1, question2, question3, question4, question5, question8, question10, question11, question12}
 use Rattle.hermes.specs.Event.{numberOf, sentBy}
 use Rattle.hermes.specs.Node.{Node, recordOf, valueOf, apply, viewed, newcomer, start}
 use Rattle.hermes.specs.Locality.{body}
@@ -44,11 +44,6 @@ use Rattle.hermes.specs.Source.{
   ResendGuard,
   Resent,
 }
-
--- all of these questions say yes
-abbrev pub AllYes : List Question → Type 0
-AllYes [] = Unit
-AllYes (q ∷ qs) = (q .yes ≡ true) × AllYes qs
 
 -- the source's variables of record i
 abbrev pub varsOf : ℕ → Node → Vars
