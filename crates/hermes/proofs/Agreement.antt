@@ -1,16 +1,14 @@
 -- Demand 3: agreement over every list of entries of a group. The idea: the invariant of the protocol holds of every record once all
 -- have started fresh, and each entry keeps it.
-use Prim.Native.Nat.{ℕ, zero, suc, _*_, _<_}
+use Prim.Native.Nat.{ℕ, _<_}
 use mathlib.Core.Path.{_≡_, refl, sym, ap, ap₂, subst, _∙_}
 use mathlib.Core.Bool.{Bool, true, false, cond, false≢true}
 use mathlib.Core.Logic.{_⊎_, _≢_}
 use mathlib.Core.List.{List, [], _∷_, _++_, List·Memᴰ·not-nil}
 use native.Mathlib.Omega.{arith}
 use native.Mathlib.Decide.{ℕ-discrete}
-use lib.Dec.{eqb}
-use lib.ListN.{length, replicate, getD, getD-replicate}
+use lib.ListN.{length, getD-replicate}
 use borrow.Author.Tests.{eq-eqb, ne-eqb}
-use Rattle.hermes.specs.declared.record.Record.{Record}
 use Rattle.hermes.specs.declared.record.State.{State}
 use Rattle.hermes.specs.declared.record.State.the-variants.{Valid}
 use Rattle.hermes.specs.declared.event.Replica.{Replica}
@@ -21,10 +19,9 @@ use Rattle.hermes.specs.Record.{oneOf, freshRecord, validated}
 use Rattle.hermes.specs.Store.{slot, padded}
 use Rattle.hermes.specs.Event.{numberOf}
 use Rattle.hermes.specs.Node.{Node, Outcome, recordOf, apply, newcomer}
-use Rattle.hermes.specs.Run as run
-use Rattle.hermes.specs.Run.{Action, Entry, Group, Result, nodeAfter, logAfter, perform, result, advance, run}
-use Rattle.hermes.specs.Agreement.{FreshStart, Started, AsIssued, Entries, Sees, Shows, Alike, IsAccepted, Validation, validates, Agreement, Demand3By, Demand3}
-use Rattle.hermes.proofs.Members.{Has, has-zero}
+use Rattle.hermes.specs.Run.{Entry, Group, nodeAfter, result, advance, run}
+use Rattle.hermes.specs.Agreement.{FreshStart, Started, AsIssued, Entries, Sees, Shows, Alike, Validation, validates, Agreement, Demand3By, Demand3}
+use Rattle.hermes.proofs.Members.{has-zero}
 use Rattle.hermes.proofs.Order.{higher-order, notAfter-refl, notAfter-trans}
 use Rattle.hermes.proofs.Store.{zeros, slot-zero}
 use Rattle.hermes.proofs.Start.{sized, Begun, begun}

@@ -1,9 +1,8 @@
 -- What an event on a record comes to: refused, and nothing has changed; or every question said yes, and its step is done.
-use Prim.Native.Nat.{ℕ, zero, suc, _+_, _*_, _≤_, _<_}
+use Prim.Native.Nat.{ℕ, zero, suc, _+_, _*_, _≤_}
 use mathlib.Core.Path.{_≡_, refl, ap}
 use mathlib.Core.Bool.{Bool}
 use mathlib.Core.List.{List}
-use native.Mathlib.Omega.{arith}
 use lib.ListN.{length, set, take, drop, length-set}
 use lib.Seq.{set-getD, getD-set-same, getD-set-other}
 use Rattle.hermes.specs.declared.event.Event.{Event}
@@ -11,7 +10,7 @@ use Rattle.hermes.specs.declared.event.Answer.the-variants.{Accepted, Re
 use Rattle.hermes.specs.declared.record.Record.{Record}
 use Rattle.hermes.specs.Guards.{Question, AllYes}
 use Rattle.hermes.specs.Record.{freshRecord}
-use Rattle.hermes.specs.Event.{Stored, kept, placed, Step, common, own, refusal, step, storing, decide, effect}
+use Rattle.hermes.specs.Event.{Stored, kept, placed, Step, common, own, refusal, step, storing, effect}
 use Rattle.hermes.specs.Node.{Node, Outcome, recordOf, apply}
 use Rattle.hermes.specs.Store.{slot}
 use Rattle.hermes.specs.Frame.{bytesAfter, Changed}

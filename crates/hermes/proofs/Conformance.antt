@@ -1,14 +1,14 @@
 -- Demand 2: every event is the source's action. The idea: its questions are document 01's own and the action's guard, one by one; and its
 -- step, read as the source's variables, is the action's effect.
-use Prim.Native.Nat.{ℕ, zero, suc, _+_, _≤_, _<_}
+use Prim.Native.Nat.{ℕ, zero, suc, _≤_, _<_}
 use mathlib.Core.Path.{_≡_, refl, sym, ap, subst₃, _∙_}
 use mathlib.Core.Bool.{Bool, true, false, not, _&&_, _||_, false≢true}
 use mathlib.Core.Logic.{_⊎_, inl, inr, _≢_, _↔_}
 use mathlib.Core.List.{List, [], _∷_}
 use native.Mathlib.Omega.{arith}
 use native.Mathlib.Decide.{ℕ-discrete}
-use lib.Dec.{ltb, leb, eqb}
-use lib.ListN.{length, take, replicate, getD-replicate}
+use lib.Dec.{leb, eqb}
+use lib.ListN.{length, take, getD-replicate}
 use borrow.Author.Tests.{ltb-true, eqb-true, eqb-false, lt-ltb, eq-eqb, ne-eqb, not-true}
 use Rattle.hermes.specs.declared.timestamp.Timestamp.{Timestamp}
 use Rattle.hermes.specs.declared.record.Record.{Record}
@@ -16,8 +16,7 @@ use Rattle.hermes.specs.declared.record.State.{State}
 use Rattle.hermes.specs.declared.record.State.the-variants as state
 use Rattle.hermes.specs.declared.message.Message.{Message}
 use Rattle.hermes.specs.declared.message.Message.the-variants.{Inv, Ack, Val}
-use Rattle.hermes.specs.declared.message.Outgoing.{Outgoing}
-use Rattle.hermes.specs.declared.message.Outgoing.the-variants.{None, Sent}
+use Rattle.hermes.specs.declared.message.Outgoing.the-variants.{None}
 use Rattle.hermes.specs.declared.event.Replica.{Replica}
 use Rattle.hermes.specs.declared.event.Event.{Event}
 use Rattle.hermes.specs.declared.event.Event.the-variants.{Read, Write, Replay, Deliver, Validate, Resend}
@@ -25,21 +24,21 @@ use Rattle.hermes.specs.declared.event.Admission.the-variants.{Admitted}
 use Rattle.hermes.specs.Members.{has, size, within, othersIn, with, lowest}
 use Rattle.hermes.specs.Order.{higher, later, sameTimestamp}
 use Rattle.hermes.specs.Record.{oneOf, invalidatedState, freshRecord}
-use Rattle.hermes.specs.Store.{slot, valueAt}
+use Rattle.hermes.specs.Store.{slot}
 use Rattle.hermes.specs.Guards.{Question, AllYes, ask, firstNo, question1, question3, question8, question10, question11, question12}
 use Rattle.hermes.specs.Event.{Step, invStep, resent, numberOf, answerOf, sentBy, leavingBody}
-use Rattle.hermes.specs.Node.{Node, Outcome, recordOf, apply, newcomer, startQuestions, begin, start, view, viewed, viewQuestions, admissionOf, admissionNumber}
+use Rattle.hermes.specs.Node.{Node, Outcome, recordOf, apply, newcomer, startQuestions, start, view, viewed, viewQuestions, admissionOf, admissionNumber}
 use Rattle.hermes.specs.Frame.{bytesAfter, Changed}
 use Rattle.hermes.specs.Locality.{body}
 use Rattle.hermes.specs.Source as source
-use Rattle.hermes.specs.Source.{Vars, Sending, In, InvTaken, HInit, HReadGuard, HWriteGuard, HReplayWriteGuard, HRcvInvGuard, HRcvInv, HRcvAckGuard, HRcvValGuard, HSendValsGuard, receivedAllAcks, NodeFailureGuard, ResendGuard, Resent, greaterTS, sendInv, sendVal}
+use Rattle.hermes.specs.Source.{Vars, Sending, In, HInit, HReadGuard, HWriteGuard, HReplayWriteGuard, HRcvInvGuard, HRcvInv, HRcvAckGuard, HRcvValGuard, HSendValsGuard, NodeFailureGuard, ResendGuard, Resent, sendInv}
 use Rattle.hermes.specs.Conformance.{varsOf, fiveAnd, delivered, message, Follows, ViewFollows, StartFollows, Demand2By, Demand2}
 use Rattle.hermes.proofs.Tests.{both, either, is-false, or-true}
 use Rattle.hermes.proofs.Members.{Has, has-small, has-zero, within-members, members-within, others-members, members-others, with-members, members-with}
 use Rattle.hermes.proofs.Store.{value-slot, take-padded}
 use Rattle.hermes.proofs.Guards.{all-yes, none-says-no}
 use Rattle.hermes.proofs.Steps.{next-version, step-about}
-use Rattle.hermes.proofs.Apply.{passed-zero, refusalOf, questionsOf, ownOf, stepOf, done, Applied, refused, accepted, applied, first-five, its-own, sound-step}
+use Rattle.hermes.proofs.Apply.{passed-zero, questionsOf, ownOf, stepOf, done, Applied, refused, accepted, applied, first-five, its-own, sound-step}
 use Rattle.hermes.proofs.Words.{one-in, in-one, is-state, state-is, same-ts, ts-same, later-greater, greater-later, Two, size-two, two-size}
 use Rattle.hermes.proofs.Locality.{leavingSlot, leaving-slot}
 use Rattle.hermes.proofs.Frame.{view-frame}

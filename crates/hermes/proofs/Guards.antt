@@ -142,14 +142,15 @@ pub record ReplayPassed (me : Replica) (count bytes i : ℕ) (r : Record) : Type
   pub gone : has (me .view) (r .writer) ≡ false
 
 module _ (me : Replica) (count bytes i : ℕ) (r : Record) where
-  -- no question says no: every answer is yes
-  pub passed : (e : Event) (n : ℕ) → refusal me count bytes i r e n ≡ 0 → AllYes (common me count bytes i r (own me r e n))
-  unfolding refusal
-  passed e n z = all-yes (common me count bytes i r (own me r e n)) (positive-own me r e n) z
-
+  -- every answer is yes: no question says no
   pub none-refuses : (e : Event) (n : ℕ) → AllYes (common me count bytes i r (own me r e n)) → refusal me count bytes i r e n ≡ 0
   unfolding refusal
   none-refuses e n y = none-says-no (common me count bytes i r (own me r e n)) y
+
+  -- and back
+  pub passed : (e : Event) (n : ℕ) → refusal me count bytes i r e n ≡ 0 → AllYes (common me count bytes i r (own me r e n))
+  unfolding refusal
+  passed e n z = all-yes (common me count bytes i r (own me r e n)) (positive-own me r e n) z
 
   pub event-passed : (e : Event) (n : ℕ) → refusal me count bytes i r e n ≡ 0 → Common me count bytes i r
   event-passed e n z = common-passed me count bytes i r (own me r e n) (passed e n z)

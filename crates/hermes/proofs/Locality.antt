@@ -14,7 +14,7 @@ use Rattle.hermes.specs.declared.event.Event.the-variants.{Read}
 use Rattle.hermes.specs.declared.event.Answer.the-variants.{Accepted, Refused}
 use Rattle.hermes.specs.Store.{slot, valueAt}
 use Rattle.hermes.specs.Event.{Step, refusal, step, partOf, readPart, bodyOf, leavingBody}
-use Rattle.hermes.specs.Node.{Node, Outcome, recordOf, apply, read}
+use Rattle.hermes.specs.Node.{Node, Outcome, recordOf, apply}
 use Rattle.hermes.specs.Frame.{bytesAfter, Changed}
 use Rattle.hermes.specs.Locality.{EqualAt, AnswersAlike, Locality, ReadLocality}
 use Rattle.hermes.proofs.Store.{value-slot}

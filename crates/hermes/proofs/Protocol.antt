@@ -4,14 +4,12 @@
 -- Nothing here knows of questions, tables, stores or bits: a set is what `Has` says of it, a cell is a length with its 192 bytes.
 use Prim.Native.Nat.{ℕ, _+_, _≤_}
 use mathlib.Core.Path.{_≡_, refl, sym, ap, _∙_}
-use mathlib.Core.Bool.{Bool, true, false, cond, _&&_, false≢true}
+use mathlib.Core.Bool.{Bool, true, false, cond, false≢true}
 use mathlib.Core.Logic.{_⊎_, inl, inr, _≢_}
 use native.Mathlib.Omega.{arith}
 use native.Mathlib.Decide.{ℕ-discrete}
-use lib.Dec.{eqb}
 use Rattle.hermes.specs.declared.timestamp.Timestamp.{Timestamp}
 use Rattle.hermes.specs.Order.{TieOrder, NotAfter, sameTimestamp}
-use Rattle.hermes.proofs.Tests.{both}
 use Rattle.hermes.proofs.Order.{same-equal, equal-same, notAfter-refl, notAfter-trans, notAfter-antisym, notAfter-version, notAfter-newer}
 
 -- what the protocol is over: the order of ties, membership in a set, the view issued for each epoch, a record's length with its bytes, and

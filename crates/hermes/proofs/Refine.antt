@@ -1,16 +1,16 @@
 -- Every entry, as each record of its replica sees it, is a move of the protocol, and what leaves is honest.
 -- The idea: a table and a store are handled once, for any step; each event is then its own move.
-use Prim.Native.Nat.{ℕ, zero, suc, _+_, _*_, _≤_, _<_}
+use Prim.Native.Nat.{ℕ, zero, suc, _*_, _≤_}
 use mathlib.Core.Path.{_≡_, refl, sym, ap, ap₂, _∙_}
-use mathlib.Core.Bool.{Bool, true, false, cond, not, _&&_, false≢true}
+use mathlib.Core.Bool.{Bool, true, false, false≢true}
 use mathlib.Core.Logic.{_⊎_, inl, inr, _≢_}
-use mathlib.Core.List.{List, [], _∷_, _++_, List·Memᴰ, List·Memᴰ·head, List·Memᴰ·tail, List·Memᴰ·append-cases, List·Memᴰ·eq-of-singleton}
+use mathlib.Core.List.{List, [], _∷_, List·Memᴰ, List·Memᴰ·head, List·Memᴰ·tail, List·Memᴰ·append-cases, List·Memᴰ·eq-of-singleton}
 use native.Mathlib.Omega.{arith}
 use native.Mathlib.Decide.{ℕ-discrete}
-use lib.Dec.{ltb, leb, eqb}
-use lib.ListN.{length, take, getD, set}
+use lib.Dec.{leb}
+use lib.ListN.{length, take}
 use borrow.Author.Needs.{needs}
-use borrow.Author.Tests.{leb-true, eqb-true, ltb-true}
+use borrow.Author.Tests.{eqb-true}
 use Rattle.hermes.specs.declared.timestamp.Timestamp.{Timestamp}
 use Rattle.hermes.specs.declared.record.Record.{Record}
 use Rattle.hermes.specs.declared.record.State.{State}
@@ -23,12 +23,12 @@ use Rattle.hermes.specs.declared.message.Outgoing.the-variants.{None, Se
 use Rattle.hermes.specs.declared.event.Replica.{Replica}
 use Rattle.hermes.specs.declared.event.Event.{Event}
 use Rattle.hermes.specs.declared.event.Event.the-variants.{Read, Write, Replay, Deliver, Validate, Resend}
-use Rattle.hermes.specs.Members.{has, size, within, othersIn, with}
-use Rattle.hermes.specs.Order.{TieOrder, later, sameTimestamp, NotAfter, rises}
-use Rattle.hermes.specs.Record.{oneOf, freshRecord, invalidatedState}
+use Rattle.hermes.specs.Members.{size, within, with}
+use Rattle.hermes.specs.Order.{TieOrder, later, NotAfter, rises}
+use Rattle.hermes.specs.Record.{oneOf, invalidatedState}
 use Rattle.hermes.specs.Store.{slot, valueAt, padded}
 use Rattle.hermes.specs.Guards.{AllYes, firstNo}
-use Rattle.hermes.specs.Event.{Step, Stored, kept, placed, storing, ofKind, invStep, deliverStep, resent, bodyOf, sentBy, answerOf}
+use Rattle.hermes.specs.Event.{Step, storing, ofKind, invStep, deliverStep, resent, bodyOf, answerOf}
 use Rattle.hermes.specs.Node.{Node, Outcome, recordOf, apply, view, viewed, viewQuestions, admissionOf, admissionNumber, identity}
 use Rattle.hermes.specs.Run as run
 use Rattle.hermes.specs.Run.{Logged, Action, Result, Found, find, received, delivery, perform, nodeAfter, logged, logAfter}
@@ -41,7 +41,6 @@ use Rattle.hermes.proofs.Store.{take-padded, value-slot, slot-elsewhere
 use Rattle.hermes.proofs.Guards.{all-yes, acked-written, validated-timestamp, slot-fits}
 use Rattle.hermes.proofs.Steps.{next-version}
 use Rattle.hermes.proofs.Apply.{stepOf, ownOf, done, Applied, refused, accepted, applied, first-five, its-own, sound-step}
-use Rattle.hermes.proofs.Protocol as protocol
 use Rattle.hermes.proofs.Protocol.{Setting, Copy, Msg, inv, ack, val, Move, stay, write, replay, rcvInv, rcvAck, rcvVal, sendVals, shrink, Honest}
 
 -- ---- a replica's record as a copy of the protocol

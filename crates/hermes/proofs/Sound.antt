@@ -1,33 +1,30 @@
 -- The replicas of a group stay sound along every list of entries; so a replica in its own view answers a read with 0 exactly where it
 -- shows the record valid.
-use Prim.Native.Nat.{ℕ, zero, suc, _+_, _*_, _≤_, _<_}
+use Prim.Native.Nat.{ℕ, zero, suc, _≤_, _<_}
 use mathlib.Core.Path.{_≡_, refl, sym, ap, _∙_}
-use mathlib.Core.Bool.{Bool, true, false, false≢true}
-use mathlib.Core.Logic.{_≢_, _↔_}
+use mathlib.Core.Bool.{Bool, true}
+use mathlib.Core.Logic.{_↔_}
 use mathlib.Core.List.{List, [], _∷_}
 use native.Mathlib.Omega.{arith}
 use native.Mathlib.Decide.{ℕ-discrete}
-use lib.Dec.{ltb, leb, eqb}
+use lib.Dec.{leb}
 use lib.ListN.{length, length-replicate, getD-replicate}
-use borrow.Author.Tests.{leb-true, le-leb, lt-ltb}
-use Rattle.hermes.specs.declared.record.State.{State}
+use borrow.Author.Tests.{lt-ltb}
 use Rattle.hermes.specs.declared.record.State.the-variants as state
-use Rattle.hermes.specs.declared.message.Outgoing.the-variants.{None}
 use Rattle.hermes.specs.declared.event.Replica.{Replica}
 use Rattle.hermes.specs.declared.event.Event.{Event}
 use Rattle.hermes.specs.declared.event.Event.the-variants.{Read, Write, Replay, Deliver, Validate, Resend}
-use Rattle.hermes.specs.Members.{has, size, within, lowest}
-use Rattle.hermes.specs.Record.{oneOf, freshRecord}
-use Rattle.hermes.specs.Guards.{firstNo, question1, question2, question3, question5}
-use Rattle.hermes.specs.Event.{Step, refusal, numberOf}
-use Rattle.hermes.specs.Node.{Node, Outcome, recordOf, apply, newcomer, view, viewed, viewQuestions, admissionOf, admissionNumber, identity}
+use Rattle.hermes.specs.Members.{size, within, lowest}
+use Rattle.hermes.specs.Record.{freshRecord}
+use Rattle.hermes.specs.Guards.{firstNo, question5}
+use Rattle.hermes.specs.Event.{Step, numberOf}
+use Rattle.hermes.specs.Node.{Node, Outcome, recordOf, apply, view, viewed, viewQuestions, admissionOf, identity}
 use Rattle.hermes.specs.Run as run
 use Rattle.hermes.specs.Run.{Action, Entry, Group, Logged, Found, find, received, delivery, perform, nodeAfter, result, advance, run}
-use Rattle.hermes.specs.Agreement.{FreshStart, Started, Entries, Sees, Shows, after}
+use Rattle.hermes.specs.Agreement.{FreshStart, Sees, Shows, after}
 use Rattle.hermes.specs.Reads.{Sound, StaySound, ReadsTell}
 use Rattle.hermes.proofs.Tests.{both}
 use Rattle.hermes.proofs.Members.{has-zero}
-use Rattle.hermes.proofs.Store.{zeros}
 use Rattle.hermes.proofs.Guards.{all-yes}
 use Rattle.hermes.proofs.Steps.{sound-yes}
 use Rattle.hermes.proofs.Apply.{passed-zero, refusalOf, stepOf, done, Applied, refused, accepted, applied, its-own, sound-step}

@@ -10,7 +10,7 @@ use lib.ListN.{length, replicate}
 use borrow.Author.Tests.{eqb-true}
 use Rattle.hermes.specs.declared.record.Record.{Record}
 use Rattle.hermes.specs.declared.event.Replica.{Replica}
-use Rattle.hermes.specs.declared.event.Admission.the-variants.{Admitted, Refused}
+use Rattle.hermes.specs.declared.event.Admission.the-variants.{Admitted}
 use Rattle.hermes.specs.Members.{has, lowest, lowestFrom}
 use Rattle.hermes.specs.Record.{freshRecord}
 use Rattle.hermes.specs.Source.{Lowest}

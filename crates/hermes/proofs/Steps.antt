@@ -1,9 +1,9 @@
 -- An accepted step leaves a sound record (question 5) and stores a value of at most 192 bytes.
-use Prim.Native.Nat.{ℕ, _+_, _≤_, _<_}
-use mathlib.Core.Path.{_≡_, refl, sym, ap, _∙_}
-use mathlib.Core.Bool.{Bool, true, false, not, _&&_, false≢true}
+use Prim.Native.Nat.{ℕ, _+_, _≤_}
+use mathlib.Core.Path.{_≡_, refl, sym, _∙_}
+use mathlib.Core.Bool.{Bool, true, false, not, false≢true}
 use mathlib.Core.Logic.{_⊎_, inl, inr}
-use mathlib.Core.List.{List, []}
+use mathlib.Core.List.{List}
 use native.Mathlib.Omega.{arith}
 use lib.Dec.{ltb, leb, eqb}
 use lib.ListN.{length}
@@ -20,7 +20,7 @@ use Rattle.hermes.specs.declared.message.Outgoing.the-variants.{None, Se
 use Rattle.hermes.specs.declared.event.Replica.{Replica}
 use Rattle.hermes.specs.declared.event.Event.{Event}
 use Rattle.hermes.specs.declared.event.Event.the-variants.{Read, Write, Replay, Deliver, Validate, Resend}
-use Rattle.hermes.specs.Members.{has, size, with}
+use Rattle.hermes.specs.Members.{has}
 use Rattle.hermes.specs.Order.{later}
 use Rattle.hermes.specs.Record.{nextVersion}
 use Rattle.hermes.specs.Guards.{AllYes, question5, shapely}

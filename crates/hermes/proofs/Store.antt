@@ -6,7 +6,7 @@ use mathlib.Core.List.{List, _++_, append-assoc}
 use native.Mathlib.Omega.{arith}
 use native.Mathlib.Decide.{decLt}
 use lib.ListN.{length, take, drop, replicate, length-append, length-take, length-drop, length-replicate, take-append-drop, replicate-append-replicate}
-use lib.Seq.{take-at, drop-at, take-append-le, drop-append-le, drop-append-add, drop-drop, take-append-seam, take-take}
+use lib.Seq.{take-at, drop-at, take-append-le, drop-append-le, drop-drop, take-append-seam, take-take}
 use Rattle.hermes.specs.Store.{slot, valueAt, padded, place}
 
 pub length-padded : (v : List ℕ) → length v ≤ 192 → length (padded v) ≡ 192

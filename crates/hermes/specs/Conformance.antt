@@ -12,7 +12,6 @@ use Rattle.hermes.specs.declared.message.Message.{Message}
 use Rattle.hermes.specs.declared.message.Message.the-variants.{Inv, Ack, Val}
 use Rattle.hermes.specs.declared.message.Outgoing.the-variants.{None}
 use Rattle.hermes.specs.declared.message.Received.{Received}
-use Rattle.hermes.specs.declared.event.Replica.{Replica}
 use Rattle.hermes.specs.declared.event.Event.{Event}
 use Rattle.hermes.specs.declared.event.Event.the-variants.{Read, Write, Replay, Deliver, Validate, Resend}
 use Rattle.hermes.specs.declared.event.Admission.the-variants.{Admitted}
@@ -22,28 +21,7 @@ use Rattle.hermes.specs.Guards.{Question, AllYes, ask, question1, questi
 use Rattle.hermes.specs.Event.{numberOf, sentBy}
 use Rattle.hermes.specs.Node.{Node, recordOf, valueOf, apply, viewed, newcomer, start}
 use Rattle.hermes.specs.Locality.{body}
-use Rattle.hermes.specs.Source.{
-  Vars,
-  Sending,
-  HInit,
-  HReadGuard,
-  HRead,
-  HWriteGuard,
-  HWrite,
-  HReplayWriteGuard,
-  HReplayWrite,
-  HRcvInvGuard,
-  HRcvInv,
-  HRcvAckGuard,
-  HRcvAck,
-  HRcvValGuard,
-  HRcvVal,
-  HSendValsGuard,
-  HSendVals,
-  NodeFailureGuard,
-  ResendGuard,
-  Resent,
-}
+use Rattle.hermes.specs.Source.{Vars, Sending, HInit, HReadGuard, HRead, HWriteGuard, HWrite, HReplayWriteGuard, HReplayWrite, HRcvInvGuard, HRcvInv, HRcvAckGuard, HRcvAck, HRcvValGuard, HRcvVal, HSendValsGuard, HSendVals, NodeFailureGuard, ResendGuard, Resent}
 
 -- the source's variables of record i
 abbrev pub varsOf : ℕ → Node → Vars
