@@ -1,0 +1,115 @@
+// The reader.
+ghost use mathlib.Core.Path.{_≡_};
+ghost use Prim.Native.Nat.{_+_, _*_, _≤_};
+ghost use lib.ListN.{length, take, drop};
+ghost use Rattle.packet.specs.Reading.{question20, Scanned, fetched, bodyOf};
+use crate::answer::Fetched;
+use crate::entry::Fields;
+use crate::entry::entry_of;
+use crate::entry::fields_of;
+use crate::numbers::num2;
+
+// What one walk of the contents table finds: whether every entry is good, and the fields of the entry looked for.
+pub struct Scan {
+    pub good: bool,
+    pub fields: Fields,
+}
+
+// Question 20.
+fn header_good(packet: &[u8]) -> bool
+    ensures { λ r. ⌜ r ≡ question20 (now (packet .entry)) .yes ⌝ }
+{
+    let n = packet.len();
+    if n < 4 {
+        return false;
+    }
+    let total = num2(packet[2], packet[3]);
+    (packet[0] == 1) & (1 <= packet[1]) & (packet[1] <= 64) & (total == n) & (n <= 1400)
+}
+
+// Question 22, and the fields of entry i, in one walk of the contents table.
+fn scan_table(packet: &[u8], count: usize, i: usize) -> Scan
+    requires { ⌜ (count ≤ 64) × (4 + 16 * count ≤ length (now packet)) ⌝ }
+    ensures { λ r. ⌜ Scanned (now (packet .entry)) count i r ⌝ }
+{
+    let mut k = 0;
+    let mut pos: usize = 4;
+    let mut at: usize = 4 + 16 * count;
+    let mut found = Fields {
+        kind: 0,
+        sender: 0,
+        epoch: 0,
+        index: 0,
+        version: 0,
+        tie: 0,
+        offset: 0,
+        len: 0,
+    };
+    while k < count {
+        let f = fields_of(&packet[pos..]);
+        let good = f.good() & (f.offset == at);
+        if !good {
+            return Scan {
+                good: false,
+                fields: found,
+            };
+        }
+        if k == i {
+            found = f;
+        }
+        at = at + f.len as usize;
+        pos = pos + 16;
+        k = k + 1;
+    }
+    Scan {
+        good: at == packet.len(),
+        fields: found,
+    }
+}
+
+// Message i of a packet, for every byte string and every i.
+pub fn fetch(packet: &[u8], i: usize) -> Fetched
+    ensures { λ r. ⌜ r ≡ fetched (now (packet .entry)) i ⌝ }
+{
+    if !header_good(packet) {
+        return Fetched::Refused(20);
+    }
+    let count = packet[1] as usize;
+    if packet.len() < 4 + 16 * count {
+        return Fetched::Refused(21);
+    }
+    let scan = scan_table(packet, count, i);
+    if !scan.good {
+        return Fetched::Refused(22);
+    }
+    if count <= i {
+        return Fetched::Refused(23);
+    }
+    let f = scan.fields;
+    let entry = entry_of(f);
+    Fetched::Found(entry, f.offset)
+}
+
+// The body that goes with an answer to a fetch from this packet.
+pub fn body(packet: &[u8], fetched: Fetched) -> &[u8]
+    ensures { λ r. ⌜ now r ≡ bodyOf (now (packet .entry)) fetched ⌝ }
+{
+    match fetched {
+        Fetched::Found(entry, at) => part(packet, at, entry.len as usize),
+        Fetched::Refused(_) => &packet[..0],
+    }
+}
+
+// The `len` bytes from `start` on, or as many of them as there are.
+fn part(packet: &[u8], start: usize, len: usize) -> &[u8]
+    ensures { λ r. ⌜ now r ≡ take len (drop start (now (packet .entry))) ⌝ }
+{
+    let n = packet.len();
+    if n < start {
+        return &packet[..0];
+    }
+    if n - start < len {
+        return &packet[start..];
+    }
+    &packet[start..start + len]
+}
