@@ -32,7 +32,9 @@ pub struct Fields {
 impl Fields {
     // The kinds: INV is the first, VAL the last.
     pub const INV: u8 = 1;
+
     pub const ACK: u8 = 2;
+
     pub const VAL: u8 = 3;
 
     // The greatest number of a record.
