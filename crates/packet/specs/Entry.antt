@@ -1,9 +1,9 @@
 -- An entry of the contents table: its 16 bytes, its fields, and the message that they stand for (01, "Packets").
-use Prim.Native.Nat.{ℕ}
+use Prim.Native.Nat.{ℕ, zero, suc, _^_, _<_}
 use mathlib.Core.Bool.{Bool, cond, _&&_, _||_}
 use mathlib.Core.List.{List, [], _∷_, _++_}
 use lib.Dec.{leb, eqb}
-use lib.ListN.{getD}
+use lib.ListN.{drop, getD}
 use Rattle.hermes.specs.declared.timestamp.Timestamp.{Timestamp}
 use Rattle.hermes.specs.declared.message.Message.{Message}
 use Rattle.hermes.specs.declared.message.Message.the-variants.{Inv, Ack, Val}
@@ -76,3 +76,24 @@ bodied f = eqb (f .kind) 1 || eqb (f .len) 0
 -- 01, question 22: kind known, sender and tie-breaker at most 15, record at most 4,095, length at most 192 and 0 unless INV
 unfoldable pub good : Fields → Bool
 good f = known f && leb (f .sender) 15 && leb (f .tie) 15 && leb (f .index) 4095 && leb (f .len) 192 && bodied f
+
+-- the first n messages of a contents table
+unfoldable pub entriesOf : ℕ → List ℕ → List Entry
+entriesOf zero q = []
+entriesOf (suc n) q = entryOf (fieldsOf q) ∷ entriesOf n (drop 16 q)
+
+-- no message: what stands past the end of a list of them
+abbrev pub noEntry : Entry
+noEntry = record {
+  header = record { sender = 0; epoch = 0; index = 0 };
+  message = Inv (record { version = 0; tie = 0 });
+  len = 0;
+}
+
+-- 01, "epoch (4)", "version (4)": both fit 32 bits, as every u32 does
+pub record Fits (e : Entry) : Type 0 where
+  pub epoch : e .header .epoch < 256 ^ 4
+  pub version : timestampOf (e .message) .version < 256 ^ 4
+
+abbrev pub AllFit : List Entry → Type 0
+AllFit es = (i : ℕ) → Fits (getD es i noEntry)

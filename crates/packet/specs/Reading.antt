@@ -12,7 +12,7 @@ use Rattle.packet.specs.declared.answer.Fetched.{Fetched}
 use Rattle.packet.specs.declared.answer.Fetched.the-variants.{Found, Refused}
 use Rattle.packet.specs.declared.reader.Scan.{Scan}
 use Rattle.packet.specs.Bytes.{num, window}
-use Rattle.packet.specs.Entry.{fieldsOf, entryOf, good}
+use Rattle.packet.specs.Entry.{fieldsOf, entryOf, entriesOf, good}
 
 -- 01, "byte 1 the count of messages"
 abbrev pub countOf : List ℕ → ℕ
@@ -21,6 +21,13 @@ countOf p = getD p 1 0
 -- where entry i begins; for the count, where the contents table ends and the first body begins
 abbrev pub entryAt : ℕ → ℕ
 entryAt i = 4 + 16 * i
+
+-- the messages of a packet, and their bodies end to end
+abbrev pub messagesIn : List ℕ → List Entry
+messagesIn p = entriesOf (countOf p) (drop 4 p)
+
+abbrev pub bodiesIn : List ℕ → List ℕ
+bodiesIn p = drop (entryAt (countOf p)) p
 
 -- 20: at least 4 bytes, byte 0 is 1, count 1 to 64, total equal to the bytes lent and at most 1,400?
 abbrev pub question20 : List ℕ → Question
