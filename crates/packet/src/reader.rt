@@ -7,6 +7,11 @@ use crate::answer::Fetched;
 use crate::entry::Fields;
 use crate::entry::entry_of;
 use crate::entry::fields_of;
+use crate::layout::COUNT_MAX;
+use crate::layout::ENTRY_BYTES;
+use crate::layout::HEADER_BYTES;
+use crate::layout::RULE;
+use crate::layout::TOTAL_MAX;
 use crate::numbers::num2;
 
 // What one walk of the contents table finds: whether every entry is good, and the fields of the entry looked for.
@@ -20,11 +25,12 @@ fn header_good(packet: &[u8]) -> bool
     ensures { λ r. ⌜ r ≡ question20 (now (packet .entry)) .yes ⌝ }
 {
     let n = packet.len();
-    if n < 4 {
+    if n < HEADER_BYTES {
         return false;
     }
+    let count = packet[1] as usize;
     let total = num2(packet[2], packet[3]);
-    (packet[0] == 1) & (1 <= packet[1]) & (packet[1] <= 64) & (total == n) & (n <= 1400)
+    (packet[0] == RULE) & (1 <= count) & (count <= COUNT_MAX) & (total == n) & (n <= TOTAL_MAX)
 }
 
 // Question 22, and the fields of entry i, in one walk of the contents table.
@@ -33,8 +39,8 @@ fn scan_table(packet: &[u8], count: usize, i: usize) -> Scan
     ensures { λ r. ⌜ Scanned (now (packet .entry)) count i r ⌝ }
 {
     let mut k = 0;
-    let mut pos: usize = 4;
-    let mut at: usize = 4 + 16 * count;
+    let mut pos = HEADER_BYTES;
+    let mut at = HEADER_BYTES + ENTRY_BYTES * count;
     let mut found = Fields {
         kind: 0,
         sender: 0,
@@ -58,7 +64,7 @@ fn scan_table(packet: &[u8], count: usize, i: usize) -> Scan
             found = f;
         }
         at = at + f.len as usize;
-        pos = pos + 16;
+        pos = pos + ENTRY_BYTES;
         k = k + 1;
     }
     Scan {
@@ -75,7 +81,7 @@ pub fn fetch(packet: &[u8], i: usize) -> Fetched
         return Fetched::Refused(20);
     }
     let count = packet[1] as usize;
-    if packet.len() < 4 + 16 * count {
+    if packet.len() < HEADER_BYTES + ENTRY_BYTES * count {
         return Fetched::Refused(21);
     }
     let scan = scan_table(packet, count, i);

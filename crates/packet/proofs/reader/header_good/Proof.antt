@@ -1,3 +1,4 @@
+use native.Mathlib.Omega.{arith}
 use borrow.Author.Tests.{lt-leb}
 use Rattle.packet.proofs.Reading.{header-rest}
 use borrow.Author.Needs.{needs}
@@ -7,47 +8,47 @@ use Rattle.packet.proofs.reader.header_good.Reads as reads
 use Rattle.packet.proofs.reader.header_good.Lts as lts
 use Rattle.packet.proofs.numbers.num2.Reads as num2-reads
 
--- src/reader.rt:24:9
+-- src/reader.rt:29:9
 returns : tie.Need-returns
 returns c = simp (lt-leb _ _ (c .if1 .taken))
 
--- src/reader.rt:26:22
+-- src/reader.rt:31:17
+shared-slice-read-count : tie.Need-shared-slice-read-count
+shared-slice-read-count c = search needs
+
+-- src/reader.rt:31:17
+cast-count : tie.Need-cast-count
+cast-count c = omega (arith, c .shared-slice-known2 .given 1)
+
+-- src/reader.rt:32:22
 shared-slice-read-num2 : tie.Need-shared-slice-read-num2
 shared-slice-read-num2 c = search needs
 
--- src/reader.rt:26:33
+-- src/reader.rt:32:33
 shared-slice-read-num2-2 : tie.Need-shared-slice-read-num2-2
 shared-slice-read-num2-2 c = search needs
 
--- src/reader.rt:26:9
+-- src/reader.rt:32:9
 num2-requires : tie.Need-num2-requires
 num2-requires c κs = search needs
 
--- src/reader.rt:27:6
+-- src/reader.rt:33:6
 shared-slice-read-result : tie.Need-shared-slice-read-result
 shared-slice-read-result c = search needs
 
--- src/reader.rt:27:30
-shared-slice-read-result-2 : tie.Need-shared-slice-read-result-2
-shared-slice-read-result-2 c = search needs
-
--- src/reader.rt:27:44
-shared-slice-read-result-3 : tie.Need-shared-slice-read-result-3
-shared-slice-read-result-3 c = search needs
-
--- src/reader.rt:19:1
+-- src/reader.rt:24:1
 returns-2 : tie.Need-returns-2
-returns-2 c = header-rest (c .before .before .before .before .before .before .before .before .args .packet .now) (c .before .before .before .num2 .result) (c .before .before .before .before .before .before .if1 .left) (c .before .before .before .num2 .ensures)
+returns-2 c = header-rest (c .before .before .before .before .before .before .before .args .packet .now) (c .before .num2 .result) (c .before .before .before .before .before .if1 .left) (c .before .num2 .ensures)
 
 pub header-good-spec : {M : Type 1} → statement M
 header-good-spec =
     tie.close
     (tie.spec
     returns
+    shared-slice-read-count
+    cast-count
     shared-slice-read-num2
     shared-slice-read-num2-2
     num2-requires
     shared-slice-read-result
-    shared-slice-read-result-2
-    shared-slice-read-result-3
     returns-2)
