@@ -26,7 +26,7 @@ use Rattle.packet.proofs.Contents.{length-contents, length-entries, byt
 
 -- ---- what is written is read
 
-length-encode : (rule : ℕ) (es : List Entry) (bodies : List ℕ) → length (encode rule es bodies) ≡ totalOf (length es) bodies
+pub length-encode : (rule : ℕ) (es : List Entry) (bodies : List ℕ) → length (encode rule es bodies) ≡ totalOf (length es) bodies
 unfolding encode
 length-encode rule es bodies =
     let h = length-append (contents (entryAt (length es)) es) bodies in
