@@ -1,7 +1,6 @@
 -- The walk of the contents table turn by turn, and the answer of a fetch from its four questions.
 use mathlib.Core.Path.{_≡_, refl, sym, ap, _∙_}
-use mathlib.Core.Bool.{Bool, true, false, _&&_, false≢true}
-use mathlib.Core.Logic.{⊎-elim, _⊎_}
+use mathlib.Core.Bool.{Bool, true, false, _&&_}
 use mathlib.Core.List.{List}
 use Prim.Native.Nat.{ℕ, zero, suc, _+_, _*_, _-_, _≤_, _<_}
 use native.Mathlib.Nat.{not-suc-le-zero, le-of-eq}
@@ -12,11 +11,10 @@ use lib.Dec.{eqb, leb}
 use lib.ListN.{length, take, drop, getD, length-drop}
 use lib.Seq.{take-all, drop-drop}
 use Rattle.packet.specs.declared.entry.Fields.{Fields}
-use Rattle.packet.specs.declared.reader.Scan.{Scan}
 use Rattle.packet.specs.declared.answer.Fetched.the-variants.{Found, Refused}
 use Rattle.packet.specs.Bytes.{num, window}
 use Rattle.packet.specs.Entry.{fieldsOf, entryOf, good}
-use Rattle.packet.specs.Reading.{countOf, entryAt, question20, question22, walk, fetchRefusal, fetched, Scanned}
+use Rattle.packet.specs.Reading.{countOf, entryAt, question20, question22, walk, fetchRefusal, fetchedAs, fetched, numberOf}
 use Rattle.packet.proofs.Tests.{and-elim}
 
 -- a part to the end is what is left after the start
@@ -46,36 +44,18 @@ unfolding walk
 walk-done zero q at total h = refl
 walk-done (suc n) q at total h = absurd (not-suc-le-zero h)
 
--- after k entries: the next stands at pos, its body is to begin at `at`, what is left to ask of them, and the fields of entry i once it is passed
-pub record Walked (p : List ℕ) (count i k pos at : ℕ) (found : Fields) : Type 0 where
+-- after k entries: the next stands at pos, its body is to begin at `at`, and what is left to ask
+pub record Walked (p : List ℕ) (count k pos at : ℕ) : Type 0 where
   pub below : k ≤ count
   pub place : pos ≡ 4 + 16 * k
   pub small : at + 255 * (count - k) ≤ 17348
   pub rest : walk count (drop 4 p) (entryAt count) (length p) ≡ walk (count - k) (drop pos p) at (length p)
-  pub kept : i < k → found ≡ fieldsOf (drop (entryAt i) p)
 
--- entry i is kept as it is passed, and stays
-module _ (p : List ℕ) (i k pos : ℕ) (ep : pos ≡ 4 + 16 * k) where
-  pub kept-here : (x f : Fields) → f ≡ fieldsOf (take (length p - pos) (drop pos p)) → k ≡ i → x ≡ f → i < k + 1 → x ≡ fieldsOf (drop (entryAt i) p)
-  kept-here x f ef ek ex l =
-      let q : pos ≡ entryAt i = omega arith in
-      ex ∙ ef ∙ ap fieldsOf (part-to-end p pos) ∙ ap (λ (n : ℕ). fieldsOf (drop n p)) q
-
-  pub kept-before : (x y : Fields) → (i < k → y ≡ fieldsOf (drop (entryAt i) p)) → (k ≡ i → ⊥) → x ≡ y → i < k + 1 → x ≡ fieldsOf (drop (entryAt i) p)
-  kept-before x y h n ex l = ex ∙ h (before i k n l)
-    where
-      before : (i k : ℕ) → (k ≡ i → ⊥) → i < k + 1 → i < k
-      before i k n l = omega arith
-
--- the walk stopped at a bad entry
-pub stopped : (p : List ℕ) (count i : ℕ) (f : Fields) → walk count (drop 4 p) (entryAt count) (length p) ≡ false → Scanned p count i (record { good = false; fields = f })
-stopped p count i f e = record { good = sym e; found = λ h. absurd (false≢true h) }
-
--- the walk came to the end
-pub ended : (p : List ℕ) (count i k pos at : ℕ) (found : Fields) → Walked p count i k pos at found → count ≤ k → Scanned p count i (record { good = eqb at (length p); fields = found })
-ended p count i k pos at found w h =
+-- the walk's end
+pub walked-all : (p : List ℕ) (count k pos at : ℕ) → Walked p count k pos at → count ≤ k → eqb at (length p) ≡ walk count (drop 4 p) (entryAt count) (length p)
+walked-all p count k pos at w h =
     let none : count - k ≤ 0 = omega arith in
-    record { good = sym (w .rest ∙ walk-done (count - k) (drop pos p) at (length p) none); found = λ e l. w .kept (omega (arith, l)) }
+    sym (w .rest ∙ walk-done (count - k) (drop pos p) at (length p) none)
 
 -- ---- question 20
 
@@ -135,6 +115,16 @@ module _ (p : List ℕ) (i : ℕ) where
         unfolding fetched fetchRefusal
         fetch-23 e = simp (a, le-leb _ _ b, d, le-ltb _ _ e)
 
-        pub fetch-0 : i < countOf p → (f : Fields) → f ≡ fieldsOf (drop (entryAt i) p) → Found (entryOf f) (f .offset) ≡ fetched p i
+        pub fetch-0 : i < countOf p → (f : Fields) → f ≡ fieldsOf (take (length p - entryAt i) (drop (entryAt i) p)) → Found (entryOf f) (f .offset) ≡ fetched p i
         unfolding fetched fetchRefusal
-        fetch-0 l f e = simp (a, le-leb _ _ b, d, lt-ltb _ _ l) (ap (λ (x : Fields). Found (entryOf x) (x .offset)) e)
+        fetch-0 l f e =
+            simp (a, le-leb _ _ b, d, lt-ltb _ _ l) (ap (λ (x : Fields). Found (entryOf x) (x .offset)) (e ∙ ap fieldsOf (part-to-end p (entryAt i))))
+
+-- the number of an answer is that of the first question that said no
+pub fetched-number : (p : List ℕ) (i : ℕ) → numberOf (fetched p i) ≡ fetchRefusal p i
+unfolding fetched
+fetched-number p i = go (fetchRefusal p i) (fieldsOf (drop (entryAt i) p))
+  where
+    go : (k : ℕ) (f : Fields) → numberOf (fetchedAs k f) ≡ k
+    go zero f = refl
+    go (suc k) f = refl

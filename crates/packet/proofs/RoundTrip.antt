@@ -20,7 +20,7 @@ use Rattle.packet.specs.Reading.{countOf, entryAt, messagesIn, bodiesIn,
 use Rattle.packet.specs.Writing.{summed, contents, totalOf, encode, allGood, question24, question25, writeRefusal, writtenAs, written, outputOf}
 use Rattle.packet.proofs.Width.{num-be, window-drop, be-window}
 use Rattle.packet.proofs.Writing.{Accepts, accepts, accepted}
-use Rattle.packet.proofs.Reading.{Header, header, header-yes, fetch-23, fetch-0}
+use Rattle.packet.proofs.Reading.{part-to-end, Header, header, header-yes, fetch-23, fetch-0}
 use Rattle.packet.proofs.Entries.{entry-back}
 use Rattle.packet.proofs.Contents.{length-contents, length-entries, bytes-drop, fit-entries, walk-contents, entry-at, summed-take, contents-walk}
 
@@ -112,7 +112,7 @@ encode-reads-back es bodies w s =
         let e = getD es i noEntry in
         let f : fieldsOf (drop (entryAt i) p) ≡ fieldsFor e at =
         ap fieldsOf (drop-header 1 es bodies (16 * i)) ∙ entry-at es i (entryAt (length es)) bodies s (w .good) (omega (arith, w .short, w .exact)) l in
-        sym (fetch-0 p i yes20 yes21 yes22 l (fieldsFor e at) (sym f)) ∙ ap (λ (x : Entry). Found x at) (entry-back e at)
+        sym (fetch-0 p i yes20 yes21 yes22 l (fieldsFor e at) (sym (ap fieldsOf (part-to-end p (entryAt i)) ∙ f))) ∙ ap (λ (x : Entry). Found x at) (entry-back e at)
 
 -- A packet written reads back as the same messages: whatever the writer accepts, the first n bytes of its output read back as what was handed to it.
 pub written-reads-back : (ms : List Entry) (count : ℕ) (bodies out : List ℕ) (n : ℕ) → count ≤ length ms → AllFit (take count ms)

@@ -9,7 +9,7 @@ use lib.Dec.{leb, eqb}
 use lib.ListN.{length, take}
 use Rattle.packet.specs.declared.entry.Entry.{Entry}
 use Rattle.packet.specs.declared.answer.Written.the-variants.{Total}
-use Rattle.packet.specs.Writing.{summed, totalOf, allGood, question24, question25, writeRefusal, writtenAs, written}
+use Rattle.packet.specs.Writing.{summed, totalOf, allGood, question24, question25, writeRefusal, writtenAs, written, numberOf}
 use Rattle.packet.proofs.Tests.{and-elim}
 
 -- the parts of questions 24 and 25
@@ -55,3 +55,12 @@ module _ (ms : List Entry) (count : ℕ) (bodies : List ℕ) (room : ℕ) where
   unfolding written writeRefusal
   accepted a =
       simp (le-leb _ _ (a .some), le-leb _ _ (a .few), a .good, eq-eqb _ _ (a .exact), le-leb _ _ (a .short), le-leb _ _ (a .fits))
+
+-- the number of an answer is that of the first question that said no
+pub written-number : (ms : List Entry) (count : ℕ) (bodies : List ℕ) (room : ℕ) → numberOf (written ms count bodies room) ≡ writeRefusal ms count bodies room
+unfolding written
+written-number ms count bodies room = go (writeRefusal ms count bodies room) (totalOf count bodies)
+  where
+    go : (k n : ℕ) → numberOf (writtenAs k n) ≡ k
+    go zero n = refl
+    go (suc k) n = refl

@@ -1,7 +1,6 @@
 -- Reading: questions 20 to 23, the message fetched and its body (01, "Reading fetches message i").
-use Prim.Native.Nat.{ℕ, zero, suc, _+_, _*_, _<_}
-use mathlib.Core.Path.{_≡_}
-use mathlib.Core.Bool.{Bool, true, _&&_}
+use Prim.Native.Nat.{ℕ, zero, suc, _+_, _*_}
+use mathlib.Core.Bool.{Bool, _&&_}
 use mathlib.Core.List.{List, [], _∷_}
 use lib.Dec.{ltb, leb, eqb}
 use lib.ListN.{length, take, drop, getD}
@@ -10,7 +9,6 @@ use Rattle.packet.specs.declared.entry.Entry.{Entry}
 use Rattle.packet.specs.declared.entry.Fields.{Fields}
 use Rattle.packet.specs.declared.answer.Fetched.{Fetched}
 use Rattle.packet.specs.declared.answer.Fetched.the-variants.{Found, Refused}
-use Rattle.packet.specs.declared.reader.Scan.{Scan}
 use Rattle.packet.specs.Bytes.{num, window}
 use Rattle.packet.specs.Entry.{fieldsOf, entryOf, entriesOf, good}
 
@@ -74,8 +72,3 @@ numberOf (Refused k) = k
 abbrev pub bodyOf : List ℕ → Fetched → List ℕ
 bodyOf p (Found e at) = take (e .len) (drop at p)
 bodyOf p (Refused k) = []
-
--- what one walk of the contents table finds: the answer to question 22 and, where that is yes, the fields of entry i
-pub record Scanned (p : List ℕ) (count i : ℕ) (s : Scan) : Type 0 where
-  pub good : s .good ≡ walk count (drop 4 p) (entryAt count) (length p)
-  pub found : s .good ≡ true → i < count → s .fields ≡ fieldsOf (drop (entryAt i) p)

@@ -2,9 +2,8 @@
 ghost use mathlib.Core.Path.{_≡_};
 ghost use Prim.Native.Nat.{_+_, _*_, _≤_};
 ghost use lib.ListN.{length, take, drop};
-ghost use Rattle.packet.specs.Reading.{question20, Scanned, fetched, bodyOf};
+ghost use Rattle.packet.specs.Reading.{question20, walk, fetched, bodyOf};
 use crate::answer::Fetched;
-use crate::entry::Fields;
 use crate::entry::entry_of;
 use crate::entry::fields_of;
 use crate::layout::COUNT_MAX;
@@ -13,12 +12,6 @@ use crate::layout::HEADER_BYTES;
 use crate::layout::RULE;
 use crate::layout::TOTAL_MAX;
 use crate::numbers::num2;
-
-// What one walk of the contents table finds: whether every entry is good, and the fields of the entry looked for.
-pub struct Scan {
-    pub good: bool,
-    pub fields: Fields,
-}
 
 // Question 20.
 fn header_good(packet: &[u8]) -> bool
@@ -33,47 +26,28 @@ fn header_good(packet: &[u8]) -> bool
     (packet[0] == RULE) & (1 <= count) & (count <= COUNT_MAX) & (total == n) & (n <= TOTAL_MAX)
 }
 
-// Question 22, and the fields of entry i, in one walk of the contents table.
-fn scan_table(packet: &[u8], count: usize, i: usize) -> Scan
+// Question 22: one walk of the contents table.
+fn table_good(packet: &[u8], count: usize) -> bool
     requires { ⌜ (count ≤ 64) × (4 + 16 * count ≤ length (now packet)) ⌝ }
-    ensures { λ r. ⌜ Scanned (now (packet .entry)) count i r ⌝ }
+    ensures { λ r. ⌜ r ≡ walk count (drop 4 (now (packet .entry))) (4 + 16 * count) (length (now (packet .entry))) ⌝ }
 {
     let mut k = 0;
     let mut pos = HEADER_BYTES;
     let mut at = HEADER_BYTES + ENTRY_BYTES * count;
-    let mut found = Fields {
-        kind: 0,
-        sender: 0,
-        epoch: 0,
-        index: 0,
-        version: 0,
-        tie: 0,
-        offset: 0,
-        len: 0,
-    };
     while k < count {
         let f = fields_of(&packet[pos..]);
         let good = f.good() & (f.offset == at);
         if !good {
-            return Scan {
-                good: false,
-                fields: found,
-            };
-        }
-        if k == i {
-            found = f;
+            return false;
         }
         at = at + f.len as usize;
         pos = pos + ENTRY_BYTES;
         k = k + 1;
     }
-    Scan {
-        good: at == packet.len(),
-        fields: found,
-    }
+    at == packet.len()
 }
 
-// Message i of a packet, for every byte string and every i.
+// Message i of a packet, for every byte string and every i: the table is walked once, and entry i then read at its place.
 pub fn fetch(packet: &[u8], i: usize) -> Fetched
     ensures { λ r. ⌜ r ≡ fetched (now (packet .entry)) i ⌝ }
 {
@@ -84,14 +58,14 @@ pub fn fetch(packet: &[u8], i: usize) -> Fetched
     if packet.len() < HEADER_BYTES + ENTRY_BYTES * count {
         return Fetched::Refused(21);
     }
-    let scan = scan_table(packet, count, i);
-    if !scan.good {
+    if !table_good(packet, count) {
         return Fetched::Refused(22);
     }
     if count <= i {
         return Fetched::Refused(23);
     }
-    let f = scan.fields;
+    let pos = HEADER_BYTES + ENTRY_BYTES * i;
+    let f = fields_of(&packet[pos..]);
     let entry = entry_of(f);
     Fetched::Found(entry, f.offset)
 }
