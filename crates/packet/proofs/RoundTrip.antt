@@ -2,27 +2,25 @@
 -- The two theorems stand at the end; each one's claim is the record above it.
 use mathlib.Core.Path.{_≡_, refl, sym, ap, _∙_}
 use mathlib.Core.Bool.{Bool, true, false, cond}
-use mathlib.Core.List.{List, [], _∷_, _++_, append-assoc}
-use Prim.Native.Nat.{ℕ, zero, suc, _+_, _*_, _-_, _^_, _≤_, _<_}
+use mathlib.Core.List.{List, _∷_, _++_}
+use Prim.Native.Nat.{ℕ, zero, suc, _+_, _*_, _^_, _≤_, _<_}
 use native.Mathlib.Omega.{arith}
-use borrow.Author.Tests.{eq-eqb, le-leb, lt-ltb, le-ltb, leb-true, eqb-true, ltb-true}
-use lib.Dec.{leb, eqb, ltb}
+use borrow.Author.Tests.{leb-true}
 use lib.ListN.{length, take, drop, getD, length-drop, length-append}
 use lib.Seq.{drop-drop, drop-at, take-at, length-take-le}
 use Rattle.packet.specs.declared.entry.Entry.{Entry}
 use Rattle.packet.specs.declared.entry.Fields.{Fields}
-use Rattle.packet.specs.declared.answer.Fetched.{Fetched}
 use Rattle.packet.specs.declared.answer.Fetched.the-variants.{Found, Refused}
 use Rattle.packet.specs.declared.answer.Written.the-variants.{Total}
-use Rattle.packet.specs.Bytes.{be, num, window, Bytes}
-use Rattle.packet.specs.Entry.{fieldsOf, entryOf, fieldsFor, entriesOf, noEntry, AllFit}
+use Rattle.packet.specs.Bytes.{be, window, Bytes}
+use Rattle.packet.specs.Entry.{fieldsOf, fieldsFor, noEntry, AllFit}
 use Rattle.packet.specs.Reading.{countOf, entryAt, messagesIn, bodiesIn, question20, question21, question22, question23, walk, fetchRefusal, fetchedAs, fetched, bodyOf}
-use Rattle.packet.specs.Writing.{summed, contents, totalOf, encode, allGood, question24, question25, writeRefusal, writtenAs, written, outputOf}
+use Rattle.packet.specs.Writing.{summed, contents, totalOf, encode, allGood, written, outputOf}
 use Rattle.packet.proofs.Width.{num-be, window-drop, be-window}
 use Rattle.packet.proofs.Writing.{Accepts, accepts, accepted}
 use Rattle.packet.proofs.Reading.{part-to-end, Header, header, header-yes, fetch-23, fetch-0}
 use Rattle.packet.proofs.Entries.{entry-back}
-use Rattle.packet.proofs.Contents.{length-contents, length-entries, bytes-drop, fit-entries, walk-contents, entry-at, summed-take, contents-walk}
+use Rattle.packet.proofs.Contents.{length-contents, length-entries, bytes-drop, fit-entries, walk-contents, entry-at, contents-walk}
 
 -- ---- what is written is read
 

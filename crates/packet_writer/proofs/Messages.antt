@@ -1,13 +1,13 @@
 -- The writer's two loops over the messages: the first asks and sums, the second stores their entries.
 use mathlib.Core.Path.{_≡_, refl, sym, ap, _∙_}
-use mathlib.Core.Bool.{Bool, true, false, _&&_, and-false}
+use mathlib.Core.Bool.{Bool, true, false, and-false}
 use mathlib.Core.List.{List, [], _∷_, _++_, append-assoc, append-nil}
 use Prim.Native.Nat.{ℕ, zero, suc, _+_, _*_, _≤_, _<_}
 use native.Mathlib.Nat.{add-zero, zero-add, add-assoc, not-suc-le-zero, le-of-suc-le-suc, le-of-lt}
 use native.Mathlib.Numerals.{add-one}
 use native.Mathlib.Omega.{arith}
 use lib.ListN.{length, take, drop, getD, set}
-use lib.Seq.{sets, sets-eq, length-sets, take-suc, length-take-le}
+use lib.Seq.{sets, sets-eq, length-sets, length-take-le}
 use Rattle.packet.specs.declared.entry.Entry.{Entry}
 use Rattle.packet.specs.declared.entry.Fields.{Fields}
 use Rattle.packet.specs.Bytes.{be}

@@ -1,15 +1,10 @@
 use borrow.Author.Needs.{needs}
 use Rattle.packet.proofs.entry.entry_of.Statement.{statement}
 use Rattle.packet.proofs.entry.entry_of.Tie as tie
-use Rattle.packet.proofs.entry.entry_of.Reads as reads
-use Rattle.packet.proofs.entry.entry_of.Lts as lts
-use Rattle.packet.proofs.entry.message_of.Reads as message-of-reads
 
--- src/entry.rt:101:9
 message-of-requires : tie.Need-message-of-requires
 message-of-requires c κs = search needs
 
--- src/entry.rt:89:1
 returns : tie.Need-returns
 returns c =
     let f = c .before .args .f in

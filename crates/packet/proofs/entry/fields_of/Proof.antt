@@ -2,92 +2,67 @@ use lib.ListN.{getD}
 use borrow.Author.Needs.{needs}
 use Rattle.packet.proofs.entry.fields_of.Statement.{statement}
 use Rattle.packet.proofs.entry.fields_of.Tie as tie
-use Rattle.packet.proofs.entry.fields_of.Reads as reads
-use Rattle.packet.proofs.entry.fields_of.Lts as lts
-use Rattle.packet.proofs.numbers.num2.Reads as num2-reads
-use Rattle.packet.proofs.numbers.num4.Reads as num4-reads
 
--- src/entry.rt:64:15
 shared-slice-read-t3 : tie.Need-shared-slice-read-t3
 shared-slice-read-t3 c = search needs
 
--- src/entry.rt:65:17
 shared-slice-read-t5 : tie.Need-shared-slice-read-t5
 shared-slice-read-t5 c = search needs
 
--- src/entry.rt:66:21
 shared-slice-read-num4 : tie.Need-shared-slice-read-num4
 shared-slice-read-num4 c = search needs
 
--- src/entry.rt:66:31
 shared-slice-read-num4-2 : tie.Need-shared-slice-read-num4-2
 shared-slice-read-num4-2 c = search needs
 
--- src/entry.rt:66:41
 shared-slice-read-num4-3 : tie.Need-shared-slice-read-num4-3
 shared-slice-read-num4-3 c = search needs
 
--- src/entry.rt:66:51
 shared-slice-read-num4-4 : tie.Need-shared-slice-read-num4-4
 shared-slice-read-num4-4 c = search needs
 
--- src/entry.rt:66:16
 num4-requires : tie.Need-num4-requires
 num4-requires c κs = search needs
 
--- src/entry.rt:67:21
 shared-slice-read-num2 : tie.Need-shared-slice-read-num2
 shared-slice-read-num2 c = search needs
 
--- src/entry.rt:67:31
 shared-slice-read-num2-2 : tie.Need-shared-slice-read-num2-2
 shared-slice-read-num2-2 c = search needs
 
--- src/entry.rt:67:16
 num2-requires : tie.Need-num2-requires
 num2-requires c κs = search needs
 
--- src/entry.rt:68:23
 shared-slice-read-num4-5 : tie.Need-shared-slice-read-num4-5
 shared-slice-read-num4-5 c = search needs
 
--- src/entry.rt:68:33
 shared-slice-read-num4-6 : tie.Need-shared-slice-read-num4-6
 shared-slice-read-num4-6 c = search needs
 
--- src/entry.rt:68:43
 shared-slice-read-num4-7 : tie.Need-shared-slice-read-num4-7
 shared-slice-read-num4-7 c = search needs
 
--- src/entry.rt:68:54
 shared-slice-read-num4-8 : tie.Need-shared-slice-read-num4-8
 shared-slice-read-num4-8 c = search needs
 
--- src/entry.rt:68:18
 num4-requires-2 : tie.Need-num4-requires-2
 num4-requires-2 c κs = search needs
 
--- src/entry.rt:69:14
 shared-slice-read-t30 : tie.Need-shared-slice-read-t30
 shared-slice-read-t30 c = search needs
 
--- src/entry.rt:70:22
 shared-slice-read-num2-3 : tie.Need-shared-slice-read-num2-3
 shared-slice-read-num2-3 c = search needs
 
--- src/entry.rt:70:33
 shared-slice-read-num2-4 : tie.Need-shared-slice-read-num2-4
 shared-slice-read-num2-4 c = search needs
 
--- src/entry.rt:70:17
 num2-requires-2 : tie.Need-num2-requires-2
 num2-requires-2 c κs = search needs
 
--- src/entry.rt:71:14
 shared-slice-read-t37 : tie.Need-shared-slice-read-t37
 shared-slice-read-t37 c = search needs
 
--- src/entry.rt:59:1
 returns : tie.Need-returns
 returns c =
     let q = c .before .before .before .before .before .before .before .before .before .before .before .before .before .before .before .before .before .before .before .before .before .args .bytes .now in

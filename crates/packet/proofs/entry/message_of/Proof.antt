@@ -1,18 +1,13 @@
 use borrow.Author.Tests.{eq-eqb, ne-eqb}
 use Rattle.packet.proofs.entry.message_of.Statement.{statement}
 use Rattle.packet.proofs.entry.message_of.Tie as tie
-use Rattle.packet.proofs.entry.message_of.Reads as reads
-use Rattle.packet.proofs.entry.message_of.Lts as lts
 
--- src/entry.rt:80:9
 returns : tie.Need-returns
 returns c = simp (eq-eqb _ _ (c .if1 .taken))
 
--- src/entry.rt:83:9
 returns-2 : tie.Need-returns-2
 returns-2 c = simp (ne-eqb _ _ (c .before .if1 .left), eq-eqb _ _ (c .if2 .taken))
 
--- src/entry.rt:76:1
 returns-3 : tie.Need-returns-3
 returns-3 c = simp (ne-eqb _ _ (c .before .if1 .left), ne-eqb _ _ (c .if2 .left))
 

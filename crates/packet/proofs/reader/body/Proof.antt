@@ -3,35 +3,25 @@ use Rattle.packet.specs.Reading.{bodyOf}
 use borrow.Author.Needs.{needs}
 use Rattle.packet.proofs.reader.body.Statement.{statement}
 use Rattle.packet.proofs.reader.body.Tie as tie
-use Rattle.packet.proofs.reader.body.Reads as reads
-use Rattle.packet.proofs.reader.body.Lts as lts
-use Rattle.packet.proofs.reader.part.Reads as part-reads
 
--- src/reader.rt:98:24
 enum-known-fetched : tie.Need-enum-known-fetched
 enum-known-fetched c = search needs
 
--- src/reader.rt:98:55
 cast-part : tie.Need-cast-part
 cast-part c = search needs
 
--- src/reader.rt:98:38
 part-requires : tie.Need-part-requires
 part-requires c κs = search needs
 
--- src/reader.rt:99:32
 enum-told : tie.Need-enum-told
 enum-told c = search needs
 
--- src/reader.rt:99:32
 slice-aggregate-result : tie.Need-slice-aggregate-result
 slice-aggregate-result c = search needs
 
--- src/reader.rt:94:1
 returns : tie.Need-returns
 returns c = c .part .ensures ∙ sym (ap (bodyOf (c .before .before .before .before .before .before .args .packet .now)) (c .before .before .before .fetched .given .1))
 
--- src/reader.rt:94:1
 returns-2 : tie.Need-returns-2
 returns-2 c = search needs
 

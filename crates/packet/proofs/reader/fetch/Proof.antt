@@ -8,82 +8,58 @@ use Rattle.packet.proofs.Reading.{header, fetch-20, fetch-21, fetch-22,
 use borrow.Author.Needs.{needs}
 use Rattle.packet.proofs.reader.fetch.Statement.{statement}
 use Rattle.packet.proofs.reader.fetch.Tie as tie
-use Rattle.packet.proofs.reader.fetch.Reads as reads
-use Rattle.packet.proofs.reader.fetch.Lts as lts
-use Rattle.packet.proofs.entry.entry_of.Reads as entry-of-reads
-use Rattle.packet.proofs.entry.fields_of.Reads as fields-of-reads
-use Rattle.packet.proofs.reader.header_good.Reads as header-good-reads
-use Rattle.packet.proofs.reader.table_good.Reads as table-good-reads
 
--- src/reader.rt:54:9
 header-good-requires : tie.Need-header-good-requires
 header-good-requires c κs = search needs
 
--- src/reader.rt:55:9
 returns : tie.Need-returns
 returns c = fetch-20 _ _ (no (c .before .header-good .ensures) (c .if1 .taken))
 
--- src/reader.rt:57:17
 shared-slice-read-count : tie.Need-shared-slice-read-count
 shared-slice-read-count c = omega (arith, header (c .before .before .before .before .args .packet .now) (yes (c .before .before .header-good .ensures) (c .before .if1 .left)))
 
--- src/reader.rt:57:17
 cast-count : tie.Need-cast-count
 cast-count c = omega (arith, header (c .before .before .before .before .args .packet .now) (yes (c .before .before .header-good .ensures) (c .before .if1 .left)))
 
--- src/reader.rt:58:38
 mul-if2 : tie.Need-mul-if2
 mul-if2 c = omega (arith, header (c .before .before .before .before .args .packet .now) (yes (c .before .before .header-good .ensures) (c .before .if1 .left)))
 
--- src/reader.rt:58:23
 add-if2 : tie.Need-add-if2
 add-if2 c = omega (arith, header (c .before .before .before .before .args .packet .now) (yes (c .before .before .header-good .ensures) (c .before .if1 .left)))
 
--- src/reader.rt:59:9
 returns-2 : tie.Need-returns-2
 returns-2 c = fetch-21 (c .before .before .before .before .before .args .packet .now) (c .before .before .before .before .before .args .i) (yes (c .before .before .before .header-good .ensures) (c .before .before .if1 .left)) (c .if2 .taken)
 
--- src/reader.rt:61:9
 table-good-requires : tie.Need-table-good-requires
 table-good-requires c κs = omega (arith, header (c .before .before .before .before .before .args .packet .now) (yes (c .before .before .before .header-good .ensures) (c .before .before .if1 .left)))
 
--- src/reader.rt:62:9
 returns-3 : tie.Need-returns-3
 returns-3 c = fetch-22 (c .before .before .before .before .before .before .before .args .packet .now) (c .before .before .before .before .before .before .before .args .i) (yes (c .before .before .before .before .before .header-good .ensures) (c .before .before .before .before .if1 .left)) (c .before .before .if2 .left) (no (c .before .table-good .ensures) (c .if3 .taken))
 
--- src/reader.rt:65:9
 returns-4 : tie.Need-returns-4
 returns-4 c = fetch-23 (c .before .before .before .before .before .before .before .before .args .packet .now) (c .before .before .before .before .before .before .before .before .args .i) (yes (c .before .before .before .before .before .before .header-good .ensures) (c .before .before .before .before .before .if1 .left)) (c .before .before .before .if2 .left) (yes (c .before .before .table-good .ensures) (c .before .if3 .left)) (c .if4 .taken)
 
--- src/reader.rt:67:30
 mul-pos : tie.Need-mul-pos
 mul-pos c = search needs
 
--- src/reader.rt:67:15
 add-pos : tie.Need-add-pos
 add-pos c = search needs
 
--- src/reader.rt:68:23
 sub-fields-of : tie.Need-sub-fields-of
 sub-fields-of c = search needs
 
--- src/reader.rt:68:23
 part-fields-of-start : tie.Need-part-fields-of-start
 part-fields-of-start c = search needs
 
--- src/reader.rt:68:23
 part-fields-of-end : tie.Need-part-fields-of-end
 part-fields-of-end c = search needs
 
--- src/reader.rt:68:9
 fields-of-requires : tie.Need-fields-of-requires
 fields-of-requires c κs = search needs
 
--- src/reader.rt:69:9
 entry-of-requires : tie.Need-entry-of-requires
 entry-of-requires c κs = search needs
 
--- src/reader.rt:51:1
 returns-5 : tie.Need-returns-5
 returns-5 c =
     let f = c .before .fields-of in

@@ -4,39 +4,28 @@ use Rattle.packet.proofs.Reading.{header-rest}
 use borrow.Author.Needs.{needs}
 use Rattle.packet.proofs.reader.header_good.Statement.{statement}
 use Rattle.packet.proofs.reader.header_good.Tie as tie
-use Rattle.packet.proofs.reader.header_good.Reads as reads
-use Rattle.packet.proofs.reader.header_good.Lts as lts
-use Rattle.packet.proofs.numbers.num2.Reads as num2-reads
 
--- src/reader.rt:29:9
 returns : tie.Need-returns
 returns c = simp (lt-leb _ _ (c .if1 .taken))
 
--- src/reader.rt:31:17
 shared-slice-read-count : tie.Need-shared-slice-read-count
 shared-slice-read-count c = search needs
 
--- src/reader.rt:31:17
 cast-count : tie.Need-cast-count
 cast-count c = omega (arith, c .shared-slice-known2 .given 1)
 
--- src/reader.rt:32:22
 shared-slice-read-num2 : tie.Need-shared-slice-read-num2
 shared-slice-read-num2 c = search needs
 
--- src/reader.rt:32:33
 shared-slice-read-num2-2 : tie.Need-shared-slice-read-num2-2
 shared-slice-read-num2-2 c = search needs
 
--- src/reader.rt:32:9
 num2-requires : tie.Need-num2-requires
 num2-requires c κs = search needs
 
--- src/reader.rt:33:6
 shared-slice-read-result : tie.Need-shared-slice-read-result
 shared-slice-read-result c = search needs
 
--- src/reader.rt:24:1
 returns-2 : tie.Need-returns-2
 returns-2 c = header-rest (c .before .before .before .before .before .before .before .args .packet .now) (c .before .num2 .result) (c .before .before .before .before .before .if1 .left) (c .before .num2 .ensures)
 

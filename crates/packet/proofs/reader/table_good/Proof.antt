@@ -1,5 +1,5 @@
 -- Question 22's walk. The invariant says what is left to ask: the whole walk equals the walk from the entry at `pos` on.
-use mathlib.Core.Path.{_≡_, refl, sym, ap, _∙_}
+use mathlib.Core.Path.{refl, sym, ap, _∙_}
 use mathlib.Core.Bool.{true, false}
 use Prim.Native.Nat.{ℕ, _-_}
 use native.Mathlib.Nat.{sub-zero}
@@ -11,10 +11,6 @@ use Rattle.packet.specs.Reading.{walk, entryAt}
 use Rattle.packet.proofs.Reading.{part-to-end, turn, Walked, walked-all}
 use Rattle.packet.proofs.reader.table_good.Statement.{statement}
 use Rattle.packet.proofs.reader.table_good.Tie as tie
-use Rattle.packet.proofs.reader.table_good.Reads as reads
-use Rattle.packet.proofs.reader.table_good.Lts as lts
-use Rattle.packet.proofs.entry.Fields.good.Reads as good-reads
-use Rattle.packet.proofs.entry.fields_of.Reads as fields-of-reads
 
 abbrev Inv-loop : tie.InvT-loop
 Inv-loop packet count k₀ pos₀ at₀ k pos at = Walked packet count k pos at
@@ -22,15 +18,12 @@ Inv-loop packet count k₀ pos₀ at₀ k pos at = Walked packet count k pos at
 abbrev μ-loop : tie.MeasureT-loop
 μ-loop packet count k₀ pos₀ at₀ k pos at = count - k
 
--- src/reader.rt:36:33
 mul-at : tie.Need-mul-at Inv-loop μ-loop
 mul-at c = omega arith
 
--- src/reader.rt:36:18
 add-at : tie.Need-add-at Inv-loop μ-loop
 add-at c = omega arith
 
--- src/reader.rt:37:5
 loop-holds : tie.Need-loop-holds Inv-loop μ-loop
 loop-holds c =
     let p = c .before .args .packet .now in
@@ -42,27 +35,21 @@ loop-holds c =
       rest = ap (λ (x : ℕ). walk x (drop 4 p) (entryAt n) (length p)) (sym (sub-zero n));
     }
 
--- src/reader.rt:38:27
 sub-fields-of : tie.Need-sub-fields-of Inv-loop μ-loop
 sub-fields-of c = omega arith
 
--- src/reader.rt:38:27
 part-fields-of-start : tie.Need-part-fields-of-start Inv-loop μ-loop
 part-fields-of-start c = omega arith
 
--- src/reader.rt:38:27
 part-fields-of-end : tie.Need-part-fields-of-end Inv-loop μ-loop
 part-fields-of-end c = omega arith
 
--- src/reader.rt:38:13
 fields-of-requires : tie.Need-fields-of-requires Inv-loop μ-loop
 fields-of-requires c κs = simp (part-to-end, length-drop) (omega arith)
 
--- src/reader.rt:39:20
 good-requires : tie.Need-good-requires Inv-loop μ-loop
 good-requires c κs = search needs
 
--- src/reader.rt:41:13
 returns : tie.Need-returns Inv-loop μ-loop
 returns c =
     let l = c .before .before .before .before .before .before .loop in
@@ -71,27 +58,21 @@ returns c =
     let g = c .before .before .good2 in
     sym (l .inv .rest ∙ turn p (c .before .before .before .before .before .before .before .before .args .count) (l .k) (l .pos) (l .at) (length p) (f .result) (g .result) false (c .before .before .before .before .before .loop-test .taken) (f .ensures) (g .ensures) (not-true _ (c .if1 .taken)))
 
--- src/reader.rt:43:19
 cast-at : tie.Need-cast-at Inv-loop μ-loop
 cast-at c = omega arith
 
--- src/reader.rt:43:14
 add-at-2 : tie.Need-add-at-2 Inv-loop μ-loop
 add-at-2 c = omega arith
 
--- src/reader.rt:44:15
 add-pos : tie.Need-add-pos Inv-loop μ-loop
 add-pos c = omega arith
 
--- src/reader.rt:45:13
 add-k : tie.Need-add-k Inv-loop μ-loop
 add-k c = omega arith
 
--- src/reader.rt:37:5
 loop-less : tie.Need-loop-less Inv-loop μ-loop
 loop-less c = omega arith
 
--- src/reader.rt:37:5
 loop-again : tie.Need-loop-again Inv-loop μ-loop
 loop-again c =
     let l = c .before .before .before .before .before .before .before .loop in
@@ -105,7 +86,6 @@ loop-again c =
       rest = l .inv .rest ∙ turn p (c .before .before .before .before .before .before .before .before .before .args .count) (l .k) (l .pos) (l .at) (length p) (f .result) (g .result) true (c .before .before .before .before .before .before .loop-test .taken) (f .ensures) (g .ensures) (not-false _ (c .before .if1 .left));
     }
 
--- src/reader.rt:30:1
 returns-2 : tie.Need-returns-2 Inv-loop μ-loop
 returns-2 c = let l = c .before .loop in walked-all (c .before .before .before .args .packet .now) (c .before .before .before .args .count) (l .k) (l .pos) (l .at) (l .inv) (c .loop-test .left)
 

@@ -1,20 +1,13 @@
 use borrow.Author.Needs.{needs}
 use Rattle.packet_writer.proofs.fields.fields_for.Statement.{statement}
 use Rattle.packet_writer.proofs.fields.fields_for.Tie as tie
-use Rattle.packet_writer.proofs.fields.fields_for.Reads as reads
-use Rattle.packet_writer.proofs.fields.fields_for.Lts as lts
-use Rattle.packet_writer.proofs.fields.kind_of.Reads as kind-of-reads
-use Rattle.packet_writer.proofs.fields.timestamp_of.Reads as timestamp-of-reads
 
--- src/fields.rt:37:9
 timestamp-of-requires : tie.Need-timestamp-of-requires
 timestamp-of-requires c κs = search needs
 
--- src/fields.rt:39:15
 kind-of-requires : tie.Need-kind-of-requires
 kind-of-requires c κs = search needs
 
--- src/fields.rt:32:1
 returns : tie.Need-returns
 returns c =
     let e = c .before .before .before .args .e in

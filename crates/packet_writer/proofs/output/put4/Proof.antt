@@ -4,58 +4,43 @@ use Rattle.packet_writer.proofs.Stores.{four-bytes}
 use borrow.Author.Needs.{needs}
 use Rattle.packet_writer.proofs.output.put4.Statement.{statement}
 use Rattle.packet_writer.proofs.output.put4.Tie as tie
-use Rattle.packet_writer.proofs.output.put4.Reads as reads
-use Rattle.packet_writer.proofs.output.put4.Lts as lts
 
--- src/output.rt:24:15
 cast-out : tie.Need-cast-out
 cast-out c = search needs
 
--- src/output.rt:24:5
 slice-write-out : tie.Need-slice-write-out
 slice-write-out c = search needs
 
--- src/output.rt:25:19
 cast-out-2 : tie.Need-cast-out-2
 cast-out-2 c = search needs
 
--- src/output.rt:25:9
 add-out : tie.Need-add-out
 add-out c = search needs
 
--- src/output.rt:25:5
 slice-write-out-2 : tie.Need-slice-write-out-2
 slice-write-out-2 c = simp length-set (omega arith)
 
--- src/output.rt:26:19
 cast-out-3 : tie.Need-cast-out-3
 cast-out-3 c = search needs
 
--- src/output.rt:26:9
 add-out-2 : tie.Need-add-out-2
 add-out-2 c = search needs
 
--- src/output.rt:26:5
 slice-write-out-3 : tie.Need-slice-write-out-3
 slice-write-out-3 c = simp length-set (omega arith)
 
--- src/output.rt:27:19
 cast-out-4 : tie.Need-cast-out-4
 cast-out-4 c = search needs
 
--- src/output.rt:27:9
 add-out-3 : tie.Need-add-out-3
 add-out-3 c = search needs
 
--- src/output.rt:27:5
 slice-write-out-4 : tie.Need-slice-write-out-4
 slice-write-out-4 c = simp length-set (omega arith)
 
--- src/output.rt:20:1
 same-length : tie.Need-same-length
 same-length c = search needs
 
--- src/output.rt:20:1
 returns : tie.Need-returns
 returns c = four-bytes (c .args .out .now) (c .args .at) (c .args .n)
 

@@ -1,6 +1,5 @@
 use mathlib.Core.Path.{_≡_, refl, sym, ap, _∙_}
-use mathlib.Core.List.{List}
-use Prim.Native.Nat.{ℕ, _+_, _*_, _-_, _≤_, _<_}
+use Prim.Native.Nat.{_+_, _*_, _-_, _≤_, _<_}
 use native.Mathlib.Omega.{arith}
 use borrow.Author.Needs.{needs}
 use borrow.Author.Tests.{not-true, not-false}
@@ -8,20 +7,12 @@ use lib.ListN.{length, take, length-set}
 use lib.Seq.{length-take-le}
 use Rattle.packet.specs.declared.entry.Fields.{Fields}
 use Rattle.packet.specs.declared.answer.Written.the-variants.{Total}
-use Rattle.packet.specs.Reading.{entryAt}
-use Rattle.packet.specs.Writing.{allGood, summed, totalOf, outputOf}
+use Rattle.packet.specs.Writing.{totalOf, outputOf}
 use Rattle.packet.proofs.Writing.{Accepts, accepted}
 use Rattle.packet_writer.proofs.Messages.{Measured, measured-none, measured-more, measured-bad, measured-all, Stored, stored-none, stored-more, index-small, stored-all, packet-stored}
 use Rattle.packet_writer.proofs.Answers.{none, many, bad, uneven, long, short-of-room}
 use Rattle.packet_writer.proofs.writer.write.Statement.{statement}
 use Rattle.packet_writer.proofs.writer.write.Tie as tie
-use Rattle.packet_writer.proofs.writer.write.Reads as reads
-use Rattle.packet_writer.proofs.writer.write.Lts as lts
-use Rattle.packet.proofs.entry.Fields.good.Reads as good-reads
-use Rattle.packet_writer.proofs.fields.fields_for.Reads as fields-for-reads
-use Rattle.packet_writer.proofs.output.put2.Reads as put2-reads
-use Rattle.packet_writer.proofs.output.put_all.Reads as put-all-reads
-use Rattle.packet_writer.proofs.output.put_fields.Reads as put-fields-reads
 
 abbrev Inv-loop : tie.InvT-loop
 Inv-loop count bodies out messages sum₀ k₀ sum k = Measured messages count sum k
@@ -35,37 +26,29 @@ Inv-loop2 count bodies out₀ messages sum k start total at₀ pos₀ j₀ out a
 abbrev μ-loop2 : tie.MeasureT-loop2
 μ-loop2 count bodies out₀ messages sum k start total at₀ pos₀ j₀ out at pos j = count - j
 
--- src/writer.rt:23:9
 returns : tie.Need-returns Inv-loop μ-loop Inv-loop2 μ-loop2
 unfolding outputOf
 returns c = (none _ _ _ _ (c .if1 .taken), refl)
 
--- src/writer.rt:26:9
 returns-2 : tie.Need-returns-2 Inv-loop μ-loop Inv-loop2 μ-loop2
 unfolding outputOf
 returns-2 c = (many _ _ _ _ (c .before .if1 .left) (c .if2 .taken), refl)
 
--- src/writer.rt:30:5
 loop-holds : tie.Need-loop-holds Inv-loop μ-loop Inv-loop2 μ-loop2
 loop-holds c = measured-none (c .before .before .before .before .args .t1) (c .before .before .before .before .args .count)
 
--- src/writer.rt:31:17
 mul-e : tie.Need-mul-e Inv-loop μ-loop Inv-loop2 μ-loop2
 mul-e c = omega arith
 
--- src/writer.rt:31:17
 array-copy-out-e : tie.Need-array-copy-out-e Inv-loop μ-loop Inv-loop2 μ-loop2
 array-copy-out-e c = omega arith
 
--- src/writer.rt:32:13
 fields-for-requires : tie.Need-fields-for-requires Inv-loop μ-loop Inv-loop2 μ-loop2
 fields-for-requires c κs = search needs
 
--- src/writer.rt:33:13
 good-requires : tie.Need-good-requires Inv-loop μ-loop Inv-loop2 μ-loop2
 good-requires c κs = search needs
 
--- src/writer.rt:34:13
 returns-3 : tie.Need-returns-3 Inv-loop μ-loop Inv-loop2 μ-loop2
 unfolding outputOf
 returns-3 c =
@@ -75,23 +58,18 @@ returns-3 c =
     let room : c .before .before .before .before .before .before .before .before .before .before .args .count ≤ length ms = omega arith in
     (bad _ _ _ _ (c .before .before .before .before .before .before .before .if1 .left) (c .before .before .before .before .before .before .if2 .left) (measured-bad ms (c .before .before .before .before .before .before .before .before .before .before .args .count) (l .sum) (l .k) (c .before .before .fields-for .result) (c .before .good2 .result) (c .before .before .before .before .loop-test .taken) room (c .before .before .fields-for .ensures) (c .before .good2 .ensures) (not-true _ (c .if3 .taken))), refl)
 
--- src/writer.rt:36:21
 cast-sum : tie.Need-cast-sum Inv-loop μ-loop Inv-loop2 μ-loop2
 cast-sum c = omega arith
 
--- src/writer.rt:36:15
 add-sum : tie.Need-add-sum Inv-loop μ-loop Inv-loop2 μ-loop2
 add-sum c = omega arith
 
--- src/writer.rt:37:13
 add-k : tie.Need-add-k Inv-loop μ-loop Inv-loop2 μ-loop2
 add-k c = omega arith
 
--- src/writer.rt:30:5
 loop-less : tie.Need-loop-less Inv-loop μ-loop Inv-loop2 μ-loop2
 loop-less c = omega arith
 
--- src/writer.rt:30:5
 loop-again : tie.Need-loop-again Inv-loop μ-loop Inv-loop2 μ-loop2
 loop-again c =
     let l = c .before .before .before .before .before .before .loop in
@@ -101,26 +79,21 @@ loop-again c =
     let b : c .before .before .before .fields-for .result .len ≤ 255 = omega arith in
     measured-more ms (c .before .before .before .before .before .before .before .before .before .before .before .args .count) (l .sum) (l .k) (c .before .before .before .fields-for .result) (c .before .before .good2 .result) (c .before .before .before .before .before .loop-test .taken) room (c .before .before .before .fields-for .ensures) (c .before .before .good2 .ensures) (l .inv) (not-false _ (c .before .if3 .left)) b
 
--- src/writer.rt:40:9
 returns-4 : tie.Need-returns-4 Inv-loop μ-loop Inv-loop2 μ-loop2
 unfolding outputOf
 returns-4 c =
     let m = measured-all (c .before .before .before .before .before .before .before .args .t1) (c .before .before .before .before .before .before .before .args .count) (c .before .before .loop .sum) (c .before .before .loop .k) (c .before .before .loop .inv) (c .before .loop-test .left) in
     (uneven _ _ _ _ (c .before .before .before .before .if1 .left) (c .before .before .before .if2 .left) (m .0) (λ e. c .if4 .taken (sym (m .1) ∙ e)), refl)
 
--- src/writer.rt:42:32
 mul-start : tie.Need-mul-start Inv-loop μ-loop Inv-loop2 μ-loop2
 mul-start c = omega arith
 
--- src/writer.rt:42:17
 add-start : tie.Need-add-start Inv-loop μ-loop Inv-loop2 μ-loop2
 add-start c = omega arith
 
--- src/writer.rt:43:17
 add-total : tie.Need-add-total Inv-loop μ-loop Inv-loop2 μ-loop2
 add-total c = omega arith
 
--- src/writer.rt:45:9
 returns-5 : tie.Need-returns-5 Inv-loop μ-loop Inv-loop2 μ-loop2
 unfolding outputOf
 returns-5 c =
@@ -128,7 +101,6 @@ returns-5 c =
     let l : 1400 < totalOf (c .before .before .before .before .before .before .before .before .args .count) (c .before .before .before .before .before .before .before .before .args .bodies .now) = omega arith in
     (long _ _ _ _ (c .before .before .before .before .before .if1 .left) (c .before .before .before .before .if2 .left) (m .0) (m .1 ∙ c .before .if4 .left) l, refl)
 
--- src/writer.rt:48:9
 returns-6 : tie.Need-returns-6 Inv-loop μ-loop Inv-loop2 μ-loop2
 unfolding outputOf
 returns-6 c =
@@ -137,39 +109,30 @@ returns-6 c =
     let r : length (c .before .before .before .before .before .before .before .before .before .args .out .now) < totalOf (c .before .before .before .before .before .before .before .before .before .args .count) (c .before .before .before .before .before .before .before .before .before .args .bodies .now) = omega arith in
     (short-of-room _ _ _ _ (c .before .before .before .before .before .before .if1 .left) (c .before .before .before .before .before .if2 .left) (m .0) (m .1 ∙ c .before .before .if4 .left) l r, refl)
 
--- src/writer.rt:50:5
 slice-write-out : tie.Need-slice-write-out Inv-loop μ-loop Inv-loop2 μ-loop2
 slice-write-out c = omega arith
 
--- src/writer.rt:51:14
 cast-out : tie.Need-cast-out Inv-loop μ-loop Inv-loop2 μ-loop2
 cast-out c = omega arith
 
--- src/writer.rt:51:5
 slice-write-out-2 : tie.Need-slice-write-out-2 Inv-loop μ-loop Inv-loop2 μ-loop2
 slice-write-out-2 c = simp length-set (omega arith)
 
--- src/writer.rt:52:5
 put2-requires : tie.Need-put2-requires Inv-loop μ-loop Inv-loop2 μ-loop2
 put2-requires c κs = simp length-set (omega arith)
 
--- src/writer.rt:56:5
 loop2-holds : tie.Need-loop2-holds Inv-loop μ-loop Inv-loop2 μ-loop2
 loop2-holds c = stored-none (c .before .before .put2 .last .0) (c .before .before .before .before .before .before .before .before .before .before .before .before .before .args .t1) (c .before .before .before .before .before .before .before .before .before .before .before .before .before .args .count)
 
--- src/writer.rt:57:17
 mul-e-2 : tie.Need-mul-e-2 Inv-loop μ-loop Inv-loop2 μ-loop2
 mul-e-2 c = omega arith
 
--- src/writer.rt:57:17
 array-copy-out-e-2 : tie.Need-array-copy-out-e-2 Inv-loop μ-loop Inv-loop2 μ-loop2
 array-copy-out-e-2 c = omega arith
 
--- src/writer.rt:58:13
 fields-for-requires-2 : tie.Need-fields-for-requires-2 Inv-loop μ-loop Inv-loop2 μ-loop2
 fields-for-requires-2 c κs = search needs
 
--- src/writer.rt:59:9
 put-fields-requires : tie.Need-put-fields-requires Inv-loop μ-loop Inv-loop2 μ-loop2
 put-fields-requires c κs =
     let m = measured-all (c .before .before .before .before .before .before .before .before .before .before .before .before .before .before .before .before .before .before .args .t1) (c .before .before .before .before .before .before .before .before .before .before .before .before .before .before .before .before .before .before .args .count) (c .before .before .before .before .before .before .before .before .before .before .before .before .before .loop .sum) (c .before .before .before .before .before .before .before .before .before .before .before .before .before .loop .k) (c .before .before .before .before .before .before .before .before .before .before .before .before .before .loop .inv) (c .before .before .before .before .before .before .before .before .before .before .before .before .loop-test .left) in
@@ -179,27 +142,21 @@ put-fields-requires c κs =
     let room : c .before .before .before .before .before .before .before .before .before .before .before .before .before .before .before .before .before .before .args .count ≤ length ms = omega arith in
     (index-small (c .before .before .before .before .before .before .before .put2 .last .0) ms (c .before .before .before .before .before .before .before .before .before .before .before .before .before .before .before .before .before .before .args .count) (l .out) (l .at) (l .pos) (l .j) (c .before .fields-for2 .result) (c .before .before .before .loop2-test .taken) room (c .before .fields-for2 .ensures) (m .0), omega (arith, ap (λ (x : Fields). x .offset) (c .before .fields-for2 .ensures)), omega (arith, simp length-set at (c .before .before .before .before .before .before .before .put2 .kept .0)))
 
--- src/writer.rt:60:19
 cast-at : tie.Need-cast-at Inv-loop μ-loop Inv-loop2 μ-loop2
 cast-at c = omega arith
 
--- src/writer.rt:60:14
 add-at : tie.Need-add-at Inv-loop μ-loop Inv-loop2 μ-loop2
 add-at c = omega arith
 
--- src/writer.rt:61:15
 add-pos : tie.Need-add-pos Inv-loop μ-loop Inv-loop2 μ-loop2
 add-pos c = omega arith
 
--- src/writer.rt:62:13
 add-j : tie.Need-add-j Inv-loop μ-loop Inv-loop2 μ-loop2
 add-j c = omega arith
 
--- src/writer.rt:56:5
 loop2-less : tie.Need-loop2-less Inv-loop μ-loop Inv-loop2 μ-loop2
 loop2-less c = omega arith
 
--- src/writer.rt:56:5
 loop2-again : tie.Need-loop2-again Inv-loop μ-loop Inv-loop2 μ-loop2
 loop2-again c =
     let l = c .before .before .before .before .before .before .before .before .loop2 in
@@ -209,15 +166,12 @@ loop2-again c =
     let b : c .before .before .before .before .before .fields-for2 .result .len ≤ 255 = omega arith in
     stored-more (c .before .before .before .before .before .before .before .before .before .before .before .put2 .last .0) ms (c .before .before .before .before .before .before .before .before .before .before .before .before .before .before .before .before .before .before .before .before .before .before .args .count) (l .out) (l .at) (l .pos) (l .j) (c .before .before .before .before .before .fields-for2 .result) (c .before .before .before .before .before .before .before .loop2-test .taken) room (c .before .before .before .before .before .fields-for2 .ensures) (c .before .before .before .put-fields .last .0) (l .inv) (c .before .before .before .put-fields .ensures) b
 
--- src/writer.rt:64:5
 put-all-requires : tie.Need-put-all-requires Inv-loop μ-loop Inv-loop2 μ-loop2
 put-all-requires c κs = omega (arith, simp length-set at (c .before .before .before .before .before .put2 .kept .0))
 
--- src/writer.rt:18:1
 same-length : tie.Need-same-length Inv-loop μ-loop Inv-loop2 μ-loop2
 same-length c = c .before .before .put-all .kept .0 ∙ c .before .before .before .before .before .loop2 .inv .same ∙ simp length-set at (c .before .before .before .before .before .before .before .before .put2 .kept .0)
 
--- src/writer.rt:18:1
 returns-7 : tie.Need-returns-7 Inv-loop μ-loop Inv-loop2 μ-loop2
 unfolding outputOf
 returns-7 c =
