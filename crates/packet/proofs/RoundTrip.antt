@@ -17,7 +17,7 @@ use Rattle.packet.specs.Entry.{fieldsOf, fieldsFor, noEntry, AllFit}
 use Rattle.packet.specs.Reading.{countOf, entryAt, messagesIn, bodiesIn, question20, question21, question22, question23, walk, fetchRefusal, fetchedAs, fetched, bodyOf}
 use Rattle.packet.specs.Writing.{summed, contents, totalOf, encode, allGood, written, outputOf}
 use Rattle.packet.proofs.Width.{num-be, window-drop, be-window}
-use Rattle.packet.proofs.Writing.{Accepts, accepts, accepted}
+use Rattle.packet.proofs.Writing.{Accepts, accepts, accepted, total-yes}
 use Rattle.packet.proofs.Reading.{part-to-end, Header, header, header-yes, fetch-23, fetch-0}
 use Rattle.packet.proofs.Entries.{entry-back}
 use Rattle.packet.proofs.Contents.{length-contents, length-entries, bytes-drop, fit-entries, walk-contents, entry-at, contents-walk}
@@ -119,16 +119,17 @@ pub written-reads-back : (ms : List Entry) (count : ℕ) (bodies out : List ℕ)
 unfolding outputOf
 written-reads-back ms count bodies out n l s h =
     let es = take count ms in
-    let a = accepts ms count bodies (length out) n h in
+    let t = total-yes ms count bodies (length out) n h in
+    let a = accepts ms count bodies (length out) (t .0) in
     let k : length es ≡ count = length-take-le count ms l in
-    let m : length (encode 1 es bodies) ≡ n = length-encode 1 es bodies ∙ ap (λ (x : ℕ). totalOf x bodies) k ∙ a .1 in
+    let m : length (encode 1 es bodies) ≡ n = length-encode 1 es bodies ∙ ap (λ (x : ℕ). totalOf x bodies) k ∙ t .1 in
     let w : Writable es bodies =
     record {
-      good = a .0 .good;
-      some = omega (arith, a .0 .some);
-      few = omega (arith, a .0 .few);
-      exact = a .0 .exact;
-      short = omega (arith, a .0 .short);
+      good = a .good;
+      some = omega (arith, a .some);
+      few = omega (arith, a .few);
+      exact = a .exact;
+      short = omega (arith, a .short);
     } in
     rw (take-at (encode 1 es bodies) (drop n out) n m) (encode-reads-back es bodies w s)
 

@@ -94,6 +94,7 @@ measured-all ms count sum k m h =
 
 -- after j messages: their entries stand from byte 4 on, and the next body begins at `at`
 pub record Stored (d : List ℕ) (ms : List Entry) (count : ℕ) (out : List ℕ) (at pos j : ℕ) : Type 0 where
+  pub few : count ≤ 64
   pub below : j ≤ count
   pub place : pos ≡ 4 + 16 * j
   pub begins : at ≡ entryAt count + summed (take j ms)
@@ -101,10 +102,10 @@ pub record Stored (d : List ℕ) (ms : List Entry) (count : ℕ) (out : List ℕ
   pub made : out ≡ sets d 4 (contents (entryAt count) (take j ms))
   pub same : length out ≡ length d
 
-pub stored-none : (d : List ℕ) (ms : List Entry) (count : ℕ) → Stored d ms count d (entryAt count) 4 0
+pub stored-none : (d : List ℕ) (ms : List Entry) (count : ℕ) → count ≤ 64 → Stored d ms count d (entryAt count) 4 0
 unfolding summed contents
-stored-none d ms count =
-    record { below = omega arith; place = refl; begins = sym (add-zero (entryAt count)); small = omega arith; made = refl; same = refl }
+stored-none d ms count few =
+    record { few = few; below = omega arith; place = refl; begins = sym (add-zero (entryAt count)); small = omega arith; made = refl; same = refl }
 
 contents-more : (at : ℕ) (ms : List Entry) (k : ℕ) → k < length ms
     → contents at (take (suc k) ms) ≡ contents at (take k ms) ++ entryBytes (fieldsFor (getD ms k noEntry) (at + summed (take k ms)))
@@ -126,6 +127,7 @@ module _ (d : List ℕ) (ms : List Entry) (count : ℕ) (out : List ℕ) (at pos
       let lc = length-contents (take j ms) (entryAt count) in
       let front : pos ≡ 4 + length (contents (entryAt count) (take j ms)) = omega (arith, s .place) in
       record {
+        few = s .few;
         below = omega arith;
         place = omega (arith, s .place);
         begins = omega (arith, s .begins, summed-more ms j l, ap (λ (k : ℕ). summed (take k ms)) (add-one j));

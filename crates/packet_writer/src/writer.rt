@@ -1,7 +1,8 @@
 // The writer.
 ghost use mathlib.Core.Path.{_≡_};
-ghost use lib.ListN.{length, take};
-ghost use Rattle.packet.specs.Writing.{written, outputOf};
+ghost use mathlib.Core.List.{_++_};
+ghost use lib.ListN.{length, take, drop};
+ghost use Rattle.packet.specs.Writing.{totalOf, encode, writeRefusal, written, outputOf};
 use crate::fields::fields_for;
 use crate::output::put_all;
 use crate::output::put_fields;
@@ -47,9 +48,19 @@ pub fn write(messages: [Entry; 64], count: usize, bodies: &[u8], out: &mut [u8])
     if out.len() < total {
         return Written::Refused(25);
     }
+    store(messages, count, bodies, out);
+    Written::Total(total)
+}
+
+// The packet itself, once questions 24 and 25 have said yes.
+fn store(messages: [Entry; 64], count: usize, bodies: &[u8], out: &mut [u8])
+    requires { ⌜ writeRefusal messages count (now bodies) (length (now out)) ≡ 0 ⌝ }
+    ensures { λ _. ⌜ now (out .exit) ≡ encode 1 (take count messages) (now (bodies .entry)) ++ drop (totalOf count (now (bodies .entry))) (now (out .entry)) ⌝ }
+{
+    let start = HEADER_BYTES + ENTRY_BYTES * count;
     out[0] = RULE;
     out[1] = count as u8;
-    put2(out, 2, total);
+    put2(out, 2, start + bodies.len());
     let mut at = start;
     let mut pos = HEADER_BYTES;
     let mut j = 0;
@@ -62,5 +73,4 @@ pub fn write(messages: [Entry; 64], count: usize, bodies: &[u8], out: &mut [u8])
         j = j + 1;
     }
     put_all(out, start, bodies);
-    Written::Total(total)
 }

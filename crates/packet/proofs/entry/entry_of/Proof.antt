@@ -1,3 +1,4 @@
+-- Field by field, with the message from `message_of`.
 use borrow.Author.Needs.{needs}
 use Rattle.packet.proofs.entry.entry_of.Statement.{statement}
 use Rattle.packet.proofs.entry.entry_of.Tie as tie

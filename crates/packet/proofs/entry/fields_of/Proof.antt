@@ -1,3 +1,4 @@
+-- Field by field, with the numbers from `num2` and `num4`.
 use lib.ListN.{getD}
 use borrow.Author.Needs.{needs}
 use Rattle.packet.proofs.entry.fields_of.Statement.{statement}

@@ -1,3 +1,4 @@
+-- The message of a kind, by the tests that led to it.
 use borrow.Author.Tests.{eq-eqb, ne-eqb}
 use Rattle.packet.proofs.entry.message_of.Statement.{statement}
 use Rattle.packet.proofs.entry.message_of.Tie as tie

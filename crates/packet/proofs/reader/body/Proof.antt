@@ -1,3 +1,4 @@
+-- The part of a found message; a refusal's empty part is found by itself.
 use mathlib.Core.Path.{sym, ap, _∙_}
 use Rattle.packet.specs.Reading.{bodyOf}
 use borrow.Author.Needs.{needs}

@@ -1,3 +1,4 @@
+-- Question 20: fewer than 4 bytes, or its other five parts in one expression.
 use native.Mathlib.Omega.{arith}
 use borrow.Author.Tests.{lt-leb}
 use Rattle.packet.proofs.Reading.{header-rest}

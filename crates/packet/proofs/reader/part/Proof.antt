@@ -1,3 +1,4 @@
+-- A part that is wholly there, one cut at the end, and one that begins past it.
 use mathlib.Core.Path.{sym, ap, _∙_}
 use Prim.Native.Nat.{ℕ}
 use native.Mathlib.Nat.{add-sub-cancel-left, le-of-lt}

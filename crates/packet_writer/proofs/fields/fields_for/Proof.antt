@@ -1,3 +1,4 @@
+-- Field by field, with kind and timestamp by the message's case.
 use borrow.Author.Needs.{needs}
 use Rattle.packet_writer.proofs.fields.fields_for.Statement.{statement}
 use Rattle.packet_writer.proofs.fields.fields_for.Tie as tie

@@ -1,3 +1,4 @@
+-- Two stores are a run of two bytes.
 use native.Mathlib.Omega.{arith}
 use lib.ListN.{length-set}
 use Rattle.packet_writer.proofs.Stores.{two-bytes}

@@ -1,3 +1,4 @@
+-- Four stores are a run of four bytes.
 use native.Mathlib.Omega.{arith}
 use lib.ListN.{length-set}
 use Rattle.packet_writer.proofs.Stores.{four-bytes}

@@ -1,3 +1,4 @@
+-- The loop's invariant: the first k bytes are stored.
 use mathlib.Core.Path.{_≡_, refl, _∙_}
 use Prim.Native.Nat.{_-_, _≤_}
 use native.Mathlib.Omega.{arith}

@@ -1,3 +1,4 @@
+-- Eight runs of stores, one after another, are the 16 bytes of an entry.
 use mathlib.Core.Path.{_∙_}
 use native.Mathlib.Omega.{arith}
 use lib.ListN.{length-set}

@@ -1,3 +1,4 @@
+-- The code is the definition's own expression.
 use mathlib.Core.Path.{refl}
 use Rattle.packet.specs.Entry.{good}
 use Rattle.packet.proofs.entry.Fields.good.Statement.{statement}
