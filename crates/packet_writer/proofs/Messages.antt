@@ -57,14 +57,15 @@ good-at (m ∷ ms) (suc k) (suc n) h l a =
 
 -- after k messages: all are good, and the sum is that of their bodies
 pub record Measured (ms : List Entry) (count sum k : ℕ) : Type 0 where
+  pub few : count ≤ 64
   pub below : k ≤ count
   pub good : allGood (take k ms) ≡ true
   pub exact : sum ≡ summed (take k ms)
   pub small : sum ≤ 255 * k
 
-pub measured-none : (ms : List Entry) (count : ℕ) → Measured ms count 0 0
+pub measured-none : (ms : List Entry) (count : ℕ) → count ≤ 64 → Measured ms count 0 0
 unfolding allGood summed
-measured-none ms count = record { below = omega arith; good = refl; exact = refl; small = omega arith }
+measured-none ms count few = record { few = few; below = omega arith; good = refl; exact = refl; small = omega arith }
 
 -- a turn with message k, of fields f: g is what `good` answered
 module _ (ms : List Entry) (count sum k : ℕ) (f : Fields) (g : Bool) (more : k < count) (room : count ≤ length ms) (is : f ≡ fieldsFor (getD ms k noEntry) 0) (eg : g ≡ good f) where
@@ -73,6 +74,7 @@ module _ (ms : List Entry) (count sum k : ℕ) (f : Fields) (g : Bool) (more : k
       let l : k < length ms = omega arith in
       let n : f .len ≡ getD ms k noEntry .len = ap (λ (x : Fields). x .len) is in
       record {
+        few = m .few;
         below = omega arith;
         good = ap (λ (j : ℕ). allGood (take j ms)) (add-one k) ∙ good-more ms k l (m .good) (sym (ap good is) ∙ sym eg ∙ t);
         exact = (λ i. m .exact i + n i) ∙ sym (summed-more ms k l) ∙ ap (λ (j : ℕ). summed (take j ms)) (sym (add-one k));

@@ -1,8 +1,7 @@
 // The writer.
 ghost use mathlib.Core.Path.{_≡_};
-ghost use mathlib.Core.List.{_++_};
-ghost use lib.ListN.{length, take, drop};
-ghost use Rattle.packet.specs.Writing.{totalOf, encode, writeRefusal, written, outputOf};
+ghost use lib.ListN.{length, take};
+ghost use Rattle.packet.specs.Writing.{written, outputOf};
 use crate::fields::fields_for;
 use crate::output::put_all;
 use crate::output::put_fields;
@@ -20,10 +19,7 @@ pub fn write(messages: [Entry; 64], count: usize, bodies: &[u8], out: &mut [u8])
     ensures answer { λ r. ⌜ r ≡ written messages count (now (bodies .entry)) (length (now (out .entry))) ⌝ }
     ensures output { λ r. ⌜ now (out .exit) ≡ outputOf r (take count messages) (now (bodies .entry)) (now (out .entry)) ⌝ }
 {
-    if count < 1 {
-        return Written::Refused(24);
-    }
-    if COUNT_MAX < count {
+    if (count < 1) | (COUNT_MAX < count) {
         return Written::Refused(24);
     }
     let mut sum = 0;
@@ -42,25 +38,12 @@ pub fn write(messages: [Entry; 64], count: usize, bodies: &[u8], out: &mut [u8])
     }
     let start = HEADER_BYTES + ENTRY_BYTES * count;
     let total = start + sum;
-    if TOTAL_MAX < total {
+    if (TOTAL_MAX < total) | (out.len() < total) {
         return Written::Refused(25);
     }
-    if out.len() < total {
-        return Written::Refused(25);
-    }
-    store(messages, count, bodies, out);
-    Written::Total(total)
-}
-
-// The packet itself, once questions 24 and 25 have said yes.
-fn store(messages: [Entry; 64], count: usize, bodies: &[u8], out: &mut [u8])
-    requires { ⌜ writeRefusal messages count (now bodies) (length (now out)) ≡ 0 ⌝ }
-    ensures { λ _. ⌜ now (out .exit) ≡ encode 1 (take count messages) (now (bodies .entry)) ++ drop (totalOf count (now (bodies .entry))) (now (out .entry)) ⌝ }
-{
-    let start = HEADER_BYTES + ENTRY_BYTES * count;
     out[0] = RULE;
     out[1] = count as u8;
-    put2(out, 2, start + bodies.len());
+    put2(out, 2, total);
     let mut at = start;
     let mut pos = HEADER_BYTES;
     let mut j = 0;
@@ -73,4 +56,5 @@ fn store(messages: [Entry; 64], count: usize, bodies: &[u8], out: &mut [u8])
         j = j + 1;
     }
     put_all(out, start, bodies);
+    Written::Total(total)
 }
