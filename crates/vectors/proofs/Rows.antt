@@ -5,7 +5,7 @@ use mathlib.Core.Bool.{Bool, true, false, _&&_, false≢true}
 use mathlib.Core.List.{List, [], _∷_, List·Memᴰ, List·Memᴰ·cases-cons, List·Memᴰ·not-nil}
 use mathlib.Core.Logic.{_⊎_, inl, inr}
 use lib.Dec.{eqb}
-use lib.ListN.{getD}
+use lib.ListN.{getD, drop}
 use borrow.Author.Tests.{eqb-true}
 use Rattle.hermes.specs.declared.timestamp.Timestamp.{Timestamp}
 use Rattle.hermes.specs.declared.record.Record.{Record}
@@ -24,7 +24,13 @@ use Rattle.hermes.specs.Store.{padded, place}
 use Rattle.hermes.specs.Event.{numberOf, sentBy, send, refusal, effect}
 use Rattle.hermes.specs.Node.{Node, Outcome, recordOf, apply, start, view, viewed}
 use Rattle.hermes.proofs.Tests.{both}
-use Rattle.vectors.specs.Meaning.{Claim, answers, leaves, stamps, acknowledgedBy, sends, silent, unchanged, Says, SaysAll, Row, Holds, before, outcome}
+use Rattle.packet.specs.declared.entry.Entry.{Entry}
+use Rattle.packet.specs.declared.answer.Fetched.{Fetched}
+use Rattle.packet.specs.declared.answer.Fetched.the-variants.{Found, Refused}
+use Rattle.packet.specs.Entry.{good, entryBytes}
+use Rattle.packet.specs.Reading.{entryAt, walk, fetchRefusal, fetched}
+use Rattle.packet.specs.Writing.{contents, encode}
+use Rattle.vectors.specs.Meaning.{Claim, answers, leaves, stamps, acknowledgedBy, sends, silent, unchanged, Says, SaysAll, Row, row, packs, Holds, before, outcome}
 use Rattle.vectors.specs.Rows.{lent, rows}
 
 -- ---- equality, tested by numbers that stand for a thing and from which it can be had back
@@ -129,6 +135,27 @@ outgoing-had (Sent (Val t) h) = refl
 outgoingCode : Coded Outgoing
 outgoingCode = record { numbers = outgoingNumbers; back = outgoingBack; had = outgoing-had }
 
+fetchedNumbers : Fetched → List ℕ
+fetchedNumbers (Found e at) = 0 ∷ at ∷ e .len ∷ outgoingNumbers (Sent (e .message) (e .header))
+fetchedNumbers (Refused k) = 1 ∷ k ∷ []
+
+entryBack : ℕ → ℕ → Outgoing → Fetched
+entryBack at n None = Refused 0
+entryBack at n (Sent m h) = Found (record { header = h; message = m; len = n }) at
+
+fetchedBack : List ℕ → Fetched
+fetchedBack [] = Refused 0
+fetchedBack (zero ∷ l) = entryBack (getD l 0 0) (getD l 1 0) (outgoingBack (drop 2 l))
+fetchedBack (suc k ∷ l) = Refused (getD l 0 0)
+
+fetched-had : (f : Fetched) → fetchedBack (fetchedNumbers f) ≡ f
+unfolding fetchedBack fetchedNumbers entryBack
+fetched-had (Found e at) = rw (outgoing-had (Sent (e .message) (e .header)))
+fetched-had (Refused k) = refl
+
+fetchedCode : Coded Fetched
+fetchedCode = record { numbers = fetchedNumbers; back = fetchedBack; had = fetched-had }
+
 sameTable : List Record → List Record → Bool
 sameTable [] [] = true
 sameTable [] (y ∷ ys) = false
@@ -186,24 +213,32 @@ says-all [] n o e = tt
 says-all (c ∷ cs) n o e = let (p, q) = both (test c n o) (testAll cs n o) e in (says c n o p, says-all cs n o q)
 
 testRow : Node → Row → Bool
-testRow n r = testAll (r .claims) (before n (r .earlier)) (outcome (before n (r .earlier)) (r .deed))
+testRow n (row earlier deed claims) = testAll claims (before n earlier) (outcome (before n earlier) deed)
+testRow n (packs e p) = sameList (encode 1 (e ∷ []) []) p && same fetchedCode (fetched p 0) (Found e (entryAt 1))
+
+holds : (n : Node) (r : Row) → testRow n r ≡ true → Holds n r
+unfolding testRow
+holds n (row earlier deed claims) e = says-all claims (before n earlier) (outcome (before n earlier) deed) e
+holds n (packs m p) e =
+    let (s, t) = both (sameList (encode 1 (m ∷ []) []) p) (same fetchedCode (fetched p 0) (Found m (entryAt 1))) e in
+    (list-sound (encode 1 (m ∷ []) []) p s, same-sound fetchedCode (fetched p 0) (Found m (entryAt 1)) t)
 
 testRows : Node → List Row → Bool
 testRows n [] = true
 testRows n (r ∷ rs) = testRow n r && testRows n rs
 
 hold-all : (n : Node) (rs : List Row) → testRows n rs ≡ true → (r : Row) → List·Memᴰ r rs → Holds n r
-unfolding testRows testRow
+unfolding testRows
 hold-all n [] e r m = absurd (List·Memᴰ·not-nil m)
 hold-all n (q ∷ rs) e r m = go (List·Memᴰ·cases-cons m) (hold-all n rs (both (testRow n q) (testRows n rs) e .1) r)
   where
     go : (r ≡ q) ⊎ List·Memᴰ r rs → (List·Memᴰ r rs → Holds n r) → Holds n r
-    go (inl h) rest = rw h (says-all (q .claims) (before n (q .earlier)) (outcome (before n (q .earlier)) (q .deed)) (both (testRow n q) (testRows n rs) e .0))
+    go (inl h) rest = rw h (holds n q (both (testRow n q) (testRows n rs) e .0))
     go (inr h) rest = rest h
 
 -- the test, computed
 computed : testRows lent rows ≡ true
-unfolding testRows testRow testAll test same sameList sameTable sameNode stateCode timestampCode recordCode recordNumbers replicaCode outgoingCode outgoingNumbers messageNumbers lent rows apply effect refusal start view viewed has size lowest within othersIn with later sameTimestamp padded place
+unfolding testRows testRow testAll test same sameList sameTable sameNode stateCode timestampCode recordCode recordNumbers replicaCode outgoingCode outgoingNumbers messageNumbers lent rows apply effect refusal start view viewed has size lowest within othersIn with later sameTimestamp padded place fetchedCode fetchedNumbers good entryBytes walk fetchRefusal fetched contents encode
 computed = refl
 
 -- Every worked row holds.

@@ -10,6 +10,10 @@ use Rattle.hermes.specs.declared.message.Outgoing.the-variants.{None, Sent}
 use Rattle.hermes.specs.declared.event.Event.{Event}
 use Rattle.hermes.specs.Order.{higher}
 use Rattle.hermes.specs.Event.{answerOf, numberOf, sentBy, send}
+use Rattle.packet.specs.declared.entry.Entry.{Entry}
+use Rattle.packet.specs.declared.answer.Fetched.the-variants.{Found}
+use Rattle.packet.specs.Reading.{entryAt, fetched}
+use Rattle.packet.specs.Writing.{encode}
 use Rattle.hermes.specs.Node.{Node, Outcome, Start, recordOf, apply, start, viewed, identity, admissionNumber}
 
 -- what happens to the laptop of the rows, on its one record
@@ -47,10 +51,11 @@ pub data Claim : Type 0 where
   silent : Claim
   unchanged : Claim
 
-pub record Row : Type 0 where
-  pub earlier : List Deed
-  pub deed : Deed
-  pub claims : List Claim
+pub data Row : Type 0 where
+  -- earlier deeds, the row's own, and what is said of it
+  row : List Deed → Deed → List Claim → Row
+  -- a message without a body, and the bytes of its packet
+  packs : Entry → List ℕ → Row
 
 -- the claim, of the laptop n before the deed and the outcome o
 abbrev pub Says : Claim → Node → Outcome → Type 0
@@ -68,4 +73,5 @@ SaysAll (c ∷ cs) n o = Says c n o × SaysAll cs n o
 
 -- the row, of a laptop that was lent this memory
 abbrev pub Holds : Node → Row → Type 0
-Holds n r = SaysAll (r .claims) (before n (r .earlier)) (outcome (before n (r .earlier)) (r .deed))
+Holds n (row earlier deed claims) = SaysAll claims (before n earlier) (outcome (before n earlier) deed)
+Holds n (packs e p) = (encode 1 (e ∷ []) [] ≡ p) × (fetched p 0 ≡ Found e (entryAt 1))

@@ -8,7 +8,7 @@ use Rattle.hermes.specs.declared.record.State.the-variants as state
 use Rattle.hermes.specs.declared.event.Event.the-variants.{Read, Write, Replay, Deliver, Validate, Resend}
 use Rattle.hermes.specs.Record.{freshRecord}
 use Rattle.hermes.specs.Node.{Node, newcomer}
-use Rattle.vectors.specs.Meaning.{Deed, starts, does, turns, Claim, answers, leaves, stamps, acknowledgedBy, sends, silent, unchanged, Row}
+use Rattle.vectors.specs.Meaning.{Deed, starts, does, turns, Claim, answers, leaves, stamps, acknowledgedBy, sends, silent, unchanged, Row, row, packs}
 
 -- the laptop before its start: one record, and memory that holds something else
 unfoldable pub lent : Node
@@ -33,9 +33,6 @@ save = does Write (66 ∷ 49 ∷ [])
 
 abbrev ackOf : ℕ → ℕ → Message
 ackOf v t = Ack (record { version = v; tie = t })
-
-abbrev row : List Deed → Deed → List Claim → Row
-row earlier deed claims = record { earlier = earlier; deed = deed; claims = claims }
 
 -- a fresh start, then the deeds
 abbrev fresh : List Deed → List Deed
@@ -75,4 +72,7 @@ rows =
     ∷ row (fresh (turns 1 34 ∷ [])) (does Read []) (answers 3 ∷ unchanged ∷ [])
     -- epoch 1's VAL at epoch 0: 10
     ∷ row (fresh (inv 1 5 5 0 ∷ [])) (val 1 5 5 1) (answers 10 ∷ unchanged ∷ silent ∷ [])
+    -- ACK of (1,2) for record 7 from 5 at epoch 0 is packet 1,1,0,20,2,5,0,0,0,0,0,7,0,0,0,1,2,0,20,0
+    ∷ packs (record { header = record { sender = 5; epoch = 0; index = 7 }; message = ackOf 1 2; len = 0 })
+    (1 ∷ 1 ∷ 0 ∷ 20 ∷ 2 ∷ 5 ∷ 0 ∷ 0 ∷ 0 ∷ 0 ∷ 0 ∷ 7 ∷ 0 ∷ 0 ∷ 0 ∷ 1 ∷ 2 ∷ 0 ∷ 20 ∷ 0 ∷ [])
     ∷ []
