@@ -1,96 +1,69 @@
+-- `replica::events::step` meets its contract.
 use Rattle.hermes.specs.Order.{higher}
 use Rattle.hermes.specs.declared.event.Event.the-variants as event
 use Rattle.replica.proofs.Asked.{quiet}
-use mathlib.Core.Path.{refl, sym, ap, _∙_}
+use mathlib.Core.Path.{refl}
 use borrow.Author.Needs.{needs}
 use Rattle.replica.proofs.events.step.Statement.{statement}
 use Rattle.replica.proofs.events.step.Tie as tie
-use Rattle.replica.proofs.events.step.Reads as reads
-use Rattle.replica.proofs.events.step.Lts as lts
-use Rattle.replica.proofs.delivery.deliver.Reads as deliver-reads
-use Rattle.replica.proofs.reading.read_event.Reads as read-event-reads
-use Rattle.replica.proofs.settle.replay.Reads as replay-reads
-use Rattle.replica.proofs.settle.resend.Reads as resend-reads
-use Rattle.replica.proofs.settle.validate.Reads as validate-reads
-use Rattle.replica.proofs.writing.write.Reads as write-reads
 
--- src/events.rt:30:46
 enum-told : tie.Need-enum-told
 enum-told c = search needs
 
--- src/events.rt:30:24
 read-event-requires : tie.Need-read-event-requires
 read-event-requires c κs = search needs
 
--- src/events.rt:31:48
 enum-told-2 : tie.Need-enum-told-2
 enum-told-2 c = search needs
 
--- src/events.rt:31:25
 write-requires : tie.Need-write-requires
 write-requires c κs = search needs
 
--- src/events.rt:32:44
 enum-told-3 : tie.Need-enum-told-3
 enum-told-3 c = search needs
 
--- src/events.rt:32:26
 replay-requires : tie.Need-replay-requires
 replay-requires c κs = search needs
 
--- src/events.rt:33:24
 enum-known-e : tie.Need-enum-known-e
 enum-known-e c = search needs
 
--- src/events.rt:33:30
 deliver-requires : tie.Need-deliver-requires
 deliver-requires c κs = search needs
 
--- src/events.rt:34:48
 enum-told-4 : tie.Need-enum-told-4
 enum-told-4 c = search needs
 
--- src/events.rt:34:28
 validate-requires : tie.Need-validate-requires
 validate-requires c κs = search needs
 
--- src/events.rt:35:44
 enum-told-5 : tie.Need-enum-told-5
 enum-told-5 c = search needs
 
--- src/events.rt:35:26
 resend-requires : tie.Need-resend-requires
 resend-requires c κs = search needs
 
--- src/events.rt:17:1
 returns : tie.Need-returns
 returns c = let v = c .before .before .before .before .before .args in rw (c .before .enum-told .given .1, quiet higher (v .me) (v .count) (v .i) (v .r) (v .store .now) event.Read (v .value .now) tt) (c .read-event .ensures, refl)
 
--- src/events.rt:17:1
 same-length : tie.Need-same-length
 same-length c = search needs
 
--- src/events.rt:17:1
 returns-2 : tie.Need-returns-2
 returns-2 c = let v = c .before .before .before .before .before .before .before .before .args in rw (c .before .before .before .before .enum-told2 .given .1) (c .before .before .write .ensures)
 
--- src/events.rt:17:1
 returns-3 : tie.Need-returns-3
 returns-3 c = let v = c .before .before .before .before .before .args in rw (c .before .enum-told3 .given .1, quiet higher (v .me) (v .count) (v .i) (v .r) (v .store .now) event.Replay (v .value .now) tt) (c .replay .ensures, refl)
 
--- src/events.rt:17:1
 same-length-2 : tie.Need-same-length-2
 same-length-2 c = search needs
 
--- src/events.rt:17:1
 returns-4 : tie.Need-returns-4
 returns-4 c = let v = c .before .before .before .before .before .before .before .before .before .args in rw (c .before .before .before .before .before .e .given .1) (c .before .before .deliver .ensures)
 
--- src/events.rt:17:1
 returns-5 : tie.Need-returns-5
 returns-5 c = let v = c .before .before .before .before .before .args in rw (c .before .enum-told4 .given .1, quiet higher (v .me) (v .count) (v .i) (v .r) (v .store .now) event.Validate (v .value .now) tt) (c .validate .ensures, refl)
 
--- src/events.rt:17:1
 returns-6 : tie.Need-returns-6
 returns-6 c = let v = c .before .before .before .before .before .args in rw (c .before .enum-told5 .given .1, quiet higher (v .me) (v .count) (v .i) (v .r) (v .store .now) event.Resend (v .value .now) tt) (c .resend .ensures, refl)
 

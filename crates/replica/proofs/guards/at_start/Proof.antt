@@ -1,15 +1,11 @@
+-- `replica::guards::at_start` meets its contract.
 use Rattle.hermes.specs.Guards.{question1, question2, question3}
 use mathlib.Core.List.{[], _∷_}
 use mathlib.Core.Path.{sym, _∙_}
 use borrow.Author.Needs.{needs}
 use Rattle.replica.proofs.guards.at_start.Statement.{statement}
 use Rattle.replica.proofs.guards.at_start.Tie as tie
-use Rattle.replica.proofs.guards.at_start.Reads as reads
-use Rattle.replica.proofs.guards.at_start.Lts as lts
 use Rattle.replica.proofs.Asked.{then, stop}
-use Rattle.replica.proofs.guards.question1.Reads as question1-reads
-use Rattle.replica.proofs.guards.question2.Reads as question2-reads
-use Rattle.replica.proofs.guards.question3.Reads as question3-reads
 
 question1-requires : tie.Need-question1-requires
 question1-requires c κs = search needs

@@ -1,3 +1,4 @@
+-- `replica::guards::every` meets its contract.
 use Rattle.hermes.specs.Guards.{question4, question5}
 use Rattle.hermes.specs.Node.{startQuestions}
 use mathlib.Core.List.{[], _∷_}
@@ -5,12 +6,7 @@ use mathlib.Core.Path.{sym, _∙_}
 use borrow.Author.Needs.{needs}
 use Rattle.replica.proofs.guards.every.Statement.{statement}
 use Rattle.replica.proofs.guards.every.Tie as tie
-use Rattle.replica.proofs.guards.every.Reads as reads
-use Rattle.replica.proofs.guards.every.Lts as lts
 use Rattle.replica.proofs.Asked.{then, stop}
-use Rattle.replica.proofs.guards.at_start.Reads as at-start-reads
-use Rattle.replica.proofs.guards.question4.Reads as question4-reads
-use Rattle.replica.proofs.guards.question5.Reads as question5-reads
 
 at-start-requires : tie.Need-at-start-requires
 at-start-requires c κs = search needs

@@ -1,13 +1,10 @@
+-- `replica::guards::question` meets its contract.
 use Rattle.replica.proofs.guards.question.Statement.{statement}
 use Rattle.replica.proofs.guards.question.Tie as tie
-use Rattle.replica.proofs.guards.question.Reads as reads
-use Rattle.replica.proofs.guards.question.Lts as lts
 
--- src/guards.rt:23:1
 returns : tie.Need-returns
 returns c = rw (c .if1 .taken)
 
--- src/guards.rt:23:1
 returns-2 : tie.Need-returns-2
 returns-2 c = rw (c .if1 .left)
 

@@ -1,18 +1,15 @@
-use mathlib.Core.Path.{refl, sym, ap, _∙_}
+-- `replica::members::lowest` meets its contract.
+use mathlib.Core.Path.{sym}
 use native.Mathlib.Nat.{lt-of-le-of-lt}
 use lib.Count.{trailing-le}
 use lib.Dec.{lit<}
 use Rattle.hermes.proofs.Members.{lowest-zeros}
 use Rattle.replica.proofs.members.lowest.Statement.{statement}
 use Rattle.replica.proofs.members.lowest.Tie as tie
-use Rattle.replica.proofs.members.lowest.Reads as reads
-use Rattle.replica.proofs.members.lowest.Lts as lts
 
--- src/members.rt:29:5
 cast-result : tie.Need-cast-result
 cast-result c = record { fits = lt-of-le-of-lt (trailing-le 16 (c .args .set)) (lit< tt) }
 
--- src/members.rt:26:1
 returns : tie.Need-returns
 returns c = sym (lowest-zeros (c .args .set))
 

@@ -1,22 +1,17 @@
+-- `replica::membership::admission` meets its contract.
 use borrow.Author.Needs.{needs}
 use Rattle.replica.proofs.membership.admission.Statement.{statement}
 use Rattle.replica.proofs.membership.admission.Tie as tie
-use Rattle.replica.proofs.membership.admission.Reads as reads
-use Rattle.replica.proofs.membership.admission.Lts as lts
 
--- src/membership.rt:17:24
 enum-known-a : tie.Need-enum-known-a
 enum-known-a c = search needs
 
--- src/membership.rt:18:29
 enum-told : tie.Need-enum-told
 enum-told c = search needs
 
--- src/membership.rt:13:1
 returns : tie.Need-returns
 returns c = rw (c .before .a .given .1)
 
--- src/membership.rt:13:1
 returns-2 : tie.Need-returns-2
 returns-2 c = rw (c .enum-told .given .1)
 

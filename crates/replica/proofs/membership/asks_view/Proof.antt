@@ -1,16 +1,11 @@
+-- `replica::membership::asks_view` meets its contract.
 use Rattle.hermes.specs.Guards.{question1, question3, question18, question19}
 use mathlib.Core.List.{[], _∷_}
 use mathlib.Core.Path.{sym, _∙_}
 use borrow.Author.Needs.{needs}
 use Rattle.replica.proofs.membership.asks_view.Statement.{statement}
 use Rattle.replica.proofs.membership.asks_view.Tie as tie
-use Rattle.replica.proofs.membership.asks_view.Reads as reads
-use Rattle.replica.proofs.membership.asks_view.Lts as lts
 use Rattle.replica.proofs.Asked.{then, stop}
-use Rattle.replica.proofs.guards.question1.Reads as question1-reads
-use Rattle.replica.proofs.guards.question3.Reads as question3-reads
-use Rattle.replica.proofs.guards.question18.Reads as question18-reads
-use Rattle.replica.proofs.guards.question19.Reads as question19-reads
 
 question1-requires : tie.Need-question1-requires
 question1-requires c κs = search needs

@@ -1,3 +1,4 @@
+-- `replica::membership::view` meets its contract.
 use mathlib.Core.Path.{refl, ap, _∙_}
 use Rattle.hermes.specs.declared.event.Replica.{Replica}
 use Rattle.replica.specs.declared.guards.Asked.{Asked}
@@ -7,25 +8,16 @@ use Rattle.hermes.specs.Node.{view, viewQuestions}
 use borrow.Author.Needs.{needs}
 use Rattle.replica.proofs.membership.view.Statement.{statement}
 use Rattle.replica.proofs.membership.view.Tie as tie
-use Rattle.replica.proofs.membership.view.Reads as reads
-use Rattle.replica.proofs.membership.view.Lts as lts
-use Rattle.replica.proofs.membership.admission.Reads as admission-reads
-use Rattle.replica.proofs.membership.asks_view.Reads as asks-view-reads
-use Rattle.replica.proofs.membership.fresh_record.Reads as fresh-record-reads
 
--- src/membership.rt:68:41
 fresh-record-requires : tie.Need-fresh-record-requires
 fresh-record-requires c κs = search needs
 
--- src/membership.rt:68:15
 asks-view-requires : tie.Need-asks-view-requires
 asks-view-requires c κs = search needs
 
--- src/membership.rt:68:5
 admission-requires : tie.Need-admission-requires
 admission-requires c κs = search needs
 
--- src/membership.rt:60:1
 returns : tie.Need-returns
 unfolding view
 returns c =

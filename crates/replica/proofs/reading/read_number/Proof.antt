@@ -1,16 +1,12 @@
-use mathlib.Core.Path.{refl, sym, ap, _∙_}
+-- `replica::reading::read_number` meets its contract.
+use mathlib.Core.Path.{ap}
 use borrow.Author.Needs.{needs}
 use Rattle.replica.proofs.reading.read_number.Statement.{statement}
 use Rattle.replica.proofs.reading.read_number.Tie as tie
-use Rattle.replica.proofs.reading.read_number.Reads as reads
-use Rattle.replica.proofs.reading.read_number.Lts as lts
-use Rattle.replica.proofs.reading.read_event.Reads as read-event-reads
 
--- src/reading.rt:45:9
 read-event-requires : tie.Need-read-event-requires
 read-event-requires c κs = search needs
 
--- src/reading.rt:42:1
 returns : tie.Need-returns
 returns c = ap (λ m. m .answer) (c .read-event .ensures)
 

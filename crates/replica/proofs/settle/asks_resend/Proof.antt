@@ -1,3 +1,4 @@
+-- `replica::settle::asks_resend` meets its contract.
 use Rattle.hermes.specs.Event.{common}
 use Rattle.hermes.specs.Guards.{question17}
 use Rattle.replica.proofs.Asked.{then, stop}
@@ -6,24 +7,16 @@ use mathlib.Core.Path.{sym, _∙_}
 use borrow.Author.Needs.{needs}
 use Rattle.replica.proofs.settle.asks_resend.Statement.{statement}
 use Rattle.replica.proofs.settle.asks_resend.Tie as tie
-use Rattle.replica.proofs.settle.asks_resend.Reads as reads
-use Rattle.replica.proofs.settle.asks_resend.Lts as lts
-use Rattle.replica.proofs.guards.every.Reads as every-reads
-use Rattle.replica.proofs.guards.question17.Reads as question17-reads
 
--- src/settle.rt:101:9
 every-requires : tie.Need-every-requires
 every-requires c κs = search needs
 
--- src/settle.rt:102:23
 enum-known-a : tie.Need-enum-known-a
 enum-known-a c = search needs
 
--- src/settle.rt:103:9
 enum-told : tie.Need-enum-told
 enum-told c = search needs
 
--- src/settle.rt:103:9
 returns : tie.Need-returns
 returns c = let v = c .before .before .before .args in
     c .enum-told .given .1
@@ -31,11 +24,9 @@ returns c = let v = c .before .before .before .args in
     stop (common (v .me) (v .count) (v .bytes) (v .i) (v .r) []) (question17 (v .me) (v .r) ∷ []) (v .r) (c .enum-told .given .0 .0) (sym (c .before .before .every .ensures) ∙ c .enum-told .given .1)
     )
 
--- src/settle.rt:105:5
 question17-requires : tie.Need-question17-requires
 question17-requires c κs = search needs
 
--- src/settle.rt:98:1
 returns-2 : tie.Need-returns-2
 returns-2 c = let v = c .before .before .before .before .before .args in
     c .question17 .ensures

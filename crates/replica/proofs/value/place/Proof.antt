@@ -1,21 +1,19 @@
 -- The store after a copy of a value and its zeros. While k bytes are copied the store is the old one with k bytes of the padded value pasted in;
 -- the second loop pastes on from where the first stopped.
 use Prim.Native.Nat.{ℕ, _≤_, _<_, _-_, _+_, _*_}
-use mathlib.Core.Path.{_≡_, refl, sym, ap, subst⁻¹, _∙_}
+use mathlib.Core.Path.{_≡_, refl, subst⁻¹, _∙_}
 use mathlib.Core.List.{List}
 use native.Mathlib.Nat.{le-antisymm}
 use native.Mathlib.Numerals.{add-one}
 use native.Mathlib.Omega.{arith}
 use borrow.Author.Needs.{needs}
-use lib.ListN.{length, set, length-set, getD, List·getD-eq-default}
+use lib.ListN.{length, length-set, getD, List·getD-eq-default}
 use lib.Seq.{paste, paste-zero, paste-suc}
 use Rattle.hermes.specs.Store.{padded}
 use Rattle.hermes.proofs.Store.{length-padded}
 use Rattle.replica.proofs.Bytes.{getD-padded, paste-place}
 use Rattle.replica.proofs.value.place.Statement.{statement}
 use Rattle.replica.proofs.value.place.Tie as tie
-use Rattle.replica.proofs.value.place.Reads as reads
-use Rattle.replica.proofs.value.place.Lts as lts
 
 abbrev Inv-loop : tie.InvT-loop
 Inv-loop store₀ i value at k₀ store k = (k ≤ length value) × ((store ≡ paste store₀ at (padded value) k) × (length store ≡ length store₀))
@@ -29,35 +27,27 @@ Inv-loop2 store₀ i value at k₀ store k = (k ≤ 192) × ((length value ≤ k
 abbrev μ-loop2 : tie.MeasureT-loop2
 μ-loop2 store₀ i value at k₀ store k = 192 - k
 
--- src/value.rt:13:14
 mul-at : tie.Need-mul-at Inv-loop μ-loop Inv-loop2 μ-loop2
 mul-at c = omega arith
 
--- src/value.rt:15:5
 loop-holds : tie.Need-loop-holds Inv-loop μ-loop Inv-loop2 μ-loop2
 loop-holds c = let a = c .args in (omega arith, (paste-zero (a .store .now) (192 * a .i) (padded (a .value .now)), refl))
 
--- src/value.rt:16:25
 shared-slice-read-store : tie.Need-shared-slice-read-store Inv-loop μ-loop Inv-loop2 μ-loop2
 shared-slice-read-store c = search needs
 
--- src/value.rt:16:15
 add-store : tie.Need-add-store Inv-loop μ-loop Inv-loop2 μ-loop2
 add-store c = search needs
 
--- src/value.rt:16:9
 slice-write-store : tie.Need-slice-write-store Inv-loop μ-loop Inv-loop2 μ-loop2
 slice-write-store c = search needs
 
--- src/value.rt:17:9
 add-k : tie.Need-add-k Inv-loop μ-loop Inv-loop2 μ-loop2
 add-k c = search needs
 
--- src/value.rt:15:5
 loop-less : tie.Need-loop-less Inv-loop μ-loop Inv-loop2 μ-loop2
 loop-less c = search needs
 
--- src/value.rt:15:5
 loop-again : tie.Need-loop-again Inv-loop μ-loop Inv-loop2 μ-loop2
 loop-again c =
     let l = c .before .before .loop in let a = c .before .before .before .args in
@@ -70,27 +60,21 @@ loop-again c =
       ),
     )
 
--- src/value.rt:19:5
 loop2-holds : tie.Need-loop2-holds Inv-loop μ-loop Inv-loop2 μ-loop2
 loop2-holds c = (omega arith, (omega arith, (λ d h e. e, refl)))
 
--- src/value.rt:20:15
 add-store-2 : tie.Need-add-store-2 Inv-loop μ-loop Inv-loop2 μ-loop2
 add-store-2 c = search needs
 
--- src/value.rt:20:9
 slice-write-store-2 : tie.Need-slice-write-store-2 Inv-loop μ-loop Inv-loop2 μ-loop2
 slice-write-store-2 c = search needs
 
--- src/value.rt:21:9
 add-k-2 : tie.Need-add-k-2 Inv-loop μ-loop Inv-loop2 μ-loop2
 add-k-2 c = search needs
 
--- src/value.rt:19:5
 loop2-less : tie.Need-loop2-less Inv-loop μ-loop Inv-loop2 μ-loop2
 loop2-less c = search needs
 
--- src/value.rt:19:5
 loop2-again : tie.Need-loop2-again Inv-loop μ-loop Inv-loop2 μ-loop2
 loop2-again c =
     let l = c .before .loop2 in let a = c .before .before .before .before .args in
@@ -107,11 +91,9 @@ loop2-again c =
       ),
     )
 
--- src/value.rt:9:1
 same-length : tie.Need-same-length Inv-loop μ-loop Inv-loop2 μ-loop2
 same-length c = search needs
 
--- src/value.rt:9:1
 returns : tie.Need-returns Inv-loop μ-loop Inv-loop2 μ-loop2
 returns c =
     let l = c .before .loop2 in let a = c .before .before .before .before .args in
