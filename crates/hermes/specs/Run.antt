@@ -10,9 +10,8 @@ use Rattle.hermes.specs.declared.message.Outgoing.the-variants.{None, Se
 use Rattle.hermes.specs.declared.message.Received.{Received}
 use Rattle.hermes.specs.declared.event.Event.{Event}
 use Rattle.hermes.specs.declared.event.Event.the-variants.{Read, Write, Replay, Deliver, Validate, Resend}
-use Rattle.hermes.specs.Event.{bodyOf, sentBy}
-use Rattle.hermes.specs.Node.{Node, Outcome, recordOf, apply, viewed}
-use Rattle.hermes.specs.Store.{valueAt}
+use Rattle.hermes.specs.Event.{sentBy}
+use Rattle.hermes.specs.Node.{Node, Outcome, leaving, apply, viewed}
 
 -- a message as it left, with the bytes that it took along
 pub record Logged : Type 0 where
@@ -84,7 +83,7 @@ nodeAfter (event o) n = o .node
 -- the log with what left, and the bytes that an INV took along: the record's value after the event
 abbrev pub logged : List Logged → Node → Outgoing → List Logged
 logged log n None = log
-logged log n (Sent m h) = log ++ (record { header = h; message = m; body = bodyOf m (valueAt (h .index) (recordOf (h .index) n .len) (n .store)) } ∷ [])
+logged log n (Sent m h) = log ++ (record { header = h; message = m; body = leaving (Sent m h) (n .table) (n .store) } ∷ [])
 
 abbrev pub logAfter : Result → List Logged → List Logged
 logAfter nothing log = log
