@@ -23,7 +23,7 @@ module _ (wins : ℕ → ℕ → Bool) (n : Node) (p : List ℕ) where
   still o (accepted y c q) = let five = first-five n 4096 Read [] y in absurd (omega (arith, five .inside, five .few))
 
   -- the outcome of what a fetch comes to
-  abbrev pub outcomeOf : Arriving → Outcome
+  abbrev outcomeOf : Arriving → Outcome
   outcomeOf c = apply wins n (c .index) (c .event) (bodyOf p (c .fetched))
 
   abbrev Same : Fetched → Arriving → Type 0
