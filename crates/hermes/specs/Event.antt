@@ -159,21 +159,32 @@ abbrev pub sentBy : Answer → Outgoing
 sentBy (Accepted o) = o
 sentBy (Refused k) = None
 
--- the answer and the record, and the whole store
-pub record Effect : Type 0 where
-  pub moved : Moved
-  pub store : List ℕ
-
 abbrev pub storing : ℕ → Stored → List ℕ → List ℕ
 storing i kept store = store
 storing i (placed v) store = place i v store
 
 -- 01, "A "no" .. leaves every lent byte and record as found"
-abbrev pub decide : ℕ → ℕ → Record → List ℕ → Step → Effect
-decide zero i r store s = record { moved = record { answer = answerOf zero (s .sent); after = s .after }; store = storing i (s .stored) store }
-decide (suc k) i r store s = record { moved = record { answer = answerOf (suc k) (s .sent); after = r }; store = store }
+abbrev pub movedBy : ℕ → Record → Step → Moved
+movedBy zero r s = record { answer = answerOf zero (s .sent); after = s .after }
+movedBy (suc k) r s = record { answer = answerOf (suc k) (s .sent); after = r }
 
--- An event on record i, r, of replica me with so many records and this store; v is the value that comes with the event.
+abbrev pub storedBy : ℕ → ℕ → List ℕ → Step → List ℕ
+storedBy zero i store s = storing i (s .stored) store
+storedBy (suc k) i store s = store
+
+-- An event on record i, r, of replica me with so many records and bytes of store: the answer, and the record after. v is the value that comes with the event.
+unfoldable pub moved : (ℕ → ℕ → Bool) → Replica → ℕ → ℕ → ℕ → Record → Event → List ℕ → Moved
+moved wins me count bytes i r e v = movedBy (refusal me count bytes i r e (length v)) r (step wins me i r e v)
+
+-- the answer and the record, and the whole store
+pub record Effect : Type 0 where
+  pub moved : Moved
+  pub store : List ℕ
+
+abbrev pub decide : ℕ → ℕ → Record → List ℕ → Step → Effect
+decide k i r store s = record { moved = movedBy k r s; store = storedBy k i store s }
+
+-- the same event with its store
 unfoldable pub effect : (ℕ → ℕ → Bool) → Replica → ℕ → ℕ → Record → List ℕ → Event → List ℕ → Effect
 effect wins me count i r store e v =
     decide (refusal me count (length store) i r e (length v)) i r store (step wins me i r e v)

@@ -1,0 +1,113 @@
+-- The order of timestamps is a total order, over any strict total order of ties. The idea: it is read as three cases, equal, an older version,
+-- or one version and a losing tie.
+use Prim.Native.Nat.{ℕ, _≤_, _<_}
+use mathlib.Core.Path.{_≡_, refl, sym, ap, subst, _∙_}
+use mathlib.Core.Bool.{Bool, true, false, _&&_, false≢true}
+use mathlib.Core.Logic.{_⊎_, inl, inr}
+use native.Mathlib.Omega.{arith}
+use lib.Dec.{ltb, eqb}
+use borrow.Author.Tests.{ltb-true, ltb-false, eqb-true, eqb-false, lt-ltb, le-ltb, eq-eqb}
+use Rattle.hermes.specs.declared.timestamp.Timestamp.{Timestamp}
+use Rattle.hermes.specs.Order.{TieOrder, higher, later, sameTimestamp, NotAfter, equal, rises}
+use Rattle.hermes.proofs.Tests.{both, either, neither}
+
+pub timestamp-path : {s t : Timestamp} → s .version ≡ t .version → s .tie ≡ t .tie → s ≡ t
+timestamp-path p q = λ i. record { version = p i; tie = q i }
+
+pub same-equal : (s t : Timestamp) → sameTimestamp s t ≡ true → s ≡ t
+unfolding sameTimestamp
+same-equal s t h = let (p, q) = both (eqb (s .version) (t .version)) (eqb (s .tie) (t .tie)) h in timestamp-path (eqb-true _ _ p) (eqb-true _ _ q)
+
+pub equal-same : (s t : Timestamp) → s ≡ t → sameTimestamp s t ≡ true
+unfolding sameTimestamp
+equal-same s t e = rw (e, eq-eqb (t .version) (t .version) refl, eq-eqb (t .tie) (t .tie) refl)
+
+-- document 01's order of ties
+pub higher-order : TieOrder higher
+higher-order = record {
+  irreflexive = λ a. le-ltb a a (omega arith);
+  transitive = λ a b c p q. lt-ltb c a (omega (arith, ltb-true b a p, ltb-true c b q));
+  total = λ a b d p. lt-ltb a b (omega (arith, d, ltb-false b a p));
+}
+
+-- `NotAfter`, read as facts
+data Before (wins : ℕ → ℕ → Bool) (s t : Timestamp) : Type 0 where
+  one : s ≡ t → Before wins s t
+  older : s .version < t .version → Before wins s t
+  tied : s .version ≡ t .version → wins (t .tie) (s .tie) ≡ true → Before wins s t
+
+module _ (wins : ℕ → ℕ → Bool) where
+  facts : (s t : Timestamp) → NotAfter wins s t → Before wins s t
+  facts s t (equal e) = one e
+  facts s t (rises g) = go (either _ _ (unfold later in g))
+    where
+      go : (ltb (s .version) (t .version) ≡ true) ⊎ ((eqb (t .version) (s .version) && wins (t .tie) (s .tie)) ≡ true) → Before wins s t
+      go (inl h) = older (ltb-true _ _ h)
+      go (inr h) = let (p, q) = both _ _ h in tied (sym (eqb-true _ _ p)) q
+
+  later-older : (s t : Timestamp) → s .version < t .version → later wins t s ≡ true
+  unfolding later
+  later-older s t h = rw (lt-ltb (s .version) (t .version) h)
+
+  later-tied : (s t : Timestamp) → s .version ≡ t .version → wins (t .tie) (s .tie) ≡ true → later wins t s ≡ true
+  unfolding later
+  later-tied s t p q = rw (le-ltb (s .version) (t .version) (omega arith), eq-eqb (t .version) (s .version) (sym p), q)
+
+  test : {s t : Timestamp} → Before wins s t → NotAfter wins s t
+  test (one e) = equal e
+  test {s} {t} (older h) = rises (later-older s t h)
+  test {s} {t} (tied p q) = rises (later-tied s t p q)
+
+  pub notAfter-refl : (s : Timestamp) → NotAfter wins s s
+  notAfter-refl s = equal refl
+
+  version-le : (s t : Timestamp) → Before wins s t → s .version ≤ t .version
+  version-le s t (one e) = omega (arith, ap (λ (x : Timestamp). x .version) e)
+  version-le s t (older h) = omega arith
+  version-le s t (tied p q) = omega arith
+
+  -- versions rise with timestamps, and a newer version is a later timestamp
+  pub notAfter-version : {s t : Timestamp} → NotAfter wins s t → s .version ≤ t .version
+  notAfter-version {s} {t} h = version-le s t (facts s t h)
+
+  pub notAfter-newer : (s t : Timestamp) → s .version < t .version → NotAfter wins s t
+  notAfter-newer s t h = test (older h)
+
+module _ (wins : ℕ → ℕ → Bool) (ord : TieOrder wins) where
+  before-trans : (s t u : Timestamp) → Before wins s t → Before wins t u → Before wins s u
+  before-trans s t u (one e) k = subst (λ (x : Timestamp). Before wins x u) (sym e) k
+  before-trans s t u (older h) (one e) = subst (λ (x : Timestamp). Before wins s x) e (older h)
+  before-trans s t u (older h) (older k) = older (omega arith)
+  before-trans s t u (older h) (tied p q) = older (omega arith)
+  before-trans s t u (tied p q) (one e) = subst (λ (x : Timestamp). Before wins s x) e (tied p q)
+  before-trans s t u (tied p q) (older k) = older (omega arith)
+  before-trans s t u (tied p q) (tied p′ q′) = tied (omega arith) (ord .transitive _ _ _ q′ q)
+
+  pub notAfter-trans : {s t u : Timestamp} → NotAfter wins s t → NotAfter wins t u → NotAfter wins s u
+  notAfter-trans {s} {t} {u} h k = test wins (before-trans s t u (facts wins s t h) (facts wins t u k))
+
+  before-antisym : (s t : Timestamp) → Before wins s t → Before wins t s → s ≡ t
+  before-antisym s t (one e) k = e
+  before-antisym s t (older h) (one e) = sym e
+  before-antisym s t (older h) (older k) = absurd (omega arith)
+  before-antisym s t (older h) (tied p q) = absurd (omega arith)
+  before-antisym s t (tied p q) (one e) = sym e
+  before-antisym s t (tied p q) (older k) = absurd (omega arith)
+  before-antisym s t (tied p q) (tied p′ q′) = absurd (false≢true (sym (ord .irreflexive (s .tie)) ∙ ord .transitive _ _ _ q′ q))
+
+  pub notAfter-antisym : {s t : Timestamp} → NotAfter wins s t → NotAfter wins t s → s ≡ t
+  notAfter-antisym {s} {t} h k = before-antisym s t (facts wins s t h) (facts wins t s k)
+
+  -- the order is total: what is not later is not after
+  pub notAfter-total : (s t : Timestamp) → later wins s t ≡ false → NotAfter wins s t
+  unfolding later
+  notAfter-total s t g = let (a, b) = neither _ _ g in go a b (ltb (s .version) (t .version)) refl (eqb (s .tie) (t .tie)) refl
+    where
+      level : ltb (t .version) (s .version) ≡ false → ltb (s .version) (t .version) ≡ false → s .version ≡ t .version
+      level a p = omega (arith, ltb-false (t .version) (s .version) a, ltb-false (s .version) (t .version) p)
+
+      go : ltb (t .version) (s .version) ≡ false → (eqb (s .version) (t .version) && wins (s .tie) (t .tie)) ≡ false
+          → (x : Bool) → ltb (s .version) (t .version) ≡ x → (y : Bool) → eqb (s .tie) (t .tie) ≡ y → NotAfter wins s t
+      go a b true p y q = test wins (older (ltb-true _ _ p))
+      go a b false p true q = equal (timestamp-path (level a p) (eqb-true _ _ q))
+      go a b false p false q = test wins (tied (level a p) (ord .total (s .tie) (t .tie) (eqb-false _ _ q) (rw (eq-eqb (s .version) (t .version) (level a p)) at b)))

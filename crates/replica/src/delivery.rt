@@ -1,0 +1,110 @@
+// Deliver: an invalidation, an acknowledgement or a validation comes in.
+ghost use mathlib.Core.Path.{_≡_};
+ghost use Prim.Native.Nat.{_≤_, _+_, _*_};
+ghost use lib.ListN.{length};
+ghost use Rattle.hermes.specs.Order.{higher, later};
+ghost use Rattle.hermes.specs.Event.{common, own, effect, decide, invStep};
+ghost use Rattle.hermes.specs.declared.event.Event.the-variants.{Deliver};
+ghost use Rattle.replica.specs.Asked.{asked};
+use crate::guards;
+use crate::guards::Asked;
+use crate::leaving;
+use crate::value;
+use hermes::Answer;
+use hermes::Message;
+use hermes::Moved;
+use hermes::Outgoing;
+use hermes::Received;
+use hermes::Record;
+use hermes::Replica;
+use hermes::Timestamp;
+
+fn asks(
+    me: Replica,
+    count: usize,
+    bytes: usize,
+    i: usize,
+    r: Record,
+    m: Received,
+    n: usize,
+) -> Asked
+    ensures { λ a. ⌜ a ≡ asked (common me count bytes i r (own me r (Deliver m) n)) r ⌝ }
+{
+    let a = guards::every(me, count, bytes, i, r);
+    let Asked::Passed(r1) = a else {
+        return a;
+    };
+    let b = guards::question10(me, m, r1);
+    let Asked::Passed(r2) = b else {
+        return b;
+    };
+    let c = guards::question11(me, m, r2);
+    let Asked::Passed(r3) = c else {
+        return c;
+    };
+    let d = guards::question12(m, n, r3);
+    let Asked::Passed(r4) = d else {
+        return d;
+    };
+    let message = m.message;
+    guards::of_kind(message, m.sender, r4)
+}
+
+// An accepted invalidation: its acknowledgement always leaves; only a greater timestamp is taken.
+fn take_inv(
+    me: Replica,
+    i: usize,
+    r: Record,
+    store: &mut [u8],
+    t: Timestamp,
+    sender: u8,
+    value: &[u8],
+) -> Moved
+    requires { ⌜ (192 * i + 192 ≤ length (now store)) × (length (now value) ≤ 192) ⌝ }
+    ensures { λ m. ⌜ (m ≡ decide 0 i r (now (store .entry)) (invStep (later higher t (r .timestamp)) me i r t sender (now (value .entry))) .moved)
+        × (now (store .exit) ≡ decide 0 i r (now (store .entry)) (invStep (later higher t (r .timestamp)) me i r t sender (now (value .entry))) .store) ⌝ }
+{
+    let ack = leaving::send(me, i, Message::Ack(t));
+    if t.later(r.timestamp) {
+        value::place(store, i, value);
+        return Moved {
+            answer: Answer::Accepted(ack),
+            after: r.take_invalidation(t, sender, value.len() as u8),
+        };
+    }
+    Moved {
+        answer: Answer::Accepted(ack),
+        after: r,
+    }
+}
+
+// Delivery of a message about record i, r, with its value bytes.
+pub fn deliver(
+    me: Replica,
+    count: usize,
+    i: usize,
+    r: Record,
+    store: &mut [u8],
+    m: Received,
+    value: &[u8],
+) -> Moved
+    ensures { λ d. ⌜ (d ≡ effect higher me count i r (now (store .entry)) (Deliver m) (now (value .entry)) .moved)
+        × (now (store .exit) ≡ effect higher me count i r (now (store .entry)) (Deliver m) (now (value .entry)) .store) ⌝ }
+{
+    let a = asks(me, count, store.len(), i, r, m, value.len());
+    let Asked::Passed(r1) = a else {
+        return guards::stopped(a, r);
+    };
+    let message = m.message;
+    match message {
+        Message::Inv(t) => take_inv(me, i, r1, store, t, m.sender, value),
+        Message::Ack(_) => Moved {
+            answer: Answer::Accepted(Outgoing::None),
+            after: r1.acknowledge(m.sender),
+        },
+        Message::Val(_) => Moved {
+            answer: Answer::Accepted(Outgoing::None),
+            after: r1.validate(),
+        },
+    }
+}

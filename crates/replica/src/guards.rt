@@ -1,0 +1,223 @@
+// The numbered questions. Each passes its record on, or refuses with its number.
+ghost use mathlib.Core.Path.{_≡_};
+ghost use mathlib.Core.List.{[], _∷_};
+ghost use Rattle.hermes.specs.Event.{common, ofKind};
+ghost use Rattle.hermes.specs.Guards.{ask, question1, question2, question3, question4, question5, question6, question7, question8, question9, question10, question11, question12, question13, question14, question15, question16, question17};
+ghost use Rattle.replica.specs.Asked.{asked, stoppedBy};
+use crate::members;
+use crate::states;
+use hermes::Answer;
+use hermes::Message;
+use hermes::Moved;
+use hermes::Outgoing;
+use hermes::Received;
+use hermes::Record;
+use hermes::Replica;
+use hermes::Timestamp;
+
+pub(crate) enum Asked {
+    Passed(Record),
+    Refused(u8),
+}
+
+fn question(number: u8, yes: bool, r: Record) -> Asked
+    ensures { λ a. ⌜ a ≡ asked (ask number yes ∷ []) r ⌝ }
+{
+    if yes {
+        Asked::Passed(r)
+    } else {
+        Asked::Refused(number)
+    }
+}
+
+// The end of an event that a question refused.
+pub(crate) fn stopped(a: Asked, r: Record) -> Moved
+    ensures { λ m. ⌜ m ≡ stoppedBy a r ⌝ }
+{
+    match a {
+        Asked::Refused(k) => Moved {
+            answer: Answer::Refused(k),
+            after: r,
+        },
+        Asked::Passed(_) => Moved {
+            answer: Answer::Accepted(Outgoing::None),
+            after: r,
+        },
+    }
+}
+
+pub(crate) fn question1(me: Replica, r: Record) -> Asked
+    ensures { λ a. ⌜ a ≡ asked (question1 me ∷ []) r ⌝ }
+{
+    let two = members::plural(me.view);
+    question(1, (me.number <= Record::NUMBER_MAX) & two, r)
+}
+
+pub(crate) fn question2(count: usize, bytes: usize, r: Record) -> Asked
+    ensures { λ a. ⌜ a ≡ asked (question2 count bytes ∷ []) r ⌝ }
+{
+    if count <= Record::COUNT_MAX {
+        question(2, (1 <= count) & (bytes == Record::VALUE_MAX * count), r)
+    } else {
+        Asked::Refused(2)
+    }
+}
+
+pub(crate) fn question3(me: Replica, r: Record) -> Asked
+    ensures { λ a. ⌜ a ≡ asked (question3 me ∷ []) r ⌝ }
+{
+    question(3, members::has(me.view, me.number), r)
+}
+
+pub(crate) fn question4(i: usize, count: usize, r: Record) -> Asked
+    ensures { λ a. ⌜ a ≡ asked (question4 i count ∷ []) r ⌝ }
+{
+    question(4, i < count, r)
+}
+
+pub(crate) fn question5(me: Replica, r: Record) -> Asked
+    ensures { λ a. ⌜ a ≡ asked (question5 me r ∷ []) r ⌝ }
+{
+    let counted = members::has(r.acks, me.number);
+    let short = r.len as usize <= Record::VALUE_MAX;
+    let ties = (r.timestamp.tie <= Record::NUMBER_MAX) & (r.written.tie <= Record::NUMBER_MAX);
+    question(
+        5,
+        short & ties & (r.writer <= Record::NUMBER_MAX) & !counted,
+        r,
+    )
+}
+
+// Questions 1 to 5, of every event.
+pub(crate) fn every(me: Replica, count: usize, bytes: usize, i: usize, r: Record) -> Asked
+    ensures { λ a. ⌜ a ≡ asked (common me count bytes i r []) r ⌝ }
+{
+    let a = question1(me, r);
+    let Asked::Passed(r1) = a else {
+        return a;
+    };
+    let b = question2(count, bytes, r1);
+    let Asked::Passed(r2) = b else {
+        return b;
+    };
+    let c = question3(me, r2);
+    let Asked::Passed(r3) = c else {
+        return c;
+    };
+    let d = question4(i, count, r3);
+    let Asked::Passed(r4) = d else {
+        return d;
+    };
+    question5(me, r4)
+}
+
+pub(crate) fn question6(r: Record) -> Asked
+    ensures { λ a. ⌜ a ≡ asked (question6 r ∷ []) r ⌝ }
+{
+    let s = r.state;
+    question(6, states::is_valid(s), r)
+}
+
+pub(crate) fn question7(r: Record) -> Asked
+    ensures { λ a. ⌜ a ≡ asked (question7 r ∷ []) r ⌝ }
+{
+    let s = r.state;
+    question(7, states::is_idle(s), r)
+}
+
+pub(crate) fn question8(n: usize, r: Record) -> Asked
+    ensures { λ a. ⌜ a ≡ asked (question8 n ∷ []) r ⌝ }
+{
+    question(8, n <= Record::VALUE_MAX, r)
+}
+
+pub(crate) fn question9(r: Record) -> Asked
+    ensures { λ a. ⌜ a ≡ asked (question9 r ∷ []) r ⌝ }
+{
+    question(9, r.timestamp.version < Record::VERSION_MAX, r)
+}
+
+pub(crate) fn question10(me: Replica, m: Received, r: Record) -> Asked
+    ensures { λ a. ⌜ a ≡ asked (question10 me m ∷ []) r ⌝ }
+{
+    question(10, m.epoch == me.epoch, r)
+}
+
+pub(crate) fn question11(me: Replica, m: Received, r: Record) -> Asked
+    ensures { λ a. ⌜ a ≡ asked (question11 me m ∷ []) r ⌝ }
+{
+    let known = members::has(me.view, m.sender);
+    question(11, known & (m.sender != me.number), r)
+}
+
+pub(crate) fn question12(m: Received, n: usize, r: Record) -> Asked
+    ensures { λ a. ⌜ a ≡ asked (question12 m n ∷ []) r ⌝ }
+{
+    let message = m.message;
+    match message {
+        Message::Inv(t) => question(
+            12,
+            (t.tie <= Record::NUMBER_MAX) & (n <= Record::VALUE_MAX),
+            r,
+        ),
+        Message::Ack(t) => question(12, (t.tie <= Record::NUMBER_MAX) & (n == 0), r),
+        Message::Val(t) => question(12, (t.tie <= Record::NUMBER_MAX) & (n == 0), r),
+    }
+}
+
+pub(crate) fn question13(t: Timestamp, sender: u8, r: Record) -> Asked
+    ensures { λ a. ⌜ a ≡ asked (question13 t sender r ∷ []) r ⌝ }
+{
+    let s = r.state;
+    let counting = states::is_counting(s);
+    let own = t.same(r.written);
+    let counted = members::has(r.acks, sender);
+    question(13, counting & own & !counted, r)
+}
+
+pub(crate) fn question14(t: Timestamp, r: Record) -> Asked
+    ensures { λ a. ⌜ a ≡ asked (question14 t r ∷ []) r ⌝ }
+{
+    let s = r.state;
+    let valid = states::is_valid(s);
+    let same = t.same(r.timestamp);
+    question(14, !valid & same, r)
+}
+
+// Question 13 of an acknowledgement, 14 of a validation, none of an invalidation.
+pub(crate) fn of_kind(message: Message, sender: u8, r: Record) -> Asked
+    ensures { λ a. ⌜ a ≡ asked (ofKind message sender r) r ⌝ }
+{
+    match message {
+        Message::Inv(_) => Asked::Passed(r),
+        Message::Ack(t) => question13(t, sender, r),
+        Message::Val(t) => question14(t, r),
+    }
+}
+
+pub(crate) fn question15(me: Replica, r: Record) -> Asked
+    ensures { λ a. ⌜ a ≡ asked (question15 me r ∷ []) r ⌝ }
+{
+    let s = r.state;
+    let pending = states::is_pending(s);
+    let all = members::others_in(me.number, me.view, r.acks);
+    question(15, pending & all, r)
+}
+
+pub(crate) fn question16(me: Replica, r: Record) -> Asked
+    ensures { λ a. ⌜ a ≡ asked (question16 me r ∷ []) r ⌝ }
+{
+    let s = r.state;
+    let invalid = states::is_invalid(s);
+    let present = members::has(me.view, r.writer);
+    question(16, invalid & !present, r)
+}
+
+pub(crate) fn question17(me: Replica, r: Record) -> Asked
+    ensures { λ a. ⌜ a ≡ asked (question17 me r ∷ []) r ⌝ }
+{
+    let s = r.state;
+    let pending = states::is_pending(s);
+    let valid = states::is_valid(s);
+    question(17, pending | (valid & (r.writer == me.number)), r)
+}

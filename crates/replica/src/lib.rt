@@ -1,0 +1,22 @@
+// The engine of one replica: the events on one record by value, with the lent store.
+mod delivery;
+mod events;
+mod guards;
+mod leaving;
+mod members;
+mod reading;
+mod settle;
+mod states;
+mod value;
+mod writing;
+
+pub use delivery::deliver;
+pub use events::step;
+pub use leaving::body;
+pub use leaving::recipients;
+pub use reading::read;
+pub use reading::read_number;
+pub use settle::replay;
+pub use settle::resend;
+pub use settle::validate;
+pub use writing::write;
