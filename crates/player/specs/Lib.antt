@@ -1,0 +1,4 @@
+-- What the playing program prints (01, "The playing program").
+pub mod Print
+pub mod Play
+pub mod Cluster

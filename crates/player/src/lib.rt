@@ -1,0 +1,3 @@
+// The playing program as a library: what a script prints.
+mod cluster;
+mod print;
