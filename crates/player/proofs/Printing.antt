@@ -14,7 +14,7 @@ use Rattle.script.proofs.Numbers.{decimal-small, decimal-large, length-small, l
 use Rattle.hermes.specs.declared.record.Record.{Record}
 use Rattle.player.specs.declared.print.Left.{Left}
 use Rattle.player.specs.declared.print.Left.the-variants.{Message, Nothing}
-use Rattle.player.specs.Print.{Put, letterOf, leftOf, answerLine}
+use Rattle.player.specs.Print.{Put, Low, letterOf, leftOf, answerLine}
 
 pub sets-append-at : (d : List ℕ) (at n : ℕ) (a b : List ℕ) → n ≡ at + length a → sets (sets d at a) n b ≡ sets d at (a ++ b)
 sets-append-at d at n [] b e = ap (λ (n : ℕ). sets d n b) (e ∙ add-zero at)
@@ -60,8 +60,8 @@ number-short n h = one (ltb n 10) refl
     one true e = omega (arith, length-small n (ltb-true n 10 e))
     one false e = two (ltb (n / 10) 10) refl (ltb-false n 10 e)
 
-left-short : (l : Left) → ((k : ℕ) → l ≡ Message k → k < 1000) → length (leftOf l ++ (10 ∷ [])) ≤ 4
-left-short (Message k) h = omega (arith, length-append (decimal k) (10 ∷ []), number-short k (h k refl))
+left-short : (l : Left) → Low l → length (leftOf l ++ (10 ∷ [])) ≤ 4
+left-short (Message k) h = omega (arith, length-append (decimal k) (10 ∷ []), number-short k (omega arith))
 left-short Nothing h = omega arith
 
 -- what a log number takes, and `-`
@@ -71,12 +71,14 @@ left-number l k at n e h = rw (← length-append (decimal k) (10 ∷ [])) (rw e 
 pub left-nothing : (l : Left) (at n : ℕ) → l ≡ Nothing → at + length (leftOf l ++ (10 ∷ [])) ≤ n → at + 2 ≤ n
 left-nothing l at n e h = rw e at h
 
-pub answer-short : (number : ℕ) (r : Record) (l : Left) → number < 256 → r .timestamp .tie < 256 → ((k : ℕ) → l ≡ Message k → k < 1000)
-    → length (answerLine number r l) ≤ 25
+pub answer-short : (number : ℕ) (r : Record) (l : Left) → number < 256 → r .timestamp .tie < 256 → Low l → length (answerLine number r l) ≤ 25
 unfolding answerLine
 answer-short number r l h t k =
     simp length-append
     (omega (arith, number-short number (omega arith), number-short (r .timestamp .tie) (omega arith), length-decimal (r .timestamp .version), simp length-append at (left-short l k)))
+
+pub answer-room : (number : ℕ) (r : Record) (l : Left) (at n : ℕ) → at + 25 ≤ n → length (answerLine number r l) ≤ 25 → at + length (answerLine number r l) ≤ n
+answer-room number r l at n h k = omega arith
 
 -- ---- the words of an answer line, one after another: there is room for each
 

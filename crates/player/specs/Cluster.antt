@@ -1,17 +1,27 @@
 -- How the cluster that the code holds by value, with the lent bytes of the bodies, is read as a group of the run.
 use Prim.Native.Nat.{ℕ, zero, suc, _+_, _-_, _*_, _^_, _≤_}
+use mathlib.Core.Path.{_≡_}
 use mathlib.Core.Bool.{Bool, true, false, cond}
 use mathlib.Core.List.{List, [], _∷_, _++_}
 use lib.ListN.{length, take, drop, getD, set, replicate}
-use lib.Dec.{ltb}
+use lib.Dec.{ltb, eqb}
+use Rattle.hermes.specs.declared.message.Outgoing.{Outgoing}
+use Rattle.hermes.specs.declared.message.Outgoing.the-variants.{None, Sent}
+use lib.Seq.{paste}
+use Rattle.hermes.specs.declared.message.Header.{Header}
+use Rattle.hermes.specs.declared.message.Message.{Message}
 use Rattle.hermes.specs.declared.message.Message.the-variants.{Inv}
 use Rattle.hermes.specs.Record.{freshRecord}
 use Rattle.hermes.specs.Node.{Node, newcomer}
-use Rattle.hermes.specs.Run.{Logged, Group}
+use Rattle.hermes.specs.Event.{sentBy}
+use Rattle.hermes.specs.Run.{Logged, Group, Result, nothing, event, logged}
 use Rattle.player.specs.declared.cluster.Member.{Member}
 use Rattle.player.specs.declared.cluster.Envelope.{Envelope}
 use Rattle.player.specs.declared.cluster.Cluster.{Cluster}
-use Rattle.player.specs.Play.{freshNode}
+use Rattle.player.specs.declared.turn.Judged.{Judged}
+use Rattle.player.specs.declared.turn.Turned.{Turned}
+use Rattle.player.specs.Print.{Put}
+use Rattle.player.specs.Play.{freshNode, hasRoom, reply, Turn, turn, after}
 
 -- what an index past the end of an array stands for
 abbrev pub noMember : Member
@@ -72,3 +82,51 @@ placed c k m = record { count = c .count; members = set (c .members) k m; log = 
 -- a message is logged
 unfoldable pub pushed : Cluster → Envelope → Cluster
 pushed c e = record { count = c .count; members = c .members; log = set (c .log) (c .sent) e; sent = c .sent + 1 }
+
+-- a message as it is logged, with a body of so many bytes
+abbrev pub envelopeOf : Message → Header → List ℕ → Envelope
+envelopeOf m h body = record { sender = h .sender; epoch = h .epoch; message = m; len = length body }
+
+-- the bytes of the bodies with that of message n
+abbrev pub kept : List ℕ → ℕ → List ℕ → List ℕ
+kept bodies n body = paste bodies (192 * n) body (length body)
+
+-- ---- what one line does to it
+
+-- what an entry came to
+abbrev pub resultOf : Judged → Result
+resultOf j = cond (j .known) (event (record { answer = j .answer; node = nodeOf (j .member) })) nothing
+
+-- the group after an entry of replica `who` that came to this
+abbrev pub commit : Group → ℕ → Result → Group
+commit g who nothing = g
+commit g who (event o) =
+    cond (hasRoom (length (g .log)) (sentBy (o .answer)))
+    (record { at = λ k. cond (eqb k who) (o .node) (g .at k); log = logged (g .log) (o .node) (sentBy (o .answer)) })
+    g
+
+-- the record that what leaves is about
+abbrev pub indexOf : Outgoing → ℕ
+indexOf None = 0
+indexOf (Sent m h) = h .index
+
+-- every body in the log has its place
+abbrev pub Sized : List Envelope → Type 0
+Sized log = (k : ℕ) → getD log k noEnvelope .len ≤ 192
+
+-- a cluster as every line leaves it
+pub record Sound (c : Cluster) (bodies : List ℕ) : Type 0 where
+  pub few : c .count ≤ 4
+  pub four : length (c .members) ≡ 4
+  pub slots : length (c .log) ≡ 256
+  pub short : c .sent ≤ 256
+  pub sized : Sized (c .log)
+  pub space : length bodies ≡ 49152
+
+-- what a line of the script must come to: the group after it, and the bytes that it prints
+pub record TurnIs (c : Cluster) (g′ : Group) (text : List ℕ) (at : ℕ) (out : List ℕ) (r : Turned) (bodies′ out′ : List ℕ) : Type 0 where
+  pub group : groupOf (r .cluster) bodies′ ≡ g′
+  pub count : r .cluster .count ≡ c .count
+  pub sound : Sound (r .cluster) bodies′
+  pub put : Put text at out (r .at) out′
+  pub brief : length text ≤ 25

@@ -4,6 +4,7 @@ use mathlib.Core.Bool.{Bool, true, false, cond, _&&_}
 use mathlib.Core.List.{List, [], _∷_, _++_}
 use lib.ListN.{length, replicate}
 use lib.Dec.{ltb, leb}
+use lib.Seq.{sets}
 use Rattle.hermes.specs.declared.message.Outgoing.{Outgoing}
 use Rattle.hermes.specs.declared.message.Outgoing.the-variants.{None, Sent}
 use Rattle.hermes.specs.Order.{higher}
@@ -21,6 +22,8 @@ use Rattle.script.specs.declared.line.Size.{Size}
 use Rattle.script.specs.declared.line.Size.the-variants.{Of, Wrong}
 use Rattle.player.specs.declared.print.Left.{Left}
 use Rattle.player.specs.declared.print.Left.the-variants as left
+use Rattle.player.specs.declared.game.Played.{Played}
+use Rattle.player.specs.declared.game.Played.the-variants as outcome
 use Rattle.player.specs.Print.{answerLine, unknownLine}
 
 -- ---- 01, "laptops from 0, all in the view, one record"
@@ -53,13 +56,18 @@ abbrev pub logNumber : ℕ → Outgoing → Left
 logNumber sent None = left.Nothing
 logNumber sent (Sent m h) = left.Message sent
 
--- 01, "State and stamp are the named laptop's after the event"; an unknown log number, or an event whose message a full log cannot take, does nothing
-abbrev pub judged : ℕ → Entry → Result → Turn
-judged sent a nothing = unknown
-judged sent a (event o) =
+-- 01, "State and stamp are the named laptop's after the event"; an unknown log number, or an event whose message a full log cannot take, prints `?`
+abbrev pub reply : ℕ → Result → List ℕ
+reply sent nothing = unknownLine
+reply sent (event o) =
     cond (hasRoom sent (sentBy (o .answer)))
-    (record { entries = a ∷ []; text = answerLine (numberOf (o .answer)) (recordOf 0 (o .node)) (logNumber sent (sentBy (o .answer))) })
-    unknown
+    (answerLine (numberOf (o .answer)) (recordOf 0 (o .node)) (logNumber sent (sentBy (o .answer))))
+    unknownLine
+
+-- and does nothing; any other entry, accepted or refused, is one of the run
+abbrev pub played : ℕ → Entry → Result → List Entry
+played sent a nothing = []
+played sent a (event o) = cond (hasRoom sent (sentBy (o .answer))) (a ∷ []) []
 
 -- a command as an event of the run, on the one record; t is the line's text
 abbrev pub actionOf : Command → List ℕ → Action
@@ -73,7 +81,8 @@ actionOf (command.View epoch set) t = view epoch set
 
 -- an entry of one of the n laptops
 unfoldable pub entryTurn : ℕ → Group → Entry → Turn
-entryTurn n g a = cond (ltb (a .who) n) (judged (length (g .log)) a (result higher g a)) unknown
+entryTurn n g a =
+    cond (ltb (a .who) n) (record { entries = played (length (g .log)) a (result higher g a); text = reply (length (g .log)) (result higher g a) }) unknown
 
 abbrev pub turnOf : ℕ → Group → List ℕ → Line → Turn
 turnOf n g s (line.Entry who c) = entryTurn n g (record { who = who; what = actionOf c (textOf s) })
@@ -110,3 +119,16 @@ opened (s ∷ rest) = begun (sizeOf s) rest
 -- what a script prints
 unfoldable pub printed : List ℕ → List ℕ
 printed input = opened (lines input)
+
+-- ---- the library
+
+-- what playing an input into an output of so many bytes answers: the number of bytes printed; refused where the input is longer than 65,536 bytes,
+-- or the output has fewer than 25 bytes for each of the input's, and 2 more
+abbrev pub playable : List ℕ → ℕ → Bool
+playable input room = leb (length input) 65536 && leb (25 * length input + 2) room
+
+unfoldable pub answerOf : List ℕ → ℕ → Played
+answerOf input room = cond (playable input room) (outcome.Printed (length (printed input))) outcome.Refused
+
+unfoldable pub outputOf : List ℕ → List ℕ → List ℕ
+outputOf input out = cond (playable input (length out)) (sets out 0 (printed input)) out

@@ -1,5 +1,5 @@
 -- An answer line (01, "Each later line prints one line: answer, state letter, version, tie-breaker, log number of the message that left or `-`").
-use Prim.Native.Nat.{ℕ, _+_}
+use Prim.Native.Nat.{ℕ, _+_, _<_}
 use mathlib.Core.Path.{_≡_}
 use mathlib.Core.List.{List, [], _∷_, _++_}
 use lib.ListN.{length}
@@ -23,6 +23,11 @@ letterOf Replay = 82
 abbrev pub leftOf : Left → List ℕ
 leftOf (Message k) = decimal k
 leftOf Nothing = 45 ∷ []
+
+-- a log number is below 256
+abbrev pub Low : Left → Type 0
+Low (Message k) = k < 256
+Low Nothing = 0 < 256
 
 -- the words, a space between two, and a line feed
 unfoldable pub answerLine : ℕ → Record → Left → List ℕ

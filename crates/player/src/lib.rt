@@ -1,3 +1,9 @@
 // The playing program as a library: what a script prints.
 mod cluster;
+mod engine;
+mod game;
 mod print;
+mod turn;
+
+pub use game::Played;
+pub use game::play;

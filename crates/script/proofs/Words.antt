@@ -7,13 +7,15 @@ use native.Mathlib.Nat.{zero-add, le-of-eq}
 use native.Mathlib.Numerals.{add-one}
 use native.Mathlib.Omega.{arith}
 use borrow.Author.Tests.{eq-eqb, ne-eqb, lt-ltb, le-ltb}
-use lib.Dec.{eqb}
+use lib.Dec.{eqb, leb}
 use lib.ListN.{length, take, drop, getD, length-drop, drop-of-length-le}
 use lib.Seq.{drop-cons, take-all, take-length}
 use Rattle.bytes.specs.Bytes.{indexOf, slice}
+use Rattle.script.proofs.Numbers.{number-below}
 use Rattle.script.specs.Text.{numberOf, same}
-use Rattle.script.specs.Command.{spaced, wordOf, restOf, keywordOf, viewOf, operandsOf, entryOf, longerOf, argumentsOf, lineOf, sizeIn, sizeOf}
+use Rattle.script.specs.Command.{Below, spaced, wordOf, restOf, keywordOf, viewOf, operandsOf, entryOf, longerOf, argumentsOf, lineOf, sizeIn, sizeOf}
 use Rattle.script.specs.declared.number.Number.{Number}
+use Rattle.script.specs.declared.number.Number.the-variants.{Value, NotANumber}
 use Rattle.script.specs.declared.command.Keyword.{Keyword}
 use Rattle.script.specs.declared.command.Keyword.the-variants.{View}
 use Rattle.script.specs.declared.command.Operands.{Operands}
@@ -119,3 +121,26 @@ module _ (s : List ℕ) (k : ℕ) (e : k ≡ 0 + indexOf 32 (slice 0 (length s) 
       → x ≡ numberOf 5 (take (length s - (k + 1)) (drop (k + 1) s)) → z ≡ sizeOf s
   unfolding sizeOf
   size-some t h e f z x ez ex = rw (one-space h, ← word-is, ← e, f) (ez ∙ ap sizeIn (ex ∙ ap (numberOf 5) rest-is))
+
+-- ---- line one gives no more than four laptops
+
+in-few : (x : Number) (n : ℕ) → Below 5 x → sizeIn x ≡ size.Of n → n < 5
+in-few (Value v) n h e = go (leb 2 v) e
+  where
+    go : (t : Bool) → cond t (size.Of v) size.Wrong ≡ size.Of n → n < 5
+    go true e = let q : v ≡ n = cc in omega arith
+    go false e = let z : _≡_ {A = ℕ} 0 1 = cc in omega arith
+in-few NotANumber n h e = let z : _≡_ {A = ℕ} 0 1 = cc in omega arith
+
+pub size-few : (s : List ℕ) (n : ℕ) → sizeOf s ≡ size.Of n → n < 5
+unfolding sizeOf
+size-few s n e = go (spaced s && same (wordOf s) (103 ∷ 114 ∷ 111 ∷ 117 ∷ 112 ∷ [])) e
+  where
+    go : (t : Bool) → cond t (sizeIn (numberOf 5 (restOf s))) size.Wrong ≡ size.Of n → n < 5
+    go true e = in-few (numberOf 5 (restOf s)) n (number-below 5 (restOf s) (omega arith)) e
+    go false e = let z : _≡_ {A = ℕ} 0 1 = cc in omega arith
+
+-- the empty line is no line one
+pub size-empty : sizeOf [] ≡ size.Wrong
+unfolding sizeOf indexOf
+size-empty = refl
