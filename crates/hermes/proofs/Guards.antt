@@ -18,16 +18,12 @@ use Rattle.hermes.specs.declared.event.Event.the-variants.{Read, Write, 
 use Rattle.hermes.specs.Members.{has, size, othersIn}
 use Rattle.hermes.specs.Order.{sameTimestamp}
 use Rattle.hermes.specs.Record.{oneOf}
-use Rattle.hermes.specs.Guards.{Question, firstNo, question5, shapely, question13, question14}
+use Rattle.hermes.specs.Guards.{Question, AllYes, firstNo, question5, shapely, question13, question14}
 use Rattle.hermes.specs.Event.{common, ofKind, own, refusal}
-use Rattle.hermes.proofs.Tests.{both, not-true}
+use Rattle.hermes.proofs.Tests.{both, not-true, and-false}
+use Rattle.hermes.proofs.Order.{same-equal}
 
 -- ---- lists of questions
-
--- every answer is yes
-abbrev pub AllYes : List Question → Type 0
-AllYes [] = Unit
-AllYes (q ∷ qs) = (q .yes ≡ true) × AllYes qs
 
 -- every number is above 0
 abbrev pub positive : List Question → Bool
@@ -146,7 +142,12 @@ pub record ReplayPassed (me : Replica) (count bytes i : ℕ) (r : Record) : Type
   pub gone : has (me .view) (r .writer) ≡ false
 
 module _ (me : Replica) (count bytes i : ℕ) (r : Record) where
-  -- no question says no: every answer is yes
+  -- every answer is yes: no question says no
+  pub none-refuses : (e : Event) (n : ℕ) → AllYes (common me count bytes i r (own me r e n)) → refusal me count bytes i r e n ≡ 0
+  unfolding refusal
+  none-refuses e n y = none-says-no (common me count bytes i r (own me r e n)) y
+
+  -- and back
   pub passed : (e : Event) (n : ℕ) → refusal me count bytes i r e n ≡ 0 → AllYes (common me count bytes i r (own me r e n))
   unfolding refusal
   passed e n z = all-yes (common me count bytes i r (own me r e n)) (positive-own me r e n) z
@@ -194,6 +195,26 @@ module _ (me : Replica) (count bytes i : ℕ) (r : Record) where
       let q16 = both (oneOf (r .state) (state.Invalid ∷ [])) _ (y .1 .1 .1 .1 .1 .0) in
       record { common = event-passed Replay n z; invalid = q16 .0; gone = not-true _ (q16 .1) }
 
+-- question 12 of an invalidation
+pub inv-fits : (m : Message) (t : Timestamp) (n : ℕ) → m ≡ Inv t → shapely m n ≡ true → n ≤ 192
+inv-fits m t n e h = leb-true n 192 (both (leb (t .tie) 15) (leb n 192) (rw e at h) .1)
+
 -- the 192 bytes of a record below the count lie in the store
 pub slot-fits : {me : Replica} {count bytes i : ℕ} {r : Record} → Common me count bytes i r → 192 * i + 192 ≤ bytes
 slot-fits p = omega (arith, p .whole, p .inside)
+
+-- question 13: the timestamp is the last-write timestamp
+pub acked-written : (t : Timestamp) (sender : ℕ) (r : Record) → question13 t sender r .yes ≡ true → t ≡ r .written
+acked-written t sender r h = go (sameTimestamp t (r .written)) refl
+  where
+    go : (b : Bool) → sameTimestamp t (r .written) ≡ b → t ≡ r .written
+    go true e = same-equal t (r .written) e
+    go false e = absurd (false≢true (simp (e, and-false) at h))
+
+-- question 14: the timestamp is the record's
+pub validated-timestamp : (t : Timestamp) (r : Record) → question14 t r .yes ≡ true → t ≡ r .timestamp
+validated-timestamp t r h = go (sameTimestamp t (r .timestamp)) refl
+  where
+    go : (b : Bool) → sameTimestamp t (r .timestamp) ≡ b → t ≡ r .timestamp
+    go true e = same-equal t (r .timestamp) e
+    go false e = absurd (false≢true (simp (e, and-false) at h))

@@ -4,3 +4,15 @@ pub mod Members
 pub mod Order
 pub mod Store
 pub mod Guards
+pub mod Words
+pub mod Steps
+pub mod Apply
+pub mod Start
+pub mod Protocol
+pub mod Refine
+pub mod Agreement
+pub mod Sound
+pub mod Premises
+pub mod Frame
+pub mod Locality
+pub mod Conformance

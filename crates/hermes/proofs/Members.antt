@@ -1,17 +1,17 @@
 -- Sets of replica numbers, as facts about their members; and the tests on sets as code makes them, with `&`, `|`, `count_ones` and
 -- `trailing_zeros`. The idea: a set below 2 ^ 16 is its sixteen bits, and each operation is known bit by bit.
-use Prim.Native.Nat.{ℕ, zero, suc, _+_, _-_, _*_, _/_, _%_, _^_, _≤_, _<_, min, max}
+use Prim.Native.Nat.{ℕ, zero, suc, _+_, _-_, _/_, _%_, _^_, _≤_, _<_, min, max}
 use mathlib.Core.Path.{_≡_, refl, sym, ap, ap₂, _∙_}
-use mathlib.Core.Bool.{Bool, true, false, cond, not, _&&_, _||_, false≢true}
+use mathlib.Core.Bool.{Bool, true, false, cond, not, _&&_, _||_}
 use mathlib.Core.Logic.{_⊎_, inl, inr, _≢_}
 use native.Mathlib.Omega.{arith}
 use native.Mathlib.Decide.{ℕ-discrete, decLt}
 use native.Mathlib.Nat.{mod-lt, mod-eq-of-lt, one-mul, zero-div, div-eq-of-lt, pow-suc}
-use lib.Dec.{ltb, eqb, lit<}
+use lib.Dec.{ltb, eqb}
 use lib.Bits.{bitAnd, bitOr, and-shr, and-step, and-lt, or-shr, or-step}
 use lib.Pow.{pow-lt, pow-pos, pow-add, shl-shr, shr-shr, mod-pow-add}
 use lib.Count.{ones, ones-cat, under, trailingZeros}
-use borrow.Author.Tests.{ltb-true, ltb-false, eqb-true, eqb-false, eq-eqb, ne-eqb, lt-ltb, le-ltb}
+use borrow.Author.Tests.{ltb-true, eqb-true, eq-eqb, ne-eqb, lt-ltb, le-ltb}
 use Rattle.hermes.specs.Members.{has, allBelow, countBelow, size, lowest, lowestFrom, within, othersIn, with, without}
 use Rattle.hermes.proofs.Tests.{both, either, implied, implies, is-false, alike, or-false, or-true, and-false, and-true}
 
@@ -177,6 +177,17 @@ has-with s n m = go (decLt n 16) (decLt m 16) (ℕ-discrete m n)
       where
         same : bit (with s n) m ≡ bit s m
         same = rw (add a) (omega (arith, or-bit s (2 ^ n) m, pow-bit-other n m d))
+
+pub with-members : (s n m : ℕ) → Has (with s n) m → Has s m ⊎ (m ≡ n)
+with-members s n m h = go (either (has s m) (eqb m n && ltb n 16) (sym (has-with s n m) ∙ h))
+  where
+    go : Has s m ⊎ ((eqb m n && ltb n 16) ≡ true) → Has s m ⊎ (m ≡ n)
+    go (inl k) = inl k
+    go (inr e) = inr (eqb-true m n (both (eqb m n) (ltb n 16) e .0))
+
+pub members-with : (s n m : ℕ) → n < 16 → Has s m ⊎ (m ≡ n) → Has (with s n) m
+members-with s n m l (inl k) = rw (has-with s n m, k)
+members-with s n m l (inr e) = rw (has-with s n m, eq-eqb m n e, lt-ltb n 16 l) (or-true (has s m))
 
 pub has-without : (s n m : ℕ) → has (without s n) m ≡ (has s m && not (eqb m n))
 has-without s n m = go (decLt n 16) (decLt m 16) (ℕ-discrete m n)

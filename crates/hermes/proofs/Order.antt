@@ -37,14 +37,6 @@ data Before (wins : ℕ → ℕ → Bool) (s t : Timestamp) : Type 0 where
   tied : s .version ≡ t .version → wins (t .tie) (s .tie) ≡ true → Before wins s t
 
 module _ (wins : ℕ → ℕ → Bool) where
-  facts : (s t : Timestamp) → NotAfter wins s t → Before wins s t
-  facts s t (equal e) = one e
-  facts s t (rises g) = go (either _ _ (unfold later in g))
-    where
-      go : (ltb (s .version) (t .version) ≡ true) ⊎ ((eqb (t .version) (s .version) && wins (t .tie) (s .tie)) ≡ true) → Before wins s t
-      go (inl h) = older (ltb-true _ _ h)
-      go (inr h) = let (p, q) = both _ _ h in tied (sym (eqb-true _ _ p)) q
-
   later-older : (s t : Timestamp) → s .version < t .version → later wins t s ≡ true
   unfolding later
   later-older s t h = rw (lt-ltb (s .version) (t .version) h)
@@ -57,6 +49,14 @@ module _ (wins : ℕ → ℕ → Bool) where
   test (one e) = equal e
   test {s} {t} (older h) = rises (later-older s t h)
   test {s} {t} (tied p q) = rises (later-tied s t p q)
+
+  facts : (s t : Timestamp) → NotAfter wins s t → Before wins s t
+  facts s t (equal e) = one e
+  facts s t (rises g) = go (either _ _ (unfold later in g))
+    where
+      go : (ltb (s .version) (t .version) ≡ true) ⊎ ((eqb (t .version) (s .version) && wins (t .tie) (s .tie)) ≡ true) → Before wins s t
+      go (inl h) = older (ltb-true _ _ h)
+      go (inr h) = let (p, q) = both _ _ h in tied (sym (eqb-true _ _ p)) q
 
   pub notAfter-refl : (s : Timestamp) → NotAfter wins s s
   notAfter-refl s = equal refl

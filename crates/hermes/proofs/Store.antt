@@ -6,7 +6,7 @@ use mathlib.Core.List.{List, _++_, append-assoc}
 use native.Mathlib.Omega.{arith}
 use native.Mathlib.Decide.{decLt}
 use lib.ListN.{length, take, drop, replicate, length-append, length-take, length-drop, length-replicate, take-append-drop, replicate-append-replicate}
-use lib.Seq.{take-at, drop-at, take-append-le, drop-append-le, drop-append-add, drop-drop, take-append-seam, take-take}
+use lib.Seq.{take-at, drop-at, take-append-le, drop-append-le, drop-drop, take-append-seam, take-take}
 use Rattle.hermes.specs.Store.{slot, valueAt, padded, place}
 
 pub length-padded : (v : List ℕ) → length v ≤ 192 → length (padded v) ≡ 192
@@ -26,6 +26,27 @@ value-slot i n s h = sym (take-take n 192 (drop (192 * i) s) h)
 slot-front : (j : ℕ) (p r : List ℕ) → 192 * j + 192 ≤ length p → slot j (p ++ r) ≡ slot j p
 slot-front j p r h = rw (drop-append-le (192 * j) p r (omega arith)) (take-append-le 192 (drop (192 * j) p) r (simp length-drop (omega arith)))
 
+-- two stores that are the same in front of record i and behind it have the same other records
+pub slot-elsewhere : (i : ℕ) (x y : List ℕ) → 192 * i ≤ length x → 192 * i ≤ length y → take (192 * i) x ≡ take (192 * i) y → drop (192 * i + 192) x ≡ drop (192 * i + 192) y
+    → (j : ℕ) → j ≢ i → slot j x ≡ slot j y
+slot-elsewhere i x y hx hy p q j d = go (decLt j i)
+  where
+    end : ℕ
+    end = 192 * i + 192
+
+    front : (z : List ℕ) → 192 * i ≤ length z → j < i → slot j z ≡ slot j (take (192 * i) z)
+    front z h l = ap (slot j) (sym (take-append-drop (192 * i) z)) ∙ slot-front j (take (192 * i) z) (drop (192 * i) z) (simp length-take (omega arith))
+
+    behind : (z : List ℕ) → end ≤ 192 * j → slot j z ≡ take 192 (drop (192 * j - end) (drop end z))
+    behind z h = ap (λ (k : ℕ). take 192 (drop k z)) e ∙ ap (take 192) (sym (drop-drop (192 * j - end) end z))
+      where
+        e : 192 * j ≡ end + (192 * j - end)
+        e = omega arith
+
+    go : Dec (j < i) → slot j x ≡ slot j y
+    go (yes l) = front x hx l ∙ ap (slot j) p ∙ sym (front y hy l)
+    go (no n) = behind x (omega arith) ∙ ap (λ (z : List ℕ). take 192 (drop (192 * j - end) z)) q ∙ sym (behind y (omega arith))
+
 -- record i lies in the store, and the value fits
 module _ (i : ℕ) (v s : List ℕ) (inside : 192 * i + 192 ≤ length s) (fits : length v ≤ 192) where
   head-length : length (take (192 * i) s) ≡ 192 * i
@@ -37,7 +58,7 @@ module _ (i : ℕ) (v s : List ℕ) (inside : 192 * i + 192 ≤ length s) (fits 
 
   pub slot-same : slot i (place i v s) ≡ padded v
   unfolding place
-  slot-same = rw (drop-at (take (192 * i) s) (padded v ++ drop (192 * i + 192) s) (192 * i) head-length) (take-at (padded v) _ 192 (length-padded v fits))
+  slot-same = ap (take 192) (drop-at (take (192 * i) s) (padded v ++ drop (192 * i + 192) s) (192 * i) head-length) ∙ take-at (padded v) (drop (192 * i + 192) s) 192 (length-padded v fits)
 
   -- the bytes in front of the record, and those behind it
   pub take-place : take (192 * i) (place i v s) ≡ take (192 * i) s
@@ -52,24 +73,7 @@ module _ (i : ℕ) (v s : List ℕ) (inside : 192 * i + 192 ≤ length s) (fits 
   drop-place = rw (← append-assoc (take (192 * i) s) (padded v) (drop (192 * i + 192) s)) (drop-at (take (192 * i) s ++ padded v) _ (192 * i + 192) body-length)
 
   pub slot-other : (j : ℕ) → j ≢ i → slot j (place i v s) ≡ slot j s
-  slot-other j d = go (decLt j i)
-    where
-      end : ℕ
-      end = 192 * i + 192
-
-      -- what lies in front is the front of both, and what lies behind is behind in both
-      front : (x : List ℕ) → 192 * i ≤ length x → j < i → slot j x ≡ slot j (take (192 * i) x)
-      front x h l = ap (slot j) (sym (take-append-drop (192 * i) x)) ∙ slot-front j (take (192 * i) x) (drop (192 * i) x) (simp length-take (omega arith))
-
-      behind : (x : List ℕ) → end ≤ 192 * j → slot j x ≡ take 192 (drop (192 * j - end) (drop end x))
-      behind x h = ap (λ (k : ℕ). take 192 (drop k x)) e ∙ ap (take 192) (sym (drop-drop (192 * j - end) end x))
-        where
-          e : 192 * j ≡ end + (192 * j - end)
-          e = omega arith
-
-      go : Dec (j < i) → slot j (place i v s) ≡ slot j s
-      go (yes l) = front (place i v s) (omega (arith, length-place)) l ∙ ap (slot j) take-place ∙ sym (front s (omega arith) l)
-      go (no n) = behind (place i v s) (omega arith) ∙ ap (λ (x : List ℕ). take 192 (drop (192 * j - end) x)) drop-place ∙ sym (behind s (omega arith))
+  slot-other = slot-elsewhere i (place i v s) s (omega (arith, length-place)) (omega arith) take-place drop-place
 
 abbrev pub zeros : ℕ → List ℕ
 zeros n = replicate n 0

@@ -1,5 +1,6 @@
 -- The numbered questions (01, "The questions, in order").
 use Prim.Native.Nat.{ℕ, _*_}
+use mathlib.Core.Path.{_≡_}
 use mathlib.Core.Bool.{Bool, true, false, cond, not, _&&_, _||_}
 use mathlib.Core.List.{List, [], _∷_}
 use lib.Dec.{ltb, leb, eqb}
@@ -26,6 +27,11 @@ ask k b = record { number = k; yes = b }
 abbrev pub firstNo : List Question → ℕ
 firstNo [] = 0
 firstNo (q ∷ qs) = cond (q .yes) (firstNo qs) (q .number)
+
+-- every answer is yes
+abbrev pub AllYes : List Question → Type 0
+AllYes [] = Unit
+AllYes (q ∷ qs) = (q .yes ≡ true) × AllYes qs
 
 -- ---- every event
 

@@ -7,3 +7,10 @@ pub mod Guards
 pub mod Event
 pub mod Node
 pub mod Run
+pub mod Frame
+pub mod Locality
+pub mod Source
+pub mod Conformance
+pub mod Agreement
+pub mod Reads
+pub mod Played

@@ -25,7 +25,7 @@ oneOf s (t ∷ ts) = eqb (code s) (code t) || oneOf s ts
 -- 01, fresh start: valid and empty; both timestamps version 0 with the lowest number, that number as last writer; no acknowledgements
 abbrev pub freshRecord : ℕ → Record
 freshRecord lowest = record {
-  state = Valid;
+  state = Valid;  -- fresh
   timestamp = record { version = 0; tie = lowest };
   writer = lowest;
   written = record { version = 0; tie = lowest };
@@ -48,7 +48,7 @@ written r me n = record {
   timestamp = nextTimestamp (r .timestamp) me;
   writer = me;
   written = nextTimestamp (r .timestamp) me;
-  acks = 0;
+  acks = 0;  -- emptied by a write
   len = n;
 }
 
@@ -59,7 +59,7 @@ replayed r me = record {
   timestamp = r .timestamp;
   writer = me;
   written = r .timestamp;
-  acks = 0;
+  acks = 0;  -- emptied by a replay
   len = r .len;
 }
 
@@ -96,7 +96,7 @@ acknowledged r sender = record {
 -- 01, Deliver VAL and Validate: the state becomes valid
 abbrev pub validated : Record → Record
 validated r = record {
-  state = Valid;
+  state = Valid;  -- the one change
   timestamp = r .timestamp;
   writer = r .writer;
   written = r .written;

@@ -43,7 +43,7 @@ impl Record {
             tie: lowest,
         };
         Record {
-            state: State::Valid,
+            state: State::Valid, // fresh
             timestamp: first,
             writer: lowest,
             written: first,
@@ -70,7 +70,7 @@ impl Record {
             timestamp: next,
             writer: me,
             written: next,
-            acks: 0,
+            acks: 0, // emptied by a write
             len: len,
         }
     }
@@ -85,7 +85,7 @@ impl Record {
             timestamp: kept,
             writer: me,
             written: kept,
-            acks: 0,
+            acks: 0, // emptied by a replay
             len: self.len,
         }
     }
@@ -125,7 +125,7 @@ impl Record {
         let now = self.timestamp;
         let own = self.written;
         Record {
-            state: State::Valid,
+            state: State::Valid, // the one change
             timestamp: now,
             writer: self.writer,
             written: own,

@@ -72,8 +72,9 @@ fn take_inv(
             after: r.take_invalidation(t, sender, value.len() as u8),
         };
     }
+    let older = Answer::Accepted(ack);
     Moved {
-        answer: Answer::Accepted(ack),
+        answer: older,
         after: r,
     }
 }

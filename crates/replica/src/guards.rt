@@ -80,10 +80,13 @@ pub(crate) fn question5(me: Replica, r: Record) -> Asked
 {
     let counted = members::has(r.acks, me.number);
     let short = r.len as usize <= Record::VALUE_MAX;
-    let ties = (r.timestamp.tie <= Record::NUMBER_MAX) & (r.written.tie <= Record::NUMBER_MAX);
     question(
         5,
-        short & ties & (r.writer <= Record::NUMBER_MAX) & !counted,
+        short
+            & (r.timestamp.tie <= Record::NUMBER_MAX)
+            & (r.written.tie <= Record::NUMBER_MAX)
+            & (r.writer <= Record::NUMBER_MAX)
+            & !counted,
         r,
     )
 }

@@ -1,85 +1,95 @@
+-- `replica::delivery::asks` meets its contract.
+use Rattle.hermes.specs.Event.{common, ofKind}
+use Rattle.hermes.specs.Guards.{question10, question11, question12}
+use Rattle.replica.proofs.Asked.{then, stop}
+use mathlib.Core.List.{[], _∷_}
+use mathlib.Core.Path.{sym, _∙_}
 use borrow.Author.Needs.{needs}
 use Rattle.replica.proofs.delivery.asks.Statement.{statement}
 use Rattle.replica.proofs.delivery.asks.Tie as tie
-use Rattle.replica.proofs.delivery.asks.Reads as reads
-use Rattle.replica.proofs.delivery.asks.Lts as lts
-use Rattle.replica.proofs.guards.every.Reads as every-reads
-use Rattle.replica.proofs.guards.of_kind.Reads as of-kind-reads
-use Rattle.replica.proofs.guards.question10.Reads as question10-reads
-use Rattle.replica.proofs.guards.question11.Reads as question11-reads
-use Rattle.replica.proofs.guards.question12.Reads as question12-reads
 
--- src/delivery.rt:33:9
 every-requires : tie.Need-every-requires
 every-requires c κs = search needs
 
--- src/delivery.rt:34:23
 enum-known-a : tie.Need-enum-known-a
 enum-known-a c = search needs
 
--- src/delivery.rt:35:9
 enum-told : tie.Need-enum-told
 enum-told c = search needs
 
--- src/delivery.rt:35:9
 returns : tie.Need-returns
-returns c = ?
+returns c = let v = c .before .before .before .args in
+    c .enum-told .given .1
+    ∙ sym (
+    stop (common (v .me) (v .count) (v .bytes) (v .i) (v .r) []) (question10 (v .me) (v .m) ∷ question11 (v .me) (v .m) ∷ question12 (v .m) (v .n) ∷ ofKind (v .m .message) (v .m .sender) (v .r)) (v .r) (c .enum-told .given .0 .0) (sym (c .before .before .every .ensures) ∙ c .enum-told .given .1)
+    )
 
--- src/delivery.rt:37:9
 question10-requires : tie.Need-question10-requires
 question10-requires c κs = search needs
 
--- src/delivery.rt:38:23
 enum-known-b : tie.Need-enum-known-b
 enum-known-b c = search needs
 
--- src/delivery.rt:39:9
 enum-told-2 : tie.Need-enum-told-2
 enum-told-2 c = search needs
 
--- src/delivery.rt:39:9
 returns-2 : tie.Need-returns-2
-returns-2 c = ?
+returns-2 c = let v = c .before .before .before .before .before .before .before .args in
+    c .enum-told2 .given .1
+    ∙ sym (
+    then (common (v .me) (v .count) (v .bytes) (v .i) (v .r) []) (λ x. question10 (v .me) (v .m) ∷ question11 (v .me) (v .m) ∷ question12 (v .m) (v .n) ∷ ofKind (v .m .message) (v .m .sender) (x)) (v .r) (c .before .before .before .before .a .given .0 .0) (sym (c .before .before .before .before .before .before .every .ensures) ∙ c .before .before .before .before .a .given .1)
+    ∙ stop (question10 (v .me) (v .m) ∷ []) (question11 (v .me) (v .m) ∷ question12 (v .m) (v .n) ∷ ofKind (v .m .message) (v .m .sender) (c .before .before .before .before .a .given .0 .0)) (c .before .before .before .before .a .given .0 .0) (c .enum-told2 .given .0 .0) (sym (c .before .before .question10 .ensures) ∙ c .enum-told2 .given .1)
+    )
 
--- src/delivery.rt:41:9
 question11-requires : tie.Need-question11-requires
 question11-requires c κs = search needs
 
--- src/delivery.rt:42:23
 enum-known-c : tie.Need-enum-known-c
 enum-known-c c = search needs
 
--- src/delivery.rt:43:9
 enum-told-3 : tie.Need-enum-told-3
 enum-told-3 c = search needs
 
--- src/delivery.rt:43:9
 returns-3 : tie.Need-returns-3
-returns-3 c = ?
+returns-3 c = let v = c .before .before .before .before .before .before .before .before .before .before .before .args in
+    c .enum-told3 .given .1
+    ∙ sym (
+    then (common (v .me) (v .count) (v .bytes) (v .i) (v .r) []) (λ x. question10 (v .me) (v .m) ∷ question11 (v .me) (v .m) ∷ question12 (v .m) (v .n) ∷ ofKind (v .m .message) (v .m .sender) (x)) (v .r) (c .before .before .before .before .before .before .before .before .a .given .0 .0) (sym (c .before .before .before .before .before .before .before .before .before .before .every .ensures) ∙ c .before .before .before .before .before .before .before .before .a .given .1)
+    ∙ then (question10 (v .me) (v .m) ∷ []) (λ x. question11 (v .me) (v .m) ∷ question12 (v .m) (v .n) ∷ ofKind (v .m .message) (v .m .sender) (x)) (c .before .before .before .before .before .before .before .before .a .given .0 .0) (c .before .before .before .before .b .given .0 .0) (sym (c .before .before .before .before .before .before .question10 .ensures) ∙ c .before .before .before .before .b .given .1)
+    ∙ stop (question11 (v .me) (v .m) ∷ []) (question12 (v .m) (v .n) ∷ ofKind (v .m .message) (v .m .sender) (c .before .before .before .before .b .given .0 .0)) (c .before .before .before .before .b .given .0 .0) (c .enum-told3 .given .0 .0) (sym (c .before .before .question11 .ensures) ∙ c .enum-told3 .given .1)
+    )
 
--- src/delivery.rt:45:9
 question12-requires : tie.Need-question12-requires
 question12-requires c κs = search needs
 
--- src/delivery.rt:46:23
 enum-known-d : tie.Need-enum-known-d
 enum-known-d c = search needs
 
--- src/delivery.rt:47:9
 enum-told-4 : tie.Need-enum-told-4
 enum-told-4 c = search needs
 
--- src/delivery.rt:47:9
 returns-4 : tie.Need-returns-4
-returns-4 c = ?
+returns-4 c = let v = c .before .before .before .before .before .before .before .before .before .before .before .before .before .before .before .args in
+    c .enum-told4 .given .1
+    ∙ sym (
+    then (common (v .me) (v .count) (v .bytes) (v .i) (v .r) []) (λ x. question10 (v .me) (v .m) ∷ question11 (v .me) (v .m) ∷ question12 (v .m) (v .n) ∷ ofKind (v .m .message) (v .m .sender) (x)) (v .r) (c .before .before .before .before .before .before .before .before .before .before .before .before .a .given .0 .0) (sym (c .before .before .before .before .before .before .before .before .before .before .before .before .before .before .every .ensures) ∙ c .before .before .before .before .before .before .before .before .before .before .before .before .a .given .1)
+    ∙ then (question10 (v .me) (v .m) ∷ []) (λ x. question11 (v .me) (v .m) ∷ question12 (v .m) (v .n) ∷ ofKind (v .m .message) (v .m .sender) (x)) (c .before .before .before .before .before .before .before .before .before .before .before .before .a .given .0 .0) (c .before .before .before .before .before .before .before .before .b .given .0 .0) (sym (c .before .before .before .before .before .before .before .before .before .before .question10 .ensures) ∙ c .before .before .before .before .before .before .before .before .b .given .1)
+    ∙ then (question11 (v .me) (v .m) ∷ []) (λ x. question12 (v .m) (v .n) ∷ ofKind (v .m .message) (v .m .sender) (x)) (c .before .before .before .before .before .before .before .before .b .given .0 .0) (c .before .before .before .before .c .given .0 .0) (sym (c .before .before .before .before .before .before .question11 .ensures) ∙ c .before .before .before .before .c .given .1)
+    ∙ stop (question12 (v .m) (v .n) ∷ []) (ofKind (v .m .message) (v .m .sender) (c .before .before .before .before .c .given .0 .0)) (c .before .before .before .before .c .given .0 .0) (c .enum-told4 .given .0 .0) (sym (c .before .before .question12 .ensures) ∙ c .enum-told4 .given .1)
+    )
 
--- src/delivery.rt:50:5
 of-kind-requires : tie.Need-of-kind-requires
 of-kind-requires c κs = search needs
 
--- src/delivery.rt:22:1
 returns-5 : tie.Need-returns-5
-returns-5 c = ?
+returns-5 c = let v = c .before .before .before .before .before .before .before .before .before .before .before .before .before .before .before .before .before .args in
+    c .of-kind .ensures
+    ∙ sym (
+    then (common (v .me) (v .count) (v .bytes) (v .i) (v .r) []) (λ x. question10 (v .me) (v .m) ∷ question11 (v .me) (v .m) ∷ question12 (v .m) (v .n) ∷ ofKind (v .m .message) (v .m .sender) (x)) (v .r) (c .before .before .before .before .before .before .before .before .before .before .before .before .before .before .a .given .0 .0) (sym (c .before .before .before .before .before .before .before .before .before .before .before .before .before .before .before .before .every .ensures) ∙ c .before .before .before .before .before .before .before .before .before .before .before .before .before .before .a .given .1)
+    ∙ then (question10 (v .me) (v .m) ∷ []) (λ x. question11 (v .me) (v .m) ∷ question12 (v .m) (v .n) ∷ ofKind (v .m .message) (v .m .sender) (x)) (c .before .before .before .before .before .before .before .before .before .before .before .before .before .before .a .given .0 .0) (c .before .before .before .before .before .before .before .before .before .before .b .given .0 .0) (sym (c .before .before .before .before .before .before .before .before .before .before .before .before .question10 .ensures) ∙ c .before .before .before .before .before .before .before .before .before .before .b .given .1)
+    ∙ then (question11 (v .me) (v .m) ∷ []) (λ x. question12 (v .m) (v .n) ∷ ofKind (v .m .message) (v .m .sender) (x)) (c .before .before .before .before .before .before .before .before .before .before .b .given .0 .0) (c .before .before .before .before .before .before .c .given .0 .0) (sym (c .before .before .before .before .before .before .before .before .question11 .ensures) ∙ c .before .before .before .before .before .before .c .given .1)
+    ∙ then (question12 (v .m) (v .n) ∷ []) (λ x. ofKind (v .m .message) (v .m .sender) (x)) (c .before .before .before .before .before .before .c .given .0 .0) (c .before .before .d .given .0 .0) (sym (c .before .before .before .before .question12 .ensures) ∙ c .before .before .d .given .1)
+    )
 
 pub asks-spec : {M : Type 1} → statement M
 asks-spec =

@@ -1,85 +1,94 @@
+-- `replica::guards::every` meets its contract.
+use Rattle.hermes.specs.Guards.{question1, question2, question3, question4, question5}
+use Rattle.replica.proofs.Asked.{then, stop}
+use mathlib.Core.List.{[], _∷_}
+use mathlib.Core.Path.{sym, _∙_}
 use borrow.Author.Needs.{needs}
 use Rattle.replica.proofs.guards.every.Statement.{statement}
 use Rattle.replica.proofs.guards.every.Tie as tie
-use Rattle.replica.proofs.guards.every.Reads as reads
-use Rattle.replica.proofs.guards.every.Lts as lts
-use Rattle.replica.proofs.guards.question1.Reads as question1-reads
-use Rattle.replica.proofs.guards.question2.Reads as question2-reads
-use Rattle.replica.proofs.guards.question3.Reads as question3-reads
-use Rattle.replica.proofs.guards.question4.Reads as question4-reads
-use Rattle.replica.proofs.guards.question5.Reads as question5-reads
 
--- src/guards.rt:95:9
 question1-requires : tie.Need-question1-requires
 question1-requires c κs = search needs
 
--- src/guards.rt:96:23
 enum-known-a : tie.Need-enum-known-a
 enum-known-a c = search needs
 
--- src/guards.rt:97:9
 enum-told : tie.Need-enum-told
 enum-told c = search needs
 
--- src/guards.rt:97:9
 returns : tie.Need-returns
-returns c = ?
+returns c = let v = c .before .before .before .args in
+    c .enum-told .given .1
+    ∙ sym (
+    stop (question1 (v .me) ∷ []) (question2 (v .count) (v .bytes) ∷ question3 (v .me) ∷ question4 (v .i) (v .count) ∷ question5 (v .me) (v .r) ∷ []) (v .r) (c .enum-told .given .0 .0) (sym (c .before .before .question1 .ensures) ∙ c .enum-told .given .1)
+    )
 
--- src/guards.rt:99:9
 question2-requires : tie.Need-question2-requires
 question2-requires c κs = search needs
 
--- src/guards.rt:100:23
 enum-known-b : tie.Need-enum-known-b
 enum-known-b c = search needs
 
--- src/guards.rt:101:9
 enum-told-2 : tie.Need-enum-told-2
 enum-told-2 c = search needs
 
--- src/guards.rt:101:9
 returns-2 : tie.Need-returns-2
-returns-2 c = ?
+returns-2 c = let v = c .before .before .before .before .before .before .before .args in
+    c .enum-told2 .given .1
+    ∙ sym (
+    then (question1 (v .me) ∷ []) (λ x. question2 (v .count) (v .bytes) ∷ question3 (v .me) ∷ question4 (v .i) (v .count) ∷ question5 (v .me) (x) ∷ []) (v .r) (c .before .before .before .before .a .given .0 .0) (sym (c .before .before .before .before .before .before .question1 .ensures) ∙ c .before .before .before .before .a .given .1)
+    ∙ stop (question2 (v .count) (v .bytes) ∷ []) (question3 (v .me) ∷ question4 (v .i) (v .count) ∷ question5 (v .me) (c .before .before .before .before .a .given .0 .0) ∷ []) (c .before .before .before .before .a .given .0 .0) (c .enum-told2 .given .0 .0) (sym (c .before .before .question2 .ensures) ∙ c .enum-told2 .given .1)
+    )
 
--- src/guards.rt:103:9
 question3-requires : tie.Need-question3-requires
 question3-requires c κs = search needs
 
--- src/guards.rt:104:23
 enum-known-c : tie.Need-enum-known-c
 enum-known-c c = search needs
 
--- src/guards.rt:105:9
 enum-told-3 : tie.Need-enum-told-3
 enum-told-3 c = search needs
 
--- src/guards.rt:105:9
 returns-3 : tie.Need-returns-3
-returns-3 c = ?
+returns-3 c = let v = c .before .before .before .before .before .before .before .before .before .before .before .args in
+    c .enum-told3 .given .1
+    ∙ sym (
+    then (question1 (v .me) ∷ []) (λ x. question2 (v .count) (v .bytes) ∷ question3 (v .me) ∷ question4 (v .i) (v .count) ∷ question5 (v .me) (x) ∷ []) (v .r) (c .before .before .before .before .before .before .before .before .a .given .0 .0) (sym (c .before .before .before .before .before .before .before .before .before .before .question1 .ensures) ∙ c .before .before .before .before .before .before .before .before .a .given .1)
+    ∙ then (question2 (v .count) (v .bytes) ∷ []) (λ x. question3 (v .me) ∷ question4 (v .i) (v .count) ∷ question5 (v .me) (x) ∷ []) (c .before .before .before .before .before .before .before .before .a .given .0 .0) (c .before .before .before .before .b .given .0 .0) (sym (c .before .before .before .before .before .before .question2 .ensures) ∙ c .before .before .before .before .b .given .1)
+    ∙ stop (question3 (v .me) ∷ []) (question4 (v .i) (v .count) ∷ question5 (v .me) (c .before .before .before .before .b .given .0 .0) ∷ []) (c .before .before .before .before .b .given .0 .0) (c .enum-told3 .given .0 .0) (sym (c .before .before .question3 .ensures) ∙ c .enum-told3 .given .1)
+    )
 
--- src/guards.rt:107:9
 question4-requires : tie.Need-question4-requires
 question4-requires c κs = search needs
 
--- src/guards.rt:108:23
 enum-known-d : tie.Need-enum-known-d
 enum-known-d c = search needs
 
--- src/guards.rt:109:9
 enum-told-4 : tie.Need-enum-told-4
 enum-told-4 c = search needs
 
--- src/guards.rt:109:9
 returns-4 : tie.Need-returns-4
-returns-4 c = ?
+returns-4 c = let v = c .before .before .before .before .before .before .before .before .before .before .before .before .before .before .before .args in
+    c .enum-told4 .given .1
+    ∙ sym (
+    then (question1 (v .me) ∷ []) (λ x. question2 (v .count) (v .bytes) ∷ question3 (v .me) ∷ question4 (v .i) (v .count) ∷ question5 (v .me) (x) ∷ []) (v .r) (c .before .before .before .before .before .before .before .before .before .before .before .before .a .given .0 .0) (sym (c .before .before .before .before .before .before .before .before .before .before .before .before .before .before .question1 .ensures) ∙ c .before .before .before .before .before .before .before .before .before .before .before .before .a .given .1)
+    ∙ then (question2 (v .count) (v .bytes) ∷ []) (λ x. question3 (v .me) ∷ question4 (v .i) (v .count) ∷ question5 (v .me) (x) ∷ []) (c .before .before .before .before .before .before .before .before .before .before .before .before .a .given .0 .0) (c .before .before .before .before .before .before .before .before .b .given .0 .0) (sym (c .before .before .before .before .before .before .before .before .before .before .question2 .ensures) ∙ c .before .before .before .before .before .before .before .before .b .given .1)
+    ∙ then (question3 (v .me) ∷ []) (λ x. question4 (v .i) (v .count) ∷ question5 (v .me) (x) ∷ []) (c .before .before .before .before .before .before .before .before .b .given .0 .0) (c .before .before .before .before .c .given .0 .0) (sym (c .before .before .before .before .before .before .question3 .ensures) ∙ c .before .before .before .before .c .given .1)
+    ∙ stop (question4 (v .i) (v .count) ∷ []) (question5 (v .me) (c .before .before .before .before .c .given .0 .0) ∷ []) (c .before .before .before .before .c .given .0 .0) (c .enum-told4 .given .0 .0) (sym (c .before .before .question4 .ensures) ∙ c .enum-told4 .given .1)
+    )
 
--- src/guards.rt:111:5
 question5-requires : tie.Need-question5-requires
 question5-requires c κs = search needs
 
--- src/guards.rt:92:1
 returns-5 : tie.Need-returns-5
-returns-5 c = ?
+returns-5 c = let v = c .before .before .before .before .before .before .before .before .before .before .before .before .before .before .before .before .before .args in
+    c .question5 .ensures
+    ∙ sym (
+    then (question1 (v .me) ∷ []) (λ x. question2 (v .count) (v .bytes) ∷ question3 (v .me) ∷ question4 (v .i) (v .count) ∷ question5 (v .me) (x) ∷ []) (v .r) (c .before .before .before .before .before .before .before .before .before .before .before .before .before .before .a .given .0 .0) (sym (c .before .before .before .before .before .before .before .before .before .before .before .before .before .before .before .before .question1 .ensures) ∙ c .before .before .before .before .before .before .before .before .before .before .before .before .before .before .a .given .1)
+    ∙ then (question2 (v .count) (v .bytes) ∷ []) (λ x. question3 (v .me) ∷ question4 (v .i) (v .count) ∷ question5 (v .me) (x) ∷ []) (c .before .before .before .before .before .before .before .before .before .before .before .before .before .before .a .given .0 .0) (c .before .before .before .before .before .before .before .before .before .before .b .given .0 .0) (sym (c .before .before .before .before .before .before .before .before .before .before .before .before .question2 .ensures) ∙ c .before .before .before .before .before .before .before .before .before .before .b .given .1)
+    ∙ then (question3 (v .me) ∷ []) (λ x. question4 (v .i) (v .count) ∷ question5 (v .me) (x) ∷ []) (c .before .before .before .before .before .before .before .before .before .before .b .given .0 .0) (c .before .before .before .before .before .before .c .given .0 .0) (sym (c .before .before .before .before .before .before .before .before .question3 .ensures) ∙ c .before .before .before .before .before .before .c .given .1)
+    ∙ then (question4 (v .i) (v .count) ∷ []) (λ x. question5 (v .me) (x) ∷ []) (c .before .before .before .before .before .before .c .given .0 .0) (c .before .before .d .given .0 .0) (sym (c .before .before .before .before .question4 .ensures) ∙ c .before .before .d .given .1)
+    )
 
 pub every-spec : {M : Type 1} → statement M
 every-spec =

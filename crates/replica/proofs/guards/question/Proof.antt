@@ -1,15 +1,12 @@
+-- `replica::guards::question` meets its contract.
 use Rattle.replica.proofs.guards.question.Statement.{statement}
 use Rattle.replica.proofs.guards.question.Tie as tie
-use Rattle.replica.proofs.guards.question.Reads as reads
-use Rattle.replica.proofs.guards.question.Lts as lts
 
--- src/guards.rt:23:1
 returns : tie.Need-returns
-returns c = ?
+returns c = rw (c .if1 .taken)
 
--- src/guards.rt:23:1
 returns-2 : tie.Need-returns-2
-returns-2 c = ?
+returns-2 c = rw (c .if1 .left)
 
 pub question-spec : {M : Type 1} → statement M
 question-spec = tie.close (tie.spec returns returns-2)

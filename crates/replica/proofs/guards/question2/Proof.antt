@@ -1,25 +1,21 @@
+-- `replica::guards::question2` meets its contract.
+use Rattle.hermes.proofs.Tests.{and-true, and-false}
+use borrow.Author.Tests.{le-leb, lt-leb}
 use borrow.Author.Needs.{needs}
 use Rattle.replica.proofs.guards.question2.Statement.{statement}
 use Rattle.replica.proofs.guards.question2.Tie as tie
-use Rattle.replica.proofs.guards.question2.Reads as reads
-use Rattle.replica.proofs.guards.question2.Lts as lts
-use Rattle.replica.proofs.guards.question.Reads as question-reads
 
--- src/guards.rt:60:46
 mul-question : tie.Need-mul-question
 mul-question c = search needs
 
--- src/guards.rt:60:9
 question-requires : tie.Need-question-requires
 question-requires c κs = search needs
 
--- src/guards.rt:56:1
 returns : tie.Need-returns
-returns c = ?
+returns c = rw (le-leb (c .before .before .args .count) 4096 (c .before .if1 .taken), and-true) (c .question .ensures)
 
--- src/guards.rt:56:1
 returns-2 : tie.Need-returns-2
-returns-2 c = ?
+returns-2 c = rw (lt-leb (c .before .args .count) 4096 (c .if1 .left), and-false)
 
 pub question2-spec : {M : Type 1} → statement M
 question2-spec = tie.close (tie.spec mul-question question-requires returns returns-2)

@@ -1,63 +1,47 @@
+-- `replica::leaving::body` meets its contract.
 use borrow.Author.Needs.{needs}
 use Rattle.replica.proofs.leaving.body.Statement.{statement}
 use Rattle.replica.proofs.leaving.body.Tie as tie
-use Rattle.replica.proofs.leaving.body.Reads as reads
-use Rattle.replica.proofs.leaving.body.Lts as lts
-use Rattle.replica.proofs.value.part.Reads as part-reads
 
--- src/leaving.rt:32:24
 enum-known-out : tie.Need-enum-known-out
 enum-known-out c = search needs
 
--- src/leaving.rt:33:65
 enum-told : tie.Need-enum-told
 enum-told c = search needs
 
--- src/leaving.rt:33:65
 cast-part : tie.Need-cast-part
 cast-part c = search needs
 
--- src/leaving.rt:33:32
 part-requires : tie.Need-part-requires
 part-requires c κs = search needs
 
--- src/leaving.rt:34:32
 enum-told-2 : tie.Need-enum-told-2
 enum-told-2 c = search needs
 
--- src/leaving.rt:34:32
 slice-aggregate-result : tie.Need-slice-aggregate-result
 slice-aggregate-result c = search needs
 
--- src/leaving.rt:35:32
 enum-told-3 : tie.Need-enum-told-3
 enum-told-3 c = search needs
 
--- src/leaving.rt:35:32
 slice-aggregate-result-2 : tie.Need-slice-aggregate-result-2
 slice-aggregate-result-2 c = search needs
 
--- src/leaving.rt:37:27
 enum-told-4 : tie.Need-enum-told-4
 enum-told-4 c = search needs
 
--- src/leaving.rt:37:27
 slice-aggregate-result-3 : tie.Need-slice-aggregate-result-3
 slice-aggregate-result-3 c = search needs
 
--- src/leaving.rt:28:1
 returns : tie.Need-returns
-returns c = ?
+returns c = rw (c .before .before .before .before .before .out .given .1, c .before .before .enum-told .given .1) (c .part .ensures)
 
--- src/leaving.rt:28:1
 returns-2 : tie.Need-returns-2
-returns-2 c = ?
+returns-2 c = rw (c .before .before .before .before .out .given .1, c .before .enum-told2 .given .1)
 
--- src/leaving.rt:28:1
 returns-3 : tie.Need-returns-3
-returns-3 c = ?
+returns-3 c = rw (c .before .before .before .before .out .given .1, c .before .enum-told3 .given .1)
 
--- src/leaving.rt:28:1
 returns-4 : tie.Need-returns-4
 returns-4 c = search needs
 

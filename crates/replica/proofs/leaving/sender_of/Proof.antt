@@ -1,59 +1,44 @@
+-- `replica::leaving::sender_of` meets its contract.
 use borrow.Author.Needs.{needs}
 use Rattle.replica.proofs.leaving.sender_of.Statement.{statement}
 use Rattle.replica.proofs.leaving.sender_of.Tie as tie
-use Rattle.replica.proofs.leaving.sender_of.Reads as reads
-use Rattle.replica.proofs.leaving.sender_of.Lts as lts
-use Rattle.replica.proofs.members.with.Reads as with-reads
 
--- src/leaving.rt:46:24
 enum-told : tie.Need-enum-told
 enum-told c = search needs
 
--- src/leaving.rt:47:25
 enum-told-2 : tie.Need-enum-told-2
 enum-told-2 c = search needs
 
--- src/leaving.rt:48:26
 enum-told-3 : tie.Need-enum-told-3
 enum-told-3 c = search needs
 
--- src/leaving.rt:49:24
 enum-known-e : tie.Need-enum-known-e
 enum-known-e c = search needs
 
--- src/leaving.rt:49:30
 with-requires : tie.Need-with-requires
 with-requires c κs = search needs
 
--- src/leaving.rt:50:28
 enum-told-4 : tie.Need-enum-told-4
 enum-told-4 c = search needs
 
--- src/leaving.rt:51:26
 enum-told-5 : tie.Need-enum-told-5
 enum-told-5 c = search needs
 
--- src/leaving.rt:42:1
 returns : tie.Need-returns
 returns c = search needs
 
--- src/leaving.rt:42:1
 returns-2 : tie.Need-returns-2
 returns-2 c = search needs
 
--- src/leaving.rt:42:1
 returns-3 : tie.Need-returns-3
 returns-3 c = search needs
 
--- src/leaving.rt:42:1
 returns-4 : tie.Need-returns-4
-returns-4 c = ?
+returns-4 c = rw (c .before .before .e .given .1) (c .with .ensures)
 
--- src/leaving.rt:42:1
 returns-5 : tie.Need-returns-5
 returns-5 c = search needs
 
--- src/leaving.rt:42:1
 returns-6 : tie.Need-returns-6
 returns-6 c = search needs
 

@@ -1,20 +1,21 @@
+-- `replica::members::has` meets its contract.
+use borrow.Author.Tests.{lt-ltb, le-ltb}
+use native.Mathlib.Omega.{arith}
+use Rattle.hermes.specs.Members.{has}
 use borrow.Author.Needs.{needs}
 use Rattle.replica.proofs.members.has.Statement.{statement}
 use Rattle.replica.proofs.members.has.Tie as tie
-use Rattle.replica.proofs.members.has.Reads as reads
-use Rattle.replica.proofs.members.has.Lts as lts
 
--- src/members.rt:12:10
 shr-result : tie.Need-shr-result
 shr-result c = search needs
 
--- src/members.rt:8:1
 returns : tie.Need-returns
-returns c = ?
+unfolding has
+returns c = simp (lt-ltb (c .before .args .n) 16 (omega arith))
 
--- src/members.rt:8:1
 returns-2 : tie.Need-returns-2
-returns-2 c = ?
+unfolding has
+returns-2 c = simp (le-ltb (c .before .args .n) 16 (omega arith))
 
 pub has-spec : {M : Type 1} → statement M
 has-spec = tie.close (tie.spec shr-result returns returns-2)

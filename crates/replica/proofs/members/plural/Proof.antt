@@ -1,11 +1,13 @@
+-- `replica::members::plural` meets its contract.
+use borrow.Author.Needs.{needs}
+use mathlib.Core.Path.{sym, ap}
+use lib.Dec.{leb}
+use Rattle.hermes.proofs.Members.{size-ones}
 use Rattle.replica.proofs.members.plural.Statement.{statement}
 use Rattle.replica.proofs.members.plural.Tie as tie
-use Rattle.replica.proofs.members.plural.Reads as reads
-use Rattle.replica.proofs.members.plural.Lts as lts
 
--- src/members.rt:19:1
 returns : tie.Need-returns
-returns c = ?
+returns c = ap (leb 2) (sym (size-ones (c .args .set) (search needs)))
 
 pub plural-spec : {M : Type 1} → statement M
 plural-spec = tie.close (tie.spec returns)

@@ -1,20 +1,24 @@
+-- `replica::members::with` meets its contract.
+use borrow.Author.Tests.{lt-ltb, le-ltb}
+use native.Mathlib.Omega.{arith}
+use native.Mathlib.Nat.{one-mul}
+use lib.Dec.{lit<}
+use lib.Pow.{shl-exact}
+use Rattle.hermes.specs.Members.{with}
 use borrow.Author.Needs.{needs}
 use Rattle.replica.proofs.members.with.Statement.{statement}
 use Rattle.replica.proofs.members.with.Tie as tie
-use Rattle.replica.proofs.members.with.Reads as reads
-use Rattle.replica.proofs.members.with.Lts as lts
 
--- src/members.rt:44:16
 shl-result : tie.Need-shl-result
 shl-result c = search needs
 
--- src/members.rt:40:1
 returns : tie.Need-returns
-returns c = ?
+unfolding with
+returns c = rw (lt-ltb (c .before .args .n) 16 (omega arith), shl-exact {a = 1} 1 (c .before .args .n) 16 (lit< tt) (omega arith), one-mul)
 
--- src/members.rt:40:1
 returns-2 : tie.Need-returns-2
-returns-2 c = ?
+unfolding with
+returns-2 c = rw (le-ltb (c .before .args .n) 16 (omega arith))
 
 pub with-spec : {M : Type 1} → statement M
 with-spec = tie.close (tie.spec shl-result returns returns-2)

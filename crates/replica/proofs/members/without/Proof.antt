@@ -1,24 +1,27 @@
+-- `replica::members::without` meets its contract.
+use borrow.Author.Tests.{lt-ltb, le-ltb}
+use native.Mathlib.Omega.{arith}
+use native.Mathlib.Nat.{one-mul}
+use lib.Dec.{lit<}
+use lib.Pow.{shl-exact}
+use Rattle.hermes.specs.Members.{without}
 use borrow.Author.Needs.{needs}
 use Rattle.replica.proofs.members.without.Statement.{statement}
 use Rattle.replica.proofs.members.without.Tie as tie
-use Rattle.replica.proofs.members.without.Reads as reads
-use Rattle.replica.proofs.members.without.Lts as lts
 
--- src/members.rt:55:25
 shl-result : tie.Need-shl-result
 shl-result c = search needs
 
--- src/members.rt:55:16
 sub-result : tie.Need-sub-result
 sub-result c = search needs
 
--- src/members.rt:51:1
 returns : tie.Need-returns
-returns c = ?
+unfolding without
+returns c = rw (lt-ltb (c .before .args .n) 16 (omega arith), shl-exact {a = 1} 1 (c .before .args .n) 16 (lit< tt) (omega arith), one-mul)
 
--- src/members.rt:51:1
 returns-2 : tie.Need-returns-2
-returns-2 c = ?
+unfolding without
+returns-2 c = rw (le-ltb (c .before .args .n) 16 (omega arith))
 
 pub without-spec : {M : Type 1} → statement M
 without-spec = tie.close (tie.spec shl-result sub-result returns returns-2)

@@ -1,42 +1,38 @@
+-- `replica::reading::read` meets its contract.
+use Rattle.hermes.specs.Event.{readPart}
+use Rattle.replica.proofs.Asked.{accepted, refused, same-record, no-part}
+use lib.ListN.{length}
+use Rattle.hermes.specs.declared.event.Event.the-variants as event
+use mathlib.Core.Path.{sym, _∙_}
 use borrow.Author.Needs.{needs}
 use Rattle.replica.proofs.reading.read.Statement.{statement}
 use Rattle.replica.proofs.reading.read.Tie as tie
-use Rattle.replica.proofs.reading.read.Reads as reads
-use Rattle.replica.proofs.reading.read.Lts as lts
-use Rattle.replica.proofs.reading.asks.Reads as asks-reads
-use Rattle.replica.proofs.value.part.Reads as part-reads
 
--- src/reading.rt:53:9
 asks-requires : tie.Need-asks-requires
 asks-requires c κs = search needs
 
--- src/reading.rt:54:23
 enum-known-a : tie.Need-enum-known-a
 enum-known-a c = search needs
 
--- src/reading.rt:55:16
 enum-told : tie.Need-enum-told
 enum-told c = search needs
 
--- src/reading.rt:55:9
 slice-aggregate-result : tie.Need-slice-aggregate-result
 slice-aggregate-result c = search needs
 
--- src/reading.rt:55:9
 returns : tie.Need-returns
-returns c = ?
+unfolding readPart
+returns c = let v = c .before .before .before .before .before .args in rw (refused (v .me) (v .count) (length (v .store .now)) (v .i) (v .r) event.Read 0 (c .before .enum-told .given .0 .0) (sym (c .before .before .before .asks .ensures) ∙ c .before .enum-told .given .1) .0) (no-part _ _ (refused (v .me) (v .count) (length (v .store .now)) (v .i) (v .r) event.Read 0 (c .before .enum-told .given .0 .0) (sym (c .before .before .before .asks .ensures) ∙ c .before .enum-told .given .1) .1))
 
--- src/reading.rt:57:27
 cast-part : tie.Need-cast-part
 cast-part c = search needs
 
--- src/reading.rt:57:5
 part-requires : tie.Need-part-requires
 part-requires c κs = search needs
 
--- src/reading.rt:50:1
 returns-2 : tie.Need-returns-2
-returns-2 c = ?
+unfolding readPart
+returns-2 c = let v = c .before .before .before .before .before .before .before .args in rw (accepted (v .me) (v .count) (length (v .store .now)) (v .i) (v .r) event.Read 0 (c .before .before .before .a .given .0 .0) (sym (c .before .before .before .before .before .asks .ensures) ∙ c .before .before .before .a .given .1), same-record (v .me) (v .count) (length (v .store .now)) (v .i) (v .r) event.Read 0 (c .before .before .before .a .given .0 .0) (sym (c .before .before .before .before .before .asks .ensures) ∙ c .before .before .before .a .given .1)) (c .part .ensures)
 
 pub read-spec : {M : Type 1} → statement M
 read-spec =

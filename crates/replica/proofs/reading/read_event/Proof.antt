@@ -1,34 +1,31 @@
+-- `replica::reading::read_event` meets its contract.
+use Rattle.hermes.specs.Event.{moved, readStep}
+use Rattle.hermes.specs.declared.event.Event.the-variants as event
+use Rattle.replica.proofs.Asked.{stops, goes}
+use mathlib.Core.Path.{_∙_}
 use borrow.Author.Needs.{needs}
 use Rattle.replica.proofs.reading.read_event.Statement.{statement}
 use Rattle.replica.proofs.reading.read_event.Tie as tie
-use Rattle.replica.proofs.reading.read_event.Reads as reads
-use Rattle.replica.proofs.reading.read_event.Lts as lts
-use Rattle.replica.proofs.guards.stopped.Reads as stopped-reads
-use Rattle.replica.proofs.reading.asks.Reads as asks-reads
 
--- src/reading.rt:31:9
 asks-requires : tie.Need-asks-requires
 asks-requires c κs = search needs
 
--- src/reading.rt:32:23
 enum-known-a : tie.Need-enum-known-a
 enum-known-a c = search needs
 
--- src/reading.rt:33:9
 enum-told : tie.Need-enum-told
 enum-told c = search needs
 
--- src/reading.rt:33:9
 stopped-requires : tie.Need-stopped-requires
 stopped-requires c κs = search needs
 
--- src/reading.rt:33:9
 returns : tie.Need-returns
-returns c = ?
+unfolding moved
+returns c = let v = c .before .before .before .before .args in c .stopped .ensures ∙ stops (v .me) (v .count) (v .bytes) (v .i) (v .r) event.Read 0 _ (c .before .enum-told .given .0 .0) _ (c .before .before .before .asks .ensures) (c .before .enum-told .given .1)
 
--- src/reading.rt:28:1
 returns-2 : tie.Need-returns-2
-returns-2 c = ?
+unfolding moved
+returns-2 c = let v = c .before .before .before .before .args in goes (v .me) (v .count) (v .bytes) (v .i) (v .r) event.Read 0 _ (c .before .a .given .0 .0) (λ x. readStep x) (c .before .before .before .asks .ensures) (c .before .a .given .1)
 
 pub read-event-spec : {M : Type 1} → statement M
 read-event-spec =

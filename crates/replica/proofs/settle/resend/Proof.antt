@@ -1,39 +1,34 @@
+-- `replica::settle::resend` meets its contract.
+use Rattle.hermes.specs.Event.{moved, resendStep}
+use Rattle.hermes.specs.declared.event.Event.the-variants as event
+use Rattle.replica.proofs.Asked.{stops, goes}
+use mathlib.Core.Path.{_∙_}
 use borrow.Author.Needs.{needs}
 use Rattle.replica.proofs.settle.resend.Statement.{statement}
 use Rattle.replica.proofs.settle.resend.Tie as tie
-use Rattle.replica.proofs.settle.resend.Reads as reads
-use Rattle.replica.proofs.settle.resend.Lts as lts
-use Rattle.replica.proofs.guards.stopped.Reads as stopped-reads
-use Rattle.replica.proofs.settle.again.Reads as again-reads
-use Rattle.replica.proofs.settle.asks_resend.Reads as asks-resend-reads
 
--- src/settle.rt:87:9
 asks-resend-requires : tie.Need-asks-resend-requires
 asks-resend-requires c κs = search needs
 
--- src/settle.rt:88:23
 enum-known-a : tie.Need-enum-known-a
 enum-known-a c = search needs
 
--- src/settle.rt:89:9
 enum-told : tie.Need-enum-told
 enum-told c = search needs
 
--- src/settle.rt:89:9
 stopped-requires : tie.Need-stopped-requires
 stopped-requires c κs = search needs
 
--- src/settle.rt:89:9
 returns : tie.Need-returns
-returns c = ?
+unfolding moved
+returns c = let v = c .before .before .before .before .args in c .stopped .ensures ∙ stops (v .me) (v .count) (v .bytes) (v .i) (v .r) event.Resend 0 _ (c .before .enum-told .given .0 .0) _ (c .before .before .before .asks-resend .ensures) (c .before .enum-told .given .1)
 
--- src/settle.rt:93:34
 again-requires : tie.Need-again-requires
 again-requires c κs = search needs
 
--- src/settle.rt:84:1
 returns-2 : tie.Need-returns-2
-returns-2 c = ?
+unfolding moved
+returns-2 c = let v = c .before .before .before .before .before .args in rw (c .again .ensures) (goes (v .me) (v .count) (v .bytes) (v .i) (v .r) event.Resend 0 _ (c .before .before .a .given .0 .0) (λ x. resendStep (v .me) (v .i) x) (c .before .before .before .before .asks-resend .ensures) (c .before .before .a .given .1))
 
 pub resend-spec : {M : Type 1} → statement M
 resend-spec =

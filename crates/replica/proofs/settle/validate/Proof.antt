@@ -1,44 +1,37 @@
+-- `replica::settle::validate` meets its contract.
+use Rattle.hermes.specs.Event.{moved, validateStep}
+use Rattle.hermes.specs.declared.event.Event.the-variants as event
+use Rattle.replica.proofs.Asked.{stops, goes}
+use mathlib.Core.Path.{_∙_}
 use borrow.Author.Needs.{needs}
 use Rattle.replica.proofs.settle.validate.Statement.{statement}
 use Rattle.replica.proofs.settle.validate.Tie as tie
-use Rattle.replica.proofs.settle.validate.Reads as reads
-use Rattle.replica.proofs.settle.validate.Lts as lts
-use Rattle.hermes.proofs.record.Record.validate.Reads as validate-reads
-use Rattle.replica.proofs.guards.stopped.Reads as stopped-reads
-use Rattle.replica.proofs.leaving.send.Reads as send-reads
-use Rattle.replica.proofs.settle.asks_validate.Reads as asks-validate-reads
 
--- src/settle.rt:49:9
 asks-validate-requires : tie.Need-asks-validate-requires
 asks-validate-requires c κs = search needs
 
--- src/settle.rt:50:23
 enum-known-a : tie.Need-enum-known-a
 enum-known-a c = search needs
 
--- src/settle.rt:51:9
 enum-told : tie.Need-enum-told
 enum-told c = search needs
 
--- src/settle.rt:51:9
 stopped-requires : tie.Need-stopped-requires
 stopped-requires c κs = search needs
 
--- src/settle.rt:51:9
 returns : tie.Need-returns
-returns c = ?
+unfolding moved
+returns c = let v = c .before .before .before .before .args in c .stopped .ensures ∙ stops (v .me) (v .count) (v .bytes) (v .i) (v .r) event.Validate 0 _ (c .before .enum-told .given .0 .0) _ (c .before .before .before .asks-validate .ensures) (c .before .enum-told .given .1)
 
--- src/settle.rt:55:34
 send-requires : tie.Need-send-requires
 send-requires c κs = search needs
 
--- src/settle.rt:56:16
 validate-requires : tie.Need-validate-requires
 validate-requires c κs = search needs
 
--- src/settle.rt:46:1
 returns-2 : tie.Need-returns-2
-returns-2 c = ?
+unfolding moved
+returns-2 c = let v = c .before .before .before .before .before .before .before .args in rw (c .before .send .ensures, c .validate .ensures) (goes (v .me) (v .count) (v .bytes) (v .i) (v .r) event.Validate 0 _ (c .before .before .before .before .a .given .0 .0) (λ x. validateStep (v .me) (v .i) x) (c .before .before .before .before .before .before .asks-validate .ensures) (c .before .before .before .before .a .given .1))
 
 pub validate-spec : {M : Type 1} → statement M
 validate-spec =

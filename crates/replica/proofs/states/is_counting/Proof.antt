@@ -1,60 +1,14 @@
+-- `replica::states::is_counting` meets its contract.
+use Rattle.hermes.proofs.Tests.{or-false}
 use borrow.Author.Needs.{needs}
 use Rattle.replica.proofs.states.is_counting.Statement.{statement}
 use Rattle.replica.proofs.states.is_counting.Tie as tie
-use Rattle.replica.proofs.states.is_counting.Reads as reads
-use Rattle.replica.proofs.states.is_counting.Lts as lts
 
--- src/states.rt:50:25
-enum-told : tie.Need-enum-told
-enum-told c = search needs
+code-requires : tie.Need-code-requires
+code-requires c κs = search needs
 
--- src/states.rt:51:27
-enum-told-2 : tie.Need-enum-told-2
-enum-told-2 c = search needs
-
--- src/states.rt:52:32
-enum-told-3 : tie.Need-enum-told-3
-enum-told-3 c = search needs
-
--- src/states.rt:53:25
-enum-told-4 : tie.Need-enum-told-4
-enum-told-4 c = search needs
-
--- src/states.rt:54:26
-enum-told-5 : tie.Need-enum-told-5
-enum-told-5 c = search needs
-
--- src/states.rt:46:1
 returns : tie.Need-returns
-returns c = ?
-
--- src/states.rt:46:1
-returns-2 : tie.Need-returns-2
-returns-2 c = ?
-
--- src/states.rt:46:1
-returns-3 : tie.Need-returns-3
-returns-3 c = ?
-
--- src/states.rt:46:1
-returns-4 : tie.Need-returns-4
-returns-4 c = ?
-
--- src/states.rt:46:1
-returns-5 : tie.Need-returns-5
-returns-5 c = ?
+returns c = rw (c .code .ensures, or-false)
 
 pub is-counting-spec : {M : Type 1} → statement M
-is-counting-spec =
-    tie.close
-    (tie.spec
-    enum-told
-    enum-told-2
-    enum-told-3
-    enum-told-4
-    enum-told-5
-    returns
-    returns-2
-    returns-3
-    returns-4
-    returns-5)
+is-counting-spec = tie.close (tie.spec code-requires returns)

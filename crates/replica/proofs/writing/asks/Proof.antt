@@ -1,68 +1,75 @@
+-- `replica::writing::asks` meets its contract.
+use Rattle.hermes.specs.Event.{common}
+use Rattle.hermes.specs.Guards.{question7, question8, question9}
+use Rattle.replica.proofs.Asked.{then, stop}
+use mathlib.Core.List.{[], _∷_}
+use mathlib.Core.Path.{sym, _∙_}
 use borrow.Author.Needs.{needs}
 use Rattle.replica.proofs.writing.asks.Statement.{statement}
 use Rattle.replica.proofs.writing.asks.Tie as tie
-use Rattle.replica.proofs.writing.asks.Reads as reads
-use Rattle.replica.proofs.writing.asks.Lts as lts
-use Rattle.replica.proofs.guards.every.Reads as every-reads
-use Rattle.replica.proofs.guards.question7.Reads as question7-reads
-use Rattle.replica.proofs.guards.question8.Reads as question8-reads
-use Rattle.replica.proofs.guards.question9.Reads as question9-reads
 
--- src/writing.rt:21:9
 every-requires : tie.Need-every-requires
 every-requires c κs = search needs
 
--- src/writing.rt:22:23
 enum-known-a : tie.Need-enum-known-a
 enum-known-a c = search needs
 
--- src/writing.rt:23:9
 enum-told : tie.Need-enum-told
 enum-told c = search needs
 
--- src/writing.rt:23:9
 returns : tie.Need-returns
-returns c = ?
+returns c = let v = c .before .before .before .args in
+    c .enum-told .given .1
+    ∙ sym (
+    stop (common (v .me) (v .count) (v .bytes) (v .i) (v .r) []) (question7 (v .r) ∷ question8 (v .n) ∷ question9 (v .r) ∷ []) (v .r) (c .enum-told .given .0 .0) (sym (c .before .before .every .ensures) ∙ c .enum-told .given .1)
+    )
 
--- src/writing.rt:25:9
 question7-requires : tie.Need-question7-requires
 question7-requires c κs = search needs
 
--- src/writing.rt:26:23
 enum-known-b : tie.Need-enum-known-b
 enum-known-b c = search needs
 
--- src/writing.rt:27:9
 enum-told-2 : tie.Need-enum-told-2
 enum-told-2 c = search needs
 
--- src/writing.rt:27:9
 returns-2 : tie.Need-returns-2
-returns-2 c = ?
+returns-2 c = let v = c .before .before .before .before .before .before .before .args in
+    c .enum-told2 .given .1
+    ∙ sym (
+    then (common (v .me) (v .count) (v .bytes) (v .i) (v .r) []) (λ x. question7 (x) ∷ question8 (v .n) ∷ question9 (x) ∷ []) (v .r) (c .before .before .before .before .a .given .0 .0) (sym (c .before .before .before .before .before .before .every .ensures) ∙ c .before .before .before .before .a .given .1)
+    ∙ stop (question7 (c .before .before .before .before .a .given .0 .0) ∷ []) (question8 (v .n) ∷ question9 (c .before .before .before .before .a .given .0 .0) ∷ []) (c .before .before .before .before .a .given .0 .0) (c .enum-told2 .given .0 .0) (sym (c .before .before .question7 .ensures) ∙ c .enum-told2 .given .1)
+    )
 
--- src/writing.rt:29:9
 question8-requires : tie.Need-question8-requires
 question8-requires c κs = search needs
 
--- src/writing.rt:30:23
 enum-known-c : tie.Need-enum-known-c
 enum-known-c c = search needs
 
--- src/writing.rt:31:9
 enum-told-3 : tie.Need-enum-told-3
 enum-told-3 c = search needs
 
--- src/writing.rt:31:9
 returns-3 : tie.Need-returns-3
-returns-3 c = ?
+returns-3 c = let v = c .before .before .before .before .before .before .before .before .before .before .before .args in
+    c .enum-told3 .given .1
+    ∙ sym (
+    then (common (v .me) (v .count) (v .bytes) (v .i) (v .r) []) (λ x. question7 (x) ∷ question8 (v .n) ∷ question9 (x) ∷ []) (v .r) (c .before .before .before .before .before .before .before .before .a .given .0 .0) (sym (c .before .before .before .before .before .before .before .before .before .before .every .ensures) ∙ c .before .before .before .before .before .before .before .before .a .given .1)
+    ∙ then (question7 (c .before .before .before .before .before .before .before .before .a .given .0 .0) ∷ []) (λ x. question8 (v .n) ∷ question9 (x) ∷ []) (c .before .before .before .before .before .before .before .before .a .given .0 .0) (c .before .before .before .before .b .given .0 .0) (sym (c .before .before .before .before .before .before .question7 .ensures) ∙ c .before .before .before .before .b .given .1)
+    ∙ stop (question8 (v .n) ∷ []) (question9 (c .before .before .before .before .b .given .0 .0) ∷ []) (c .before .before .before .before .b .given .0 .0) (c .enum-told3 .given .0 .0) (sym (c .before .before .question8 .ensures) ∙ c .enum-told3 .given .1)
+    )
 
--- src/writing.rt:33:5
 question9-requires : tie.Need-question9-requires
 question9-requires c κs = search needs
 
--- src/writing.rt:18:1
 returns-4 : tie.Need-returns-4
-returns-4 c = ?
+returns-4 c = let v = c .before .before .before .before .before .before .before .before .before .before .before .before .before .args in
+    c .question9 .ensures
+    ∙ sym (
+    then (common (v .me) (v .count) (v .bytes) (v .i) (v .r) []) (λ x. question7 (x) ∷ question8 (v .n) ∷ question9 (x) ∷ []) (v .r) (c .before .before .before .before .before .before .before .before .before .before .a .given .0 .0) (sym (c .before .before .before .before .before .before .before .before .before .before .before .before .every .ensures) ∙ c .before .before .before .before .before .before .before .before .before .before .a .given .1)
+    ∙ then (question7 (c .before .before .before .before .before .before .before .before .before .before .a .given .0 .0) ∷ []) (λ x. question8 (v .n) ∷ question9 (x) ∷ []) (c .before .before .before .before .before .before .before .before .before .before .a .given .0 .0) (c .before .before .before .before .before .before .b .given .0 .0) (sym (c .before .before .before .before .before .before .before .before .question7 .ensures) ∙ c .before .before .before .before .before .before .b .given .1)
+    ∙ then (question8 (v .n) ∷ []) (λ x. question9 (x) ∷ []) (c .before .before .before .before .before .before .b .given .0 .0) (c .before .before .c .given .0 .0) (sym (c .before .before .before .before .question8 .ensures) ∙ c .before .before .c .given .1)
+    )
 
 pub asks-spec : {M : Type 1} → statement M
 asks-spec =

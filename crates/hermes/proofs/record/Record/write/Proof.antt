@@ -1,19 +1,15 @@
+-- `hermes::record::Record::write` meets its contract.
 use borrow.Author.Tests.{lt-ltb, le-ltb}
 use borrow.Author.Needs.{needs}
 use Rattle.hermes.proofs.record.Record.write.Statement.{statement}
 use Rattle.hermes.proofs.record.Record.write.Tie as tie
-use Rattle.hermes.proofs.record.Record.write.Reads as reads
-use Rattle.hermes.proofs.record.Record.write.Lts as lts
 
--- src/record.rt:62:23
 add-version : tie.Need-add-version
 add-version c = search needs
 
--- src/record.rt:56:5
 returns : tie.Need-returns
 returns c = rw (lt-ltb _ _ (c .if1 .taken))
 
--- src/record.rt:56:5
 returns-2 : tie.Need-returns-2
 returns-2 c = rw (le-ltb _ _ (c .if1 .left))
 

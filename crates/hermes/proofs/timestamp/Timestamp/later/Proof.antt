@@ -1,11 +1,9 @@
+-- `hermes::timestamp::Timestamp::later` meets its contract.
 use mathlib.Core.Path.{refl}
 use Rattle.hermes.specs.Order.{later}
 use Rattle.hermes.proofs.timestamp.Timestamp.later.Statement.{statement}
 use Rattle.hermes.proofs.timestamp.Timestamp.later.Tie as tie
-use Rattle.hermes.proofs.timestamp.Timestamp.later.Reads as reads
-use Rattle.hermes.proofs.timestamp.Timestamp.later.Lts as lts
 
--- src/timestamp.rt:13:5
 returns : tie.Need-returns
 unfolding later
 returns c = refl

@@ -1,0 +1,390 @@
+-- Demand 2: every event is the source's action. The idea: its questions are document 01's own and the action's guard, one by one; and its
+-- step, read as the source's variables, is the action's effect.
+use Prim.Native.Nat.{ℕ, zero, suc, _≤_, _<_}
+use mathlib.Core.Path.{_≡_, refl, sym, ap, subst₃, _∙_}
+use mathlib.Core.Bool.{Bool, true, false, not, _&&_, _||_, false≢true}
+use mathlib.Core.Logic.{_⊎_, inl, inr, _≢_, _↔_}
+use mathlib.Core.List.{List, [], _∷_}
+use native.Mathlib.Omega.{arith}
+use native.Mathlib.Decide.{ℕ-discrete}
+use lib.Dec.{leb, eqb}
+use lib.ListN.{length, take, getD-replicate}
+use borrow.Author.Tests.{ltb-true, eqb-true, eqb-false, lt-ltb, eq-eqb, ne-eqb, not-true}
+use Rattle.hermes.specs.declared.timestamp.Timestamp.{Timestamp}
+use Rattle.hermes.specs.declared.record.Record.{Record}
+use Rattle.hermes.specs.declared.record.State.{State}
+use Rattle.hermes.specs.declared.record.State.the-variants as state
+use Rattle.hermes.specs.declared.message.Message.{Message}
+use Rattle.hermes.specs.declared.message.Message.the-variants.{Inv, Ack, Val}
+use Rattle.hermes.specs.declared.message.Outgoing.the-variants.{None}
+use Rattle.hermes.specs.declared.event.Replica.{Replica}
+use Rattle.hermes.specs.declared.event.Event.{Event}
+use Rattle.hermes.specs.declared.event.Event.the-variants.{Read, Write, Replay, Deliver, Validate, Resend}
+use Rattle.hermes.specs.declared.event.Admission.the-variants.{Admitted}
+use Rattle.hermes.specs.Members.{has, size, within, othersIn, with, lowest}
+use Rattle.hermes.specs.Order.{higher, later, sameTimestamp}
+use Rattle.hermes.specs.Record.{oneOf, invalidatedState, freshRecord}
+use Rattle.hermes.specs.Store.{slot}
+use Rattle.hermes.specs.Guards.{Question, AllYes, ask, firstNo, question1, question3, question8, question10, question11, question12}
+use Rattle.hermes.specs.Event.{Step, invStep, resent, numberOf, answerOf, sentBy, leavingBody}
+use Rattle.hermes.specs.Node.{Node, Outcome, recordOf, apply, newcomer, startQuestions, start, view, viewed, viewQuestions, admissionOf, admissionNumber}
+use Rattle.hermes.specs.Frame.{bytesAfter, Changed}
+use Rattle.hermes.specs.Locality.{body}
+use Rattle.hermes.specs.Source as source
+use Rattle.hermes.specs.Source.{Vars, Sending, In, HInit, HReadGuard, HWriteGuard, HReplayWriteGuard, HRcvInvGuard, HRcvInv, HRcvAckGuard, HRcvValGuard, HSendValsGuard, NodeFailureGuard, ResendGuard, Resent, sendInv}
+use Rattle.hermes.specs.Conformance.{varsOf, fiveAnd, delivered, message, Follows, ViewFollows, StartFollows, Demand2By, Demand2}
+use Rattle.hermes.proofs.Tests.{both, either, is-false, or-true}
+use Rattle.hermes.proofs.Members.{Has, has-small, has-zero, within-members, members-within, others-members, members-others, with-members, members-with}
+use Rattle.hermes.proofs.Store.{value-slot, take-padded}
+use Rattle.hermes.proofs.Guards.{all-yes, none-says-no}
+use Rattle.hermes.proofs.Steps.{next-version, step-about}
+use Rattle.hermes.proofs.Apply.{passed-zero, questionsOf, ownOf, stepOf, done, Applied, refused, accepted, applied, first-five, its-own, sound-step}
+use Rattle.hermes.proofs.Words.{one-in, in-one, is-state, state-is, same-ts, ts-same, later-greater, greater-later, Two, size-two, two-size}
+use Rattle.hermes.proofs.Locality.{leavingSlot, leaving-slot}
+use Rattle.hermes.proofs.Frame.{view-frame}
+use Rattle.hermes.proofs.Start.{Begun, begun, lowest-lowest}
+
+-- ---- an event of a replica, as the source sees it
+
+-- the source's variables of a record with its 192 bytes
+abbrev seen : Record → List ℕ → Vars
+seen r b = record { nodeTS = r .timestamp; nodeState = r .state; nodeRcvdAcks = r .acks; nodeLastWriter = r .writer; nodeLastWriteTS = r .written; value = take (r .len) b }
+
+vars-seen : (i : ℕ) (n : Node) → recordOf i n .len ≤ 192 → varsOf i n ≡ seen (recordOf i n) (slot i (n .store))
+vars-seen i n h = λ t. record {
+  nodeTS = recordOf i n .timestamp;
+  nodeState = recordOf i n .state;
+  nodeRcvdAcks = recordOf i n .acks;
+  nodeLastWriter = recordOf i n .writer;
+  nodeLastWriteTS = recordOf i n .written;
+  value = value-slot i (recordOf i n .len) (n .store) h t;
+}
+
+-- what a step that found these 192 bytes makes of them, and what it sends
+abbrev stepVars : Step → List ℕ → Vars
+stepVars s b = seen (s .after) (bytesAfter (s .stored) b)
+
+abbrev stepSends : Step → List ℕ → Sending
+stepSends s b = record { message = s .sent; body = leavingSlot (s .sent) (s .after) (bytesAfter (s .stored) b) }
+
+module _ (wins : ℕ → ℕ → Bool) (n : Node) (i : ℕ) (e : Event) (v : List ℕ) where
+  abbrev s : Step
+  s = stepOf wins n i e v
+
+  -- the step as the source sees it is what the event left
+  acted : (action : Vars → Vars → Sending → Type 0) → AllYes (questionsOf n i e v) → Changed i s n (done n i s)
+      → action (seen (recordOf i n) (slot i (n .store))) (stepVars s (slot i (n .store))) (stepSends s (slot i (n .store)))
+      → action (varsOf i n) (varsOf i (done n i s)) (record { message = s .sent; body = leavingBody (s .sent) (recordOf i (done n i s)) (done n i s .store) })
+  acted action y c h = subst₃ action (sym (vars-seen i n short)) (sym after) (sym sent) h
+    where
+      short : recordOf i n .len ≤ 192
+      short = first-five n i e v y .sound .short
+
+      short′ : recordOf i (done n i s) .len ≤ 192
+      short′ = rw (c .here) (sound-step wins n i e v y .after .short)
+
+      after : varsOf i (done n i s) ≡ stepVars s (slot i (n .store))
+      after = vars-seen i (done n i s) short′ ∙ (λ t. seen (c .here t) (c .bytes t))
+
+      sent : record { message = s .sent; body = leavingBody (s .sent) (recordOf i (done n i s)) (done n i s .store) } ≡ stepSends s (slot i (n .store))
+      sent = (λ t. record { message = s .sent; body = leaving-slot i (s .sent) (step-about wins (n .me) i (recordOf i n) e v) (recordOf i (done n i s)) (done n i s .store) short′ t })
+          ∙ (λ t. record { message = s .sent; body = leavingSlot (s .sent) (c .here t) (c .bytes t) })
+
+  follows : (own : List Question) (guard : Vars → Type 0) (action : Vars → Vars → Sending → Type 0)
+      → (AllYes (questionsOf n i e v) → AllYes own × guard (varsOf i n)) → (AllYes own × guard (varsOf i n) → AllYes (questionsOf n i e v))
+      → (AllYes (questionsOf n i e v) → action (seen (recordOf i n) (slot i (n .store))) (stepVars s (slot i (n .store))) (stepSends s (slot i (n .store))))
+      → Follows wins n i e v own guard action
+  follows own guard action to from act = record { accepted = exactly (apply wins n i e v) (applied wins n i e v); does = does (apply wins n i e v) (applied wins n i e v); refused = stays (apply wins n i e v) (applied wins n i e v) }
+    where
+      number : Outcome → ℕ
+      number o = numberOf (o .answer)
+
+      exactly : (o : Outcome) → Applied wins n i e v o → (numberOf (o .answer) ≡ 0) ↔ (AllYes own × guard (varsOf i n))
+      exactly o (refused k z q) = (λ a. absurd (omega (arith, ap number q)), λ g. absurd (omega (arith, z, passed-zero n i e v (from g))))
+      exactly o (accepted y c q) = (λ a. to y, λ g. ap number q)
+
+      does : (o : Outcome) → Applied wins n i e v o → numberOf (o .answer) ≡ 0 → action (varsOf i n) (varsOf i (o .node)) (record { message = sentBy (o .answer); body = body i o })
+      does o (refused k z q) a = absurd (omega (arith, ap number q))
+      does o (accepted y c q) a = rw q (acted action y c (act y))
+
+      stays : (o : Outcome) → Applied wins n i e v o → (numberOf (o .answer) ≡ 0 → ⊥) → (o .node ≡ n) × (sentBy (o .answer) ≡ None)
+      stays o (refused k z q) a = (ap (λ (x : Outcome). x .node) q, ap (λ (x : Outcome). sentBy (x .answer)) q)
+      stays o (accepted y c q) a = absurd (a (ap number q))
+
+  -- questions 1 to 5, with others, of a passed event; and back
+  five : (more : List Question) → AllYes (questionsOf n i e v) → AllYes more → AllYes (fiveAnd n i more)
+  five more y m = (y .0, (y .1 .0, (y .1 .1 .0, (y .1 .1 .1 .0, (y .1 .1 .1 .1 .0, m)))))
+
+  back : (more : List Question) → AllYes (fiveAnd n i more) → AllYes (ownOf n i e v) → AllYes (questionsOf n i e v)
+  back more f m = (f .0, (f .1 .0, (f .1 .1 .0, (f .1 .1 .1 .0, (f .1 .1 .1 .1 .0, m)))))
+
+-- ---- the actions
+
+and-yes : (a b : Bool) → a ≡ true → b ≡ true → (a && b) ≡ true
+and-yes a b p q = rw (p, q)
+
+follower : (s : State) → In s (state.Valid ∷ state.Invalid ∷ state.Replay ∷ []) → invalidatedState s ≡ state.Invalid
+follower s (inl e) = rw e
+follower s (inr (inl e)) = rw e
+follower s (inr (inr (inl e))) = rw e
+follower s (inr (inr (inr e))) = absurd e
+
+coordinator : (s : State) → In s (state.Write ∷ state.InvalidWrite ∷ []) → invalidatedState s ≡ state.InvalidWrite
+coordinator s (inl e) = rw e
+coordinator s (inr (inl e)) = rw e
+coordinator s (inr (inr e)) = absurd e
+
+module _ (wins : ℕ → ℕ → Bool) (n : Node) (i : ℕ) (v : List ℕ) where
+  follows-read : Follows wins n i Read v (fiveAnd n i []) HReadGuard source.HRead
+  follows-read = follows wins n i Read v (fiveAnd n i []) HReadGuard source.HRead
+      (λ y. (five wins n i Read v [] y tt, is-state (recordOf i n .state) state.Valid (its-own n i Read v y .0)))
+      (λ g. back wins n i Read v [] (g .0) (state-is (recordOf i n .state) state.Valid (g .1), tt))
+      (λ y. record { unchanged = refl; send = refl })
+
+  follows-write : Follows wins n i Write v (fiveAnd n i (question8 (length v) ∷ [])) HWriteGuard (source.HWrite (n .me) i v)
+  follows-write = follows wins n i Write v (fiveAnd n i (question8 (length v) ∷ [])) HWriteGuard (source.HWrite (n .me) i v)
+      (λ y. let o = its-own n i Write v y in
+      (five wins n i Write v (question8 (length v) ∷ []) y (o .1 .0, tt), (one-in (recordOf i n .state) (state.Valid ∷ state.Invalid ∷ []) (o .0), ltb-true (recordOf i n .timestamp .version) 4294967295 (o .1 .1 .0))))
+      (λ g. back wins n i Write v (question8 (length v) ∷ []) (g .0)
+      (in-one (recordOf i n .state) (state.Valid ∷ state.Invalid ∷ []) (g .1 .0), (g .0 .1 .1 .1 .1 .1 .0, (lt-ltb (recordOf i n .timestamp .version) 4294967295 (g .1 .1), tt))))
+      (λ y. record {
+        nodeRcvdAcks = has-zero;
+        nodeLastWriter = refl;
+        nodeState = refl;
+        nodeTS = ap (λ (x : ℕ). record { version = x; tie = n .me .number }) (next-version (recordOf i n .timestamp .version) (its-own n i Write v y .1 .1 .0));
+        nodeLastWriteTS = ap (λ (x : ℕ). record { version = x; tie = n .me .number }) (next-version (recordOf i n .timestamp .version) (its-own n i Write v y .1 .1 .0));
+        value = take-padded v;
+        send = refl;
+      })
+
+  follows-replay : Follows wins n i Replay v (fiveAnd n i []) (HReplayWriteGuard (n .me)) (source.HReplayWrite (n .me) i)
+  follows-replay = follows wins n i Replay v (fiveAnd n i []) (HReplayWriteGuard (n .me)) (source.HReplayWrite (n .me) i)
+      (λ y. let (p, q) = both (oneOf (recordOf i n .state) (state.Invalid ∷ [])) (not (has (n .me .view) (recordOf i n .writer))) (its-own n i Replay v y .0) in
+      (five wins n i Replay v [] y tt, (is-state (recordOf i n .state) state.Invalid p, λ h. false≢true (sym (not-true _ q) ∙ h))))
+      (λ g. back wins n i Replay v [] (g .0) (and-yes _ _ (state-is (recordOf i n .state) state.Invalid (g .1 .0)) (ap not (is-false (has (n .me .view) (recordOf i n .writer)) (g .1 .1))), tt))
+      (λ y. record { nodeLastWriter = refl; nodeState = refl; nodeRcvdAcks = has-zero; nodeLastWriteTS = refl; nodeTS = refl; value = refl; send = refl })
+
+  follows-validate : Follows wins n i Validate v (fiveAnd n i []) (HSendValsGuard (n .me)) (source.HSendVals (n .me) i)
+  follows-validate = follows wins n i Validate v (fiveAnd n i []) (HSendValsGuard (n .me)) (source.HSendVals (n .me) i)
+      (λ y. let (p, q) = both (oneOf (recordOf i n .state) (state.Write ∷ state.Replay ∷ [])) (othersIn (n .me .number) (n .me .view) (recordOf i n .acks)) (its-own n i Validate v y .0) in
+      (five wins n i Validate v [] y tt, (one-in (recordOf i n .state) (state.Write ∷ state.Replay ∷ []) p, λ k a d. other k d (others-members (n .me .number) (n .me .view) (recordOf i n .acks) q k a))))
+      (λ g. back wins n i Validate v [] (g .0)
+      (and-yes _ _ (in-one (recordOf i n .state) (state.Write ∷ state.Replay ∷ []) (g .1 .0)) (members-others (n .me .number) (n .me .view) (recordOf i n .acks) (λ k a. which k (g .1 .1 k a) (ℕ-discrete k (n .me .number)))), tt))
+      (λ y. record { valid = record { nodeState = refl; nodeTS = refl; nodeLastWriter = refl; nodeLastWriteTS = refl; nodeRcvdAcks = refl; value = refl }; send = refl })
+    where
+      other : (k : ℕ) → k ≢ n .me .number → (k ≡ n .me .number) ⊎ Has (recordOf i n .acks) k → Has (recordOf i n .acks) k
+      other k d (inl e) = absurd (d e)
+      other k d (inr h) = h
+
+      which : (k : ℕ) → (k ≢ n .me .number → Has (recordOf i n .acks) k) → Dec (k ≡ n .me .number) → (k ≡ n .me .number) ⊎ Has (recordOf i n .acks) k
+      which k f (yes e) = inl e
+      which k f (no d) = inr (f d)
+
+  follows-resend : Follows wins n i Resend v (fiveAnd n i []) (ResendGuard (n .me)) (Resent (n .me) i)
+  follows-resend = follows wins n i Resend v (fiveAnd n i []) (ResendGuard (n .me)) (Resent (n .me) i)
+      (λ y. (five wins n i Resend v [] y tt, to (either writes holds (its-own n i Resend v y .0))))
+      (λ g. back wins n i Resend v [] (g .0) (from (g .1), tt))
+      (λ y. record { unchanged = refl; writing = writing; settled = λ e. ap sends e })
+    where
+      writes : Bool
+      writes = oneOf (recordOf i n .state) (state.Write ∷ state.Replay ∷ [])
+
+      holds : Bool
+      holds = oneOf (recordOf i n .state) (state.Valid ∷ []) && eqb (recordOf i n .writer) (n .me .number)
+
+      to : (writes ≡ true) ⊎ (holds ≡ true) → ResendGuard (n .me) (varsOf i n)
+      to (inl h) = inl (one-in (recordOf i n .state) (state.Write ∷ state.Replay ∷ []) h)
+      to (inr h) =
+          let (p, q) = both (oneOf (recordOf i n .state) (state.Valid ∷ [])) (eqb (recordOf i n .writer) (n .me .number)) h in
+          inr (is-state (recordOf i n .state) state.Valid p, eqb-true _ _ q)
+
+      from : ResendGuard (n .me) (varsOf i n) → (writes || holds) ≡ true
+      from (inl h) = rw (in-one (recordOf i n .state) (state.Write ∷ state.Replay ∷ []) h)
+      from (inr (p, q)) = rw (state-is (recordOf i n .state) state.Valid p, eq-eqb (recordOf i n .writer) (n .me .number) q) (or-true writes)
+
+      sends : State → Sending
+      sends s = record { message = resent (n .me) i s (recordOf i n .timestamp); body = leavingSlot (resent (n .me) i s (recordOf i n .timestamp)) (recordOf i n) (slot i (n .store)) }
+
+      writing : In (recordOf i n .state) (state.Write ∷ state.Replay ∷ []) → sends (recordOf i n .state) ≡ sendInv (n .me) i (seen (recordOf i n) (slot i (n .store)))
+      writing (inl e) = ap sends e
+      writing (inr (inl e)) = ap sends e
+      writing (inr (inr e)) = absurd e
+
+-- ---- deliveries
+
+inv-does : (wins : ℕ → ℕ → Bool) (me : Replica) (i : ℕ) (r : Record) (b : List ℕ) (t : Timestamp) (sender : ℕ) (v : List ℕ) (g : Bool) → later wins t (r .timestamp) ≡ g
+    → HRcvInv wins me i sender t v (seen r b) (stepVars (invStep g me i r t sender v) b) (stepSends (invStep g me i r t sender v) b)
+inv-does wins me i r b t sender v true g = record {
+  send = refl;
+  greater = λ h. record { nodeTS = refl; nodeLastWriter = refl; follower = follower (r .state); coordinator = coordinator (r .state); value = take-padded v; nodeLastWriteTS = refl; nodeRcvdAcks = refl };
+  otherwise = λ h. absurd (h (later-greater wins t (r .timestamp) g));
+}
+inv-does wins me i r b t sender v false g = record {
+  send = refl;
+  greater = λ h. absurd (false≢true (sym g ∙ greater-later wins t (r .timestamp) h));
+  otherwise = λ h. refl;
+}
+
+module _ (wins : ℕ → ℕ → Bool) (n : Node) (i sender epoch : ℕ) (t : Timestamp) (v : List ℕ) where
+  -- question 11 in its two parts
+  eleven : (has (n .me .view) sender && not (eqb sender (n .me .number))) ≡ true → (has (n .me .view) sender ≡ true) × (sender ≢ n .me .number)
+  eleven h = let (p, q) = both (has (n .me .view) sender) (not (eqb sender (n .me .number))) h in (p, eqb-false sender (n .me .number) (not-true _ q))
+
+  both-eleven : has (n .me .view) sender ≡ true → sender ≢ n .me .number → (has (n .me .view) sender && not (eqb sender (n .me .number))) ≡ true
+  both-eleven p d = rw (p, ne-eqb sender (n .me .number) d)
+
+  abbrev more : Message → List Question
+  more m = question10 (n .me) (message sender epoch m) ∷ ask 11 (has (n .me .view) sender) ∷ question12 (message sender epoch m) (length v) ∷ []
+
+  -- the delivery's own questions in the order of document 01, with question 11 split
+  split : (m : Message) → AllYes (questionsOf n i (Deliver (message sender epoch m)) v) → AllYes (delivered n i (message sender epoch m) v) × (sender ≢ n .me .number)
+  split m y =
+      let o = its-own n i (Deliver (message sender epoch m)) v y in
+      let (p, d) = eleven (o .1 .0) in
+      (five wins n i (Deliver (message sender epoch m)) v (more m) y (o .0, (p, (o .1 .1 .0, tt))), d)
+
+  follows-inv : Follows wins n i (Deliver (message sender epoch (Inv t))) v (delivered n i (message sender epoch (Inv t)) v) (λ s. HRcvInvGuard (n .me) sender) (HRcvInv wins (n .me) i sender t v)
+  follows-inv = follows wins n i (Deliver (message sender epoch (Inv t))) v (delivered n i (message sender epoch (Inv t)) v) (λ s. HRcvInvGuard (n .me) sender) (HRcvInv wins (n .me) i sender t v)
+      (λ y. split (Inv t) y)
+      (λ g. back wins n i (Deliver (message sender epoch (Inv t))) v (more (Inv t)) (g .0) (g .0 .1 .1 .1 .1 .1 .0, (both-eleven (g .0 .1 .1 .1 .1 .1 .1 .0) (g .1), (g .0 .1 .1 .1 .1 .1 .1 .1 .0, tt))))
+      (λ y. inv-does wins (n .me) i (recordOf i n) (slot i (n .store)) t sender v (later wins t (recordOf i n .timestamp)) refl)
+
+  follows-ack : Follows wins n i (Deliver (message sender epoch (Ack t))) v (delivered n i (message sender epoch (Ack t)) v) (HRcvAckGuard (n .me) sender t) (source.HRcvAck sender)
+  follows-ack = follows wins n i (Deliver (message sender epoch (Ack t))) v (delivered n i (message sender epoch (Ack t)) v) (HRcvAckGuard (n .me) sender t) (source.HRcvAck sender)
+      (λ y. let (f, d) = split (Ack t) y in
+      let (a, c) = both (waits && same) fresh (its-own n i (Deliver (message sender epoch (Ack t))) v y .1 .1 .1 .0) in
+      let (p, q) = both waits same a in
+      (f, (d, not-true _ c, same-ts t (recordOf i n .written) q, one-in (recordOf i n .state) (state.Write ∷ state.InvalidWrite ∷ state.Replay ∷ []) p)))
+      (λ g. back wins n i (Deliver (message sender epoch (Ack t))) v (more (Ack t)) (g .0) (
+        g .0 .1 .1 .1 .1 .1 .0,
+        (
+          both-eleven (g .0 .1 .1 .1 .1 .1 .1 .0) (g .1 .0),
+          (
+            g .0 .1 .1 .1 .1 .1 .1 .1 .0,
+            (and-yes (waits && same) fresh (and-yes waits same (in-one (recordOf i n .state) (state.Write ∷ state.InvalidWrite ∷ state.Replay ∷ []) (g .1 .3)) (ts-same t (recordOf i n .written) (g .1 .2))) (ap not (g .1 .1)), tt),
+          ),
+        ),
+      ))
+      (λ y. record {
+        nodeRcvdAcks = λ m. (with-members (recordOf i n .acks) sender m, members-with (recordOf i n .acks) sender m (has-small (n .me .view) sender (split (Ack t) y .0 .1 .1 .1 .1 .1 .1 .0)));
+        nodeLastWriter = refl;
+        nodeLastWriteTS = refl;
+        nodeTS = refl;
+        nodeState = refl;
+        value = refl;
+        send = refl;
+      })
+    where
+      waits : Bool
+      waits = oneOf (recordOf i n .state) (state.Write ∷ state.InvalidWrite ∷ state.Replay ∷ [])
+
+      same : Bool
+      same = sameTimestamp t (recordOf i n .written)
+
+      fresh : Bool
+      fresh = not (has (recordOf i n .acks) sender)
+
+  valOwn : List Question
+  valOwn = question10 (n .me) (message sender epoch (Val t)) ∷ question11 (n .me) (message sender epoch (Val t)) ∷ question12 (message sender epoch (Val t)) (length v) ∷ []
+
+  follows-val : Follows wins n i (Deliver (message sender epoch (Val t))) v (fiveAnd n i valOwn) (HRcvValGuard t) source.HRcvVal
+  unfolding valOwn
+  follows-val = follows wins n i (Deliver (message sender epoch (Val t))) v (fiveAnd n i valOwn) (HRcvValGuard t) source.HRcvVal
+      (λ y. let o = its-own n i (Deliver (message sender epoch (Val t))) v y in
+      let (p, q) = both (not valid) same (o .1 .1 .1 .0) in (
+        five wins n i (Deliver (message sender epoch (Val t))) v valOwn y (o .0, (o .1 .0, (o .1 .1 .0, tt))),
+        (λ e. false≢true (sym (not-true valid p) ∙ state-is (recordOf i n .state) state.Valid e), same-ts t (recordOf i n .timestamp) q),
+      ))
+      (λ g. back wins n i (Deliver (message sender epoch (Val t))) v valOwn (g .0) (
+        g .0 .1 .1 .1 .1 .1 .0,
+        (
+          g .0 .1 .1 .1 .1 .1 .1 .0,
+          (
+            g .0 .1 .1 .1 .1 .1 .1 .1 .0,
+            (and-yes (not valid) same (ap not (is-false valid (λ h. g .1 .0 (is-state (recordOf i n .state) state.Valid h)))) (ts-same t (recordOf i n .timestamp) (g .1 .1)), tt),
+          ),
+        ),
+      ))
+      (λ y. record { valid = record { nodeState = refl; nodeTS = refl; nodeLastWriter = refl; nodeLastWriteTS = refl; nodeRcvdAcks = refl; value = refl }; send = refl })
+    where
+      valid : Bool
+      valid = oneOf (recordOf i n .state) (state.Valid ∷ [])
+
+      same : Bool
+      same = sameTimestamp t (recordOf i n .timestamp)
+
+-- ---- fresh start and view
+
+start-follows : (k view : ℕ) (table : List Record) (store : List ℕ) → StartFollows k view table store
+start-follows k view table store = record { accepted = (to, from); does = λ a i h. inits (begun k view table store (newcomer k view) a) i h }
+  where
+    questions : List Question
+    questions = startQuestions (newcomer k view) (length table) (length store)
+
+    to : start k view table store .admission ≡ Admitted (newcomer k view) → AllYes questions
+    to a = begun k view table store (newcomer k view) a .asked
+
+    from : AllYes questions → start k view table store .admission ≡ Admitted (newcomer k view)
+    from y = unfold start in rw (none-says-no questions y)
+
+    inits : Begun k view table store (newcomer k view) → (i : ℕ) → i < length table
+        → HInit view (varsOf i (record { me = newcomer k view; table = start k view table store .table; store = start k view table store .store }))
+    inits b i h = rw (b .tableAfter, getD-replicate (length table) i (freshRecord (lowest view)) (freshRecord 0) h) (record {
+      nodeRcvdAcks = has-zero;
+      nodeState = refl;
+      nodeLastWriter = low;
+      version = refl;
+      tieBreaker = low;
+      lastVersion = refl;
+      lastTieBreaker = low;
+      value = refl;
+    })
+      where
+        low : source.Lowest view (lowest view)
+        low = lowest-lowest view k (b .asked .1 .1 .0)
+
+view-follows : (n : Node) (epoch alive : ℕ) → ViewFollows n epoch alive
+unfolding viewed view
+view-follows n epoch alive = record { accepted = (to (firstNo questions) refl, from); does = view-frame n epoch alive .accepted; refused = view-frame n epoch alive .refused }
+  where
+    questions : List Question
+    questions = viewQuestions (n .me) epoch alive
+
+    next : Replica
+    next = record { number = n .me .number; epoch = epoch; view = alive }
+
+    guard : AllYes questions → NodeFailureGuard (n .me) epoch alive
+    guard y =
+        let (p, q) = both (within alive (n .me .view)) (leb 2 (size alive)) (y .1 .1 .1 .0) in
+        let w : Two 16 (has alive) = size-two alive q in
+        record { later = ltb-true (n .me .epoch) epoch (y .1 .1 .0); fewer = within-members alive (n .me .view) p; one = w .one; two = w .two; apart = w .apart; oneStays = w .onePasses; twoStays = w .twoPasses }
+
+    to : (k : ℕ) → firstNo questions ≡ k → numberOf (answerOf (admissionNumber (admissionOf k next)) None) ≡ 0
+        → AllYes (question1 (n .me) ∷ question3 (n .me) ∷ []) × NodeFailureGuard (n .me) epoch alive
+    to zero z a = let y : AllYes questions = all-yes questions refl z in ((y .0, (y .1 .0, tt)), guard y)
+    to (suc k) z a = absurd (omega arith)
+
+    from : AllYes (question1 (n .me) ∷ question3 (n .me) ∷ []) × NodeFailureGuard (n .me) epoch alive
+        → numberOf (answerOf (admissionNumber (admissionOf (firstNo questions) next)) None) ≡ 0
+    from (y, g) = rw (none-says-no questions (y .0, (y .1 .0, (lt-ltb (n .me .epoch) epoch (g .later), (and-yes _ _ (members-within alive (n .me .view) (g .fewer)) (two-size alive (g .one) (g .two) (g .apart) (g .oneStays) (g .twoStays)), tt)))))
+
+-- ---- the theorems
+
+pub conformance-by : (wins : ℕ → ℕ → Bool) → Demand2By wins
+unfolding valOwn
+conformance-by wins = record {
+  start = start-follows;
+  read = follows-read wins;
+  write = follows-write wins;
+  replay = follows-replay wins;
+  inv = follows-inv wins;
+  ack = follows-ack wins;
+  val = follows-val wins;
+  validate = follows-validate wins;
+  resend = follows-resend wins;
+  view = view-follows;
+}
+
+-- demand 2
+pub conformance : Demand2
+conformance = conformance-by higher

@@ -1,0 +1,88 @@
+-- Replicas that are equal in what document 01 names answer an event alike. The idea: the number and the step depend on nothing else, and a
+-- value that leaves lies within its record's 192 bytes.
+use Prim.Native.Nat.{ℕ, zero, suc, _≤_}
+use mathlib.Core.Path.{_≡_, refl, sym, ap, ap₂, _∙_}
+use mathlib.Core.Bool.{Bool}
+use mathlib.Core.List.{List, []}
+use native.Mathlib.Omega.{arith}
+use lib.ListN.{length, take}
+use Rattle.hermes.specs.declared.record.Record.{Record}
+use Rattle.hermes.specs.declared.message.Outgoing.{Outgoing}
+use Rattle.hermes.specs.declared.message.Outgoing.the-variants.{None, Sent}
+use Rattle.hermes.specs.declared.event.Event.{Event}
+use Rattle.hermes.specs.declared.event.Event.the-variants.{Read}
+use Rattle.hermes.specs.declared.event.Answer.the-variants.{Accepted, Refused}
+use Rattle.hermes.specs.Store.{slot, valueAt}
+use Rattle.hermes.specs.Event.{Step, refusal, step, partOf, readPart, bodyOf, leavingBody}
+use Rattle.hermes.specs.Node.{Node, Outcome, recordOf, apply}
+use Rattle.hermes.specs.Frame.{bytesAfter, Changed}
+use Rattle.hermes.specs.Locality.{EqualAt, AnswersAlike, Locality, ReadLocality}
+use Rattle.hermes.proofs.Store.{value-slot}
+use Rattle.hermes.specs.Guards.{AllYes}
+use Rattle.hermes.proofs.Guards.{event-passed}
+use Rattle.hermes.proofs.Steps.{About, step-about}
+use Rattle.hermes.proofs.Apply.{passed-zero, refusalOf, questionsOf, stepOf, done, Applied, refused, accepted, applied, sound-step}
+
+-- the bytes that leave, taken from the record's 192
+abbrev pub leavingSlot : Outgoing → Record → List ℕ → List ℕ
+leavingSlot None r b = []
+leavingSlot (Sent m h) r b = bodyOf m (take (r .len) b)
+
+pub leaving-slot : (i : ℕ) (o : Outgoing) → About i o → (r : Record) (s : List ℕ) → r .len ≤ 192 → leavingBody o r s ≡ leavingSlot o r (slot i s)
+leaving-slot i None a r s h = refl
+leaving-slot i (Sent m d) a r s h = ap (bodyOf m) (ap (λ (j : ℕ). valueAt j (r .len) s) a ∙ value-slot i (r .len) s h)
+
+module _ (wins : ℕ → ℕ → Bool) (i : ℕ) (n m : Node) (q : EqualAt i n m) (e : Event) (v : List ℕ) where
+  same-refusal : refusalOf n i e v ≡ refusalOf m i e v
+  same-refusal = λ t. refusal (q .identity t) (q .count t) (q .room t) i (q .here t) e (length v)
+
+  same-step : stepOf wins n i e v ≡ stepOf wins m i e v
+  same-step = λ t. step wins (q .identity t) i (q .here t) e v
+
+  both-done : Changed i (stepOf wins n i e v) n (done n i (stepOf wins n i e v)) → Changed i (stepOf wins m i e v) m (done m i (stepOf wins m i e v))
+      → EqualAt i (done n i (stepOf wins n i e v)) (done m i (stepOf wins m i e v))
+  both-done c d = record {
+    identity = q .identity;
+    count = c .count ∙ q .count ∙ sym (d .count);
+    room = c .room ∙ q .room ∙ sym (d .room);
+    here = c .here ∙ ap (λ (s : Step). s .after) same-step ∙ sym (d .here);
+    bytes = c .bytes ∙ (λ t. bytesAfter (same-step t .stored) (q .bytes t)) ∙ sym (d .bytes);
+  }
+
+pub locality : (wins : ℕ → ℕ → Bool) → Locality wins
+locality wins i n m q e v = go (apply wins n i e v) (applied wins n i e v) (apply wins m i e v) (applied wins m i e v)
+  where
+    go : (o : Outcome) → Applied wins n i e v o → (p : Outcome) → Applied wins m i e v p → AnswersAlike i o p
+    go o (refused k z a) p (refused k′ z′ b) = rw (a, b) (record { answer = ap Refused (sym z ∙ same-refusal wins i n m q e v ∙ z′); leaves = refl; after = q })
+    go o (refused k z a) p (accepted y d b) = absurd (omega (arith, z, same-refusal wins i n m q e v, passed-zero m i e v y))
+    go o (accepted y c a) p (refused k z b) = absurd (omega (arith, z, same-refusal wins i n m q e v, passed-zero n i e v y))
+    go o (accepted y c a) p (accepted y′ d b) = rw (a, b) (record { answer = ap (λ (s : Step). Accepted (s .sent)) same; leaves = leaves; after = after })
+      where
+        same : stepOf wins n i e v ≡ stepOf wins m i e v
+        same = same-step wins i n m q e v
+
+        after : EqualAt i (done n i (stepOf wins n i e v)) (done m i (stepOf wins m i e v))
+        after = both-done wins i n m q e v c d
+
+        left : (x : Node) → AllYes (questionsOf x i e v) → Changed i (stepOf wins x i e v) x (done x i (stepOf wins x i e v))
+            → leavingBody (stepOf wins x i e v .sent) (recordOf i (done x i (stepOf wins x i e v))) (done x i (stepOf wins x i e v) .store)
+            ≡ leavingSlot (stepOf wins x i e v .sent) (recordOf i (done x i (stepOf wins x i e v))) (slot i (done x i (stepOf wins x i e v) .store))
+        left x y c = leaving-slot i (stepOf wins x i e v .sent) (step-about wins (x .me) i (recordOf i x) e v) _ _ (rw (c .here) (sound-step wins x i e v y .after .short))
+
+        leaves : leavingBody (stepOf wins n i e v .sent) (recordOf i (done n i (stepOf wins n i e v))) (done n i (stepOf wins n i e v) .store)
+            ≡ leavingBody (stepOf wins m i e v .sent) (recordOf i (done m i (stepOf wins m i e v))) (done m i (stepOf wins m i e v) .store)
+        leaves = left n y c ∙ (λ t. leavingSlot (same t .sent) (after .here t) (after .bytes t)) ∙ sym (left m y′ d)
+
+pub read-locality : ReadLocality
+unfolding readPart
+read-locality i n m q = go (refusalOf n i Read []) refl
+  where
+    value : (x : Node) → refusalOf x i Read [] ≡ 0 → valueAt i (recordOf i x .len) (x .store) ≡ take (recordOf i x .len) (slot i (x .store))
+    value x z = value-slot i (recordOf i x .len) (x .store) (event-passed (x .me) (length (x .table)) (length (x .store)) i (recordOf i x) Read 0 z .sound .short)
+
+    same : refusalOf n i Read [] ≡ refusalOf m i Read []
+    same = λ t. refusal (q .identity t) (q .count t) (q .room t) i (q .here t) Read 0
+
+    go : (k : ℕ) → refusalOf n i Read [] ≡ k → partOf (refusalOf n i Read []) (valueAt i (recordOf i n .len) (n .store)) ≡ partOf (refusalOf m i Read []) (valueAt i (recordOf i m .len) (m .store))
+    go zero z = ap₂ partOf same (value n z ∙ (λ t. take (q .here t .len) (q .bytes t)) ∙ sym (value m (sym same ∙ z)))
+    go (suc k) z = rw (z, sym same ∙ z)

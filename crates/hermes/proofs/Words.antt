@@ -1,0 +1,145 @@
+-- The tests of the questions and the words of the source say the same: states, timestamps, and "at least two laptops".
+use Prim.Native.Nat.{ℕ, zero, suc, _+_, _≤_, _<_}
+use mathlib.Core.Path.{_≡_, refl, sym, ap, _∙_}
+use mathlib.Core.Bool.{Bool, true, false, cond, _&&_, false≢true}
+use mathlib.Core.Logic.{_⊎_, inl, inr, _≢_}
+use mathlib.Core.List.{List, [], _∷_}
+use native.Mathlib.Omega.{arith}
+use native.Mathlib.Decide.{ℕ-discrete}
+use lib.Dec.{ltb, leb, eqb}
+use borrow.Author.Tests.{ltb-true, leb-true, eqb-true, lt-ltb, le-leb, eq-eqb}
+use Rattle.hermes.specs.declared.timestamp.Timestamp.{Timestamp}
+use Rattle.hermes.specs.declared.record.State.{State}
+use Rattle.hermes.specs.declared.record.State.the-variants.{Valid, Invalid, InvalidWrite, Write, Replay}
+use Rattle.hermes.specs.Members.{has, countBelow, size}
+use Rattle.hermes.specs.Order.{later, sameTimestamp}
+use Rattle.hermes.specs.Record.{code, oneOf}
+use Rattle.hermes.specs.Source.{In, equalTS, greaterTS}
+use Rattle.hermes.proofs.Tests.{both, either, or-true}
+use Rattle.hermes.proofs.Members.{Has, has-small}
+use Rattle.hermes.proofs.Order.{timestamp-path, same-equal, equal-same}
+
+-- ---- states
+
+coded : ℕ → State
+coded zero = Valid
+coded (suc zero) = Invalid
+coded (suc (suc zero)) = InvalidWrite
+coded (suc (suc (suc zero))) = Write
+coded (suc (suc (suc (suc k)))) = Replay
+
+coded-code : (s : State) → s ≡ coded (code s)
+unfolding coded
+coded-code Valid = refl
+coded-code Invalid = refl
+coded-code InvalidWrite = refl
+coded-code Write = refl
+coded-code Replay = refl
+
+pub one-in : (s : State) (ts : List State) → oneOf s ts ≡ true → In s ts
+one-in s [] h = absurd (false≢true h)
+one-in s (t ∷ ts) h = go (either (eqb (code s) (code t)) (oneOf s ts) h) (one-in s ts)
+  where
+    go : (eqb (code s) (code t) ≡ true) ⊎ (oneOf s ts ≡ true) → (oneOf s ts ≡ true → In s ts) → (s ≡ t) ⊎ In s ts
+    go (inl e) rest = inl (coded-code s ∙ ap coded (eqb-true (code s) (code t) e) ∙ sym (coded-code t))
+    go (inr e) rest = inr (rest e)
+
+pub in-one : (s : State) (ts : List State) → In s ts → oneOf s ts ≡ true
+in-one s [] h = absurd h
+in-one s (t ∷ ts) (inl e) = rw (eq-eqb (code s) (code t) (ap code e))
+in-one s (t ∷ ts) (inr h) = rw (in-one s ts h) (or-true (eqb (code s) (code t)))
+
+-- one state
+pub is-state : (s t : State) → oneOf s (t ∷ []) ≡ true → s ≡ t
+is-state s t h = go (one-in s (t ∷ []) h)
+  where
+    go : (s ≡ t) ⊎ ⊥ → s ≡ t
+    go (inl e) = e
+    go (inr e) = absurd e
+
+pub state-is : (s t : State) → s ≡ t → oneOf s (t ∷ []) ≡ true
+state-is s t e = in-one s (t ∷ []) (inl e)
+
+-- ---- timestamps
+
+pub same-ts : (s t : Timestamp) → sameTimestamp s t ≡ true → equalTS s t
+same-ts s t h = (ap (λ (x : Timestamp). x .version) (same-equal s t h), ap (λ (x : Timestamp). x .tie) (same-equal s t h))
+
+pub ts-same : (s t : Timestamp) → equalTS s t → sameTimestamp s t ≡ true
+ts-same s t (p, q) = equal-same s t (timestamp-path p q)
+
+pub later-greater : (wins : ℕ → ℕ → Bool) (s t : Timestamp) → later wins s t ≡ true → greaterTS wins s t
+unfolding later
+later-greater wins s t h = go (either _ _ h)
+  where
+    go : (ltb (t .version) (s .version) ≡ true) ⊎ ((eqb (s .version) (t .version) && wins (s .tie) (t .tie)) ≡ true) → greaterTS wins s t
+    go (inl e) = inl (ltb-true _ _ e)
+    go (inr e) = let (p, q) = both _ _ e in inr (eqb-true _ _ p, q)
+
+pub greater-later : (wins : ℕ → ℕ → Bool) (s t : Timestamp) → greaterTS wins s t → later wins s t ≡ true
+unfolding later
+greater-later wins s t (inl l) = rw (lt-ltb (t .version) (s .version) l)
+greater-later wins s t (inr (p, q)) = rw (eq-eqb (s .version) (t .version) p, q) (or-true (ltb (t .version) (s .version)))
+
+-- ---- at least two
+
+-- some number below k passes the test, and two do
+pub record One (k : ℕ) (p : ℕ → Bool) : Type 0 where
+  pub one : ℕ
+  pub below : one < k
+  pub passes : p one ≡ true
+
+pub record Two (k : ℕ) (p : ℕ → Bool) : Type 0 where
+  pub one : ℕ
+  pub two : ℕ
+  pub apart : one ≢ two
+  pub oneBelow : one < k
+  pub twoBelow : two < k
+  pub onePasses : p one ≡ true
+  pub twoPasses : p two ≡ true
+
+count-one : (k : ℕ) (p : ℕ → Bool) → 1 ≤ countBelow k p → One k p
+count-one zero p h = absurd (omega arith)
+count-one (suc k) p h = go (p k) refl h (count-one k p)
+  where
+    go : (b : Bool) → p k ≡ b → 1 ≤ cond b 1 0 + countBelow k p → (1 ≤ countBelow k p → One k p) → One (suc k) p
+    go true e h rest = record { one = k; below = omega arith; passes = e }
+    go false e h rest = let r : One k p = rest (omega arith) in record { one = r .one; below = omega (arith, r .below); passes = r .passes }
+
+count-two : (k : ℕ) (p : ℕ → Bool) → 2 ≤ countBelow k p → Two k p
+count-two zero p h = absurd (omega arith)
+count-two (suc k) p h = go (p k) refl h (count-two k p)
+  where
+    go : (b : Bool) → p k ≡ b → 2 ≤ cond b 1 0 + countBelow k p → (2 ≤ countBelow k p → Two k p) → Two (suc k) p
+    go true e h rest =
+        let r : One k p = count-one k p (omega arith) in
+        record { one = k; two = r .one; apart = omega (arith, r .below); oneBelow = omega arith; twoBelow = omega (arith, r .below); onePasses = e; twoPasses = r .passes }
+    go false e h rest =
+        let r : Two k p = rest (omega arith) in
+        record { one = r .one; two = r .two; apart = r .apart; oneBelow = omega (arith, r .oneBelow); twoBelow = omega (arith, r .twoBelow); onePasses = r .onePasses; twoPasses = r .twoPasses }
+
+one-counts : (k : ℕ) (p : ℕ → Bool) (a : ℕ) → a < k → p a ≡ true → 1 ≤ countBelow k p
+one-counts zero p a l h = absurd (omega arith)
+one-counts (suc k) p a l h = go (ℕ-discrete a k) (λ (t : a < k). one-counts k p a t h)
+  where
+    go : Dec (a ≡ k) → (a < k → 1 ≤ countBelow k p) → 1 ≤ cond (p k) 1 0 + countBelow k p
+    go (yes e) rest = rw (← e, h) (omega arith)
+    go (no d) rest = omega (arith, rest (omega arith))
+
+two-count : (k : ℕ) (p : ℕ → Bool) (a b : ℕ) → a ≢ b → a < k → b < k → p a ≡ true → p b ≡ true → 2 ≤ countBelow k p
+two-count zero p a b d la lb ha hb = absurd (omega arith)
+two-count (suc k) p a b d la lb ha hb = go (ℕ-discrete a k) (ℕ-discrete b k) (λ (s : a < k) (t : b < k). two-count k p a b d s t ha hb)
+  where
+    go : Dec (a ≡ k) → Dec (b ≡ k) → (a < k → b < k → 2 ≤ countBelow k p) → 2 ≤ cond (p k) 1 0 + countBelow k p
+    go (yes e) (yes f) rest = absurd (d (e ∙ sym f))
+    go (yes e) (no f) rest = rw (ap p (sym e) ∙ ha) (omega (arith, one-counts k p b (omega arith) hb))
+    go (no e) (yes f) rest = rw (ap p (sym f) ∙ hb) (omega (arith, one-counts k p a (omega arith) ha))
+    go (no e) (no f) rest = omega (arith, rest (omega arith) (omega arith))
+
+pub size-two : (s : ℕ) → leb 2 (size s) ≡ true → Two 16 (has s)
+unfolding size
+size-two s h = count-two 16 (has s) (leb-true 2 (countBelow 16 (has s)) h)
+
+pub two-size : (s a b : ℕ) → a ≢ b → Has s a → Has s b → leb 2 (size s) ≡ true
+unfolding size
+two-size s a b d ha hb = le-leb 2 (countBelow 16 (has s)) (two-count 16 (has s) a b d (has-small s a ha) (has-small s b hb) ha hb)

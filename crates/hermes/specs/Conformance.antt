@@ -1,0 +1,91 @@
+-- Demand 2: each event is accepted exactly when document 01's own questions say yes and the source's guard holds; accepted, it does the
+-- source's action; refused, nothing moves and nothing leaves.
+use Prim.Native.Nat.{ℕ, _<_}
+use mathlib.Core.Path.{_≡_}
+use mathlib.Core.Bool.{Bool}
+use mathlib.Core.Logic.{_≢_, _↔_}
+use mathlib.Core.List.{List, [], _∷_}
+use lib.ListN.{length}
+use Rattle.hermes.specs.declared.timestamp.Timestamp.{Timestamp}
+use Rattle.hermes.specs.declared.record.Record.{Record}
+use Rattle.hermes.specs.declared.message.Message.{Message}
+use Rattle.hermes.specs.declared.message.Message.the-variants.{Inv, Ack, Val}
+use Rattle.hermes.specs.declared.message.Outgoing.the-variants.{None}
+use Rattle.hermes.specs.declared.message.Received.{Received}
+use Rattle.hermes.specs.declared.event.Event.{Event}
+use Rattle.hermes.specs.declared.event.Event.the-variants.{Read, Write, Replay, Deliver, Validate, Resend}
+use Rattle.hermes.specs.declared.event.Admission.the-variants.{Admitted}
+use Rattle.hermes.specs.Members.{has}
+use Rattle.hermes.specs.Order.{higher}
+use Rattle.hermes.specs.Guards.{Question, AllYes, ask, question1, question2, question3, question4, question5, question8, question10, question11, question12}
+use Rattle.hermes.specs.Event.{numberOf, sentBy}
+use Rattle.hermes.specs.Node.{Node, recordOf, valueOf, apply, viewed, newcomer, start}
+use Rattle.hermes.specs.Locality.{body}
+use Rattle.hermes.specs.Source.{Vars, Sending, HInit, HReadGuard, HRead, HWriteGuard, HWrite, HReplayWriteGuard, HReplayWrite, HRcvInvGuard, HRcvInv, HRcvAckGuard, HRcvAck, HRcvValGuard, HRcvVal, HSendValsGuard, HSendVals, NodeFailureGuard, ResendGuard, Resent}
+
+-- the source's variables of record i
+abbrev pub varsOf : ℕ → Node → Vars
+varsOf i n = record {
+  nodeTS = recordOf i n .timestamp;
+  nodeState = recordOf i n .state;
+  nodeRcvdAcks = recordOf i n .acks;
+  nodeLastWriter = recordOf i n .writer;
+  nodeLastWriteTS = recordOf i n .written;
+  value = valueOf i n;
+}
+
+-- questions 1 to 5, which are document 01's own, with more of them
+abbrev pub fiveAnd : Node → ℕ → List Question → List Question
+fiveAnd n i more =
+    question1 (n .me) ∷ question2 (length (n .table)) (length (n .store)) ∷ question3 (n .me) ∷ question4 i (length (n .table)) ∷ question5 (n .me) (recordOf i n) ∷ more
+
+-- of a delivery's: 10, and of 11 that the sender is in the view, and 12 (10 and this part of 11 are in 004's guards)
+abbrev pub delivered : Node → ℕ → Received → List ℕ → List Question
+delivered n i m v = fiveAnd n i (question10 (n .me) m ∷ ask 11 (has (n .me .view) (m .sender)) ∷ question12 m (length v) ∷ [])
+
+abbrev pub message : ℕ → ℕ → Message → Received
+message sender epoch m = record { sender = sender; epoch = epoch; message = m }
+
+-- a view: 1 and 3 are document 01's own
+pub record ViewFollows (n : Node) (epoch alive : ℕ) : Type 0 where
+  pub accepted : (numberOf (viewed n epoch alive .answer) ≡ 0) ↔ (AllYes (question1 (n .me) ∷ question3 (n .me) ∷ []) × NodeFailureGuard (n .me) epoch alive)
+  -- aliveNodes and the epoch are replaced, the rest is UNCHANGED
+  pub does : numberOf (viewed n epoch alive .answer) ≡ 0
+      → viewed n epoch alive .node ≡ record { me = record { number = n .me .number; epoch = epoch; view = alive }; table = n .table; store = n .store }
+  pub refused : numberOf (viewed n epoch alive .answer) ≢ 0 → viewed n epoch alive .node ≡ n
+
+-- a fresh start: 1, 2 and 3 are document 01's own, and every record is as HInit says
+pub record StartFollows (k view : ℕ) (table : List Record) (store : List ℕ) : Type 0 where
+  pub accepted : (start k view table store .admission ≡ Admitted (newcomer k view))
+      ↔ AllYes (question1 (newcomer k view) ∷ question2 (length table) (length store) ∷ question3 (newcomer k view) ∷ [])
+  pub does : start k view table store .admission ≡ Admitted (newcomer k view) → (i : ℕ) → i < length table
+      → HInit view (varsOf i (record { me = newcomer k view; table = start k view table store .table; store = start k view table store .store }))
+
+module _ (wins : ℕ → ℕ → Bool) where
+  pub record Follows (n : Node) (i : ℕ) (e : Event) (v : List ℕ) (own : List Question) (guard : Vars → Type 0) (action : Vars → Vars → Sending → Type 0) : Type 0 where
+    pub accepted : (numberOf (apply wins n i e v .answer) ≡ 0) ↔ (AllYes own × guard (varsOf i n))
+    pub does : numberOf (apply wins n i e v .answer) ≡ 0
+        → action (varsOf i n) (varsOf i (apply wins n i e v .node)) (record { message = sentBy (apply wins n i e v .answer); body = body i (apply wins n i e v) })
+    pub refused : numberOf (apply wins n i e v .answer) ≢ 0 → (apply wins n i e v .node ≡ n) × (sentBy (apply wins n i e v .answer) ≡ None)
+
+  pub record Demand2By : Type 0 where
+    pub start : (k view : ℕ) (table : List Record) (store : List ℕ) → StartFollows k view table store
+    pub read : (n : Node) (i : ℕ) (v : List ℕ) → Follows n i Read v (fiveAnd n i []) HReadGuard HRead
+    pub write : (n : Node) (i : ℕ) (v : List ℕ) → Follows n i Write v (fiveAnd n i (question8 (length v) ∷ [])) HWriteGuard (HWrite (n .me) i v)
+    pub replay : (n : Node) (i : ℕ) (v : List ℕ) → Follows n i Replay v (fiveAnd n i []) (HReplayWriteGuard (n .me)) (HReplayWrite (n .me) i)
+    pub inv : (n : Node) (i sender epoch : ℕ) (t : Timestamp) (v : List ℕ)
+        → Follows n i (Deliver (message sender epoch (Inv t))) v (delivered n i (message sender epoch (Inv t)) v) (λ s. HRcvInvGuard (n .me) sender) (HRcvInv wins (n .me) i sender t v)
+    pub ack : (n : Node) (i sender epoch : ℕ) (t : Timestamp) (v : List ℕ)
+        → Follows n i (Deliver (message sender epoch (Ack t))) v (delivered n i (message sender epoch (Ack t)) v) (HRcvAckGuard (n .me) sender t) (HRcvAck sender)
+    -- a VAL of the source has no sender, so all of 11 is document 01's own
+    pub val : (n : Node) (i sender epoch : ℕ) (t : Timestamp) (v : List ℕ)
+        → Follows n i (Deliver (message sender epoch (Val t))) v
+        (fiveAnd n i (question10 (n .me) (message sender epoch (Val t)) ∷ question11 (n .me) (message sender epoch (Val t)) ∷ question12 (message sender epoch (Val t)) (length v) ∷ []))
+        (HRcvValGuard t) HRcvVal
+    pub validate : (n : Node) (i : ℕ) (v : List ℕ) → Follows n i Validate v (fiveAnd n i []) (HSendValsGuard (n .me)) (HSendVals (n .me) i)
+    pub resend : (n : Node) (i : ℕ) (v : List ℕ) → Follows n i Resend v (fiveAnd n i []) (ResendGuard (n .me)) (Resent (n .me) i)
+    pub view : (n : Node) (epoch alive : ℕ) → ViewFollows n epoch alive
+
+-- demand 2, with document 01's order of ties; `proofs/Conformance` proves it
+abbrev pub Demand2 : Type 0
+Demand2 = Demand2By higher

@@ -1,0 +1,36 @@
+-- 01: "Two laptops equal in number, epoch, view, count, store length and one record with its 192 store bytes answer an event on that
+-- record alike, however their other records differ."
+use Prim.Native.Nat.{ℕ}
+use mathlib.Core.Path.{_≡_}
+use mathlib.Core.Bool.{Bool}
+use mathlib.Core.List.{List}
+use lib.ListN.{length}
+use Rattle.hermes.specs.declared.event.Event.{Event}
+use Rattle.hermes.specs.Store.{slot}
+use Rattle.hermes.specs.Event.{sentBy, leavingBody}
+use Rattle.hermes.specs.Node.{Node, Outcome, recordOf, apply, read}
+
+pub record EqualAt (i : ℕ) (n m : Node) : Type 0 where
+  -- number, epoch and view
+  pub identity : n .me ≡ m .me
+  pub count : length (n .table) ≡ length (m .table)
+  pub room : length (n .store) ≡ length (m .store)
+  pub here : recordOf i n ≡ recordOf i m
+  pub bytes : slot i (n .store) ≡ slot i (m .store)
+
+-- the bytes that leave with an outcome's message, which is about record i
+abbrev pub body : ℕ → Outcome → List ℕ
+body i o = leavingBody (sentBy (o .answer)) (recordOf i (o .node)) (o .node .store)
+
+-- two outcomes are alike: number and message, the bytes that leave, the record and its bytes after, and so all of the above once more
+pub record AnswersAlike (i : ℕ) (o p : Outcome) : Type 0 where
+  pub answer : o .answer ≡ p .answer
+  pub leaves : body i o ≡ body i p
+  pub after : EqualAt i (o .node) (p .node)
+
+abbrev pub Locality : (ℕ → ℕ → Bool) → Type 0
+Locality wins = (i : ℕ) (n m : Node) → EqualAt i n m → (e : Event) (v : List ℕ) → AnswersAlike i (apply wins n i e v) (apply wins m i e v)
+
+-- the same of the part that a read hands out
+abbrev pub ReadLocality : Type 0
+ReadLocality = (i : ℕ) (n m : Node) → EqualAt i n m → read n i ≡ read m i

@@ -1,0 +1,5 @@
+-- What is right of a packet, rule by rule of document 01, lowest first.
+pub mod Bytes
+pub mod Entry
+pub mod Reading
+pub mod Writing

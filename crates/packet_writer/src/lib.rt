@@ -1,0 +1,6 @@
+// The writer of packets. What a packet is stands in crate `packet`, and the laws of both with it.
+mod fields;
+mod output;
+mod writer;
+
+pub use writer::write;

@@ -1,0 +1,42 @@
+-- `replica::delivery::take_inv` meets its contract.
+use mathlib.Core.Path.{_∙_}
+use borrow.Author.Needs.{needs}
+use Rattle.replica.proofs.delivery.take_inv.Statement.{statement}
+use Rattle.replica.proofs.delivery.take_inv.Tie as tie
+
+send-requires : tie.Need-send-requires
+send-requires c κs = search needs
+
+later-requires : tie.Need-later-requires
+later-requires c κs = search needs
+
+place-requires : tie.Need-place-requires
+place-requires c κs = search needs
+
+cast-take-invalidation : tie.Need-cast-take-invalidation
+cast-take-invalidation c = search needs
+
+take-invalidation-requires : tie.Need-take-invalidation-requires
+take-invalidation-requires c κs = search needs
+
+same-length : tie.Need-same-length
+same-length c = search needs
+
+returns : tie.Need-returns
+returns c = (rw (c .before .before .before .before .before .before .before .send .ensures, c .take-invalidation .ensures, ← c .before .before .before .before .before .before .later .ensures, c .before .before .before .before .before .if1 .taken), c .before .before .before .place .ensures ∙ rw (← c .before .before .before .before .before .before .later .ensures, c .before .before .before .before .before .if1 .taken))
+
+returns-2 : tie.Need-returns-2
+returns-2 c = (rw (c .before .before .send .ensures, ← c .before .later .ensures, c .if1 .left), rw (← c .before .later .ensures, c .if1 .left))
+
+pub take-inv-spec : {M : Type 1} → statement M
+take-inv-spec =
+    tie.close
+    (tie.spec
+    send-requires
+    later-requires
+    place-requires
+    cast-take-invalidation
+    take-invalidation-requires
+    same-length
+    returns
+    returns-2)

@@ -1,0 +1,94 @@
+//! The events over lent memory: a table of records and a store of 192 bytes
+//! for each.
+
+use super::{Answer, Envelope, Message, Record, Refusal, Replica, Sizes, Slot};
+
+impl Replica {
+    /// A fresh start (01, "Laptop and record").
+    pub fn start(
+        number: u8,
+        view: u16,
+        table: &mut [Record],
+        store: &mut [u8],
+    ) -> Result<Replica, Refusal> {
+        let (replica, fresh) = Replica::fresh(number, view, Sizes::of(table, store))?;
+        table.fill(fresh);
+        store.fill(0);
+        Ok(replica)
+    }
+
+    /// The value as that part of the store itself. A refused read gives no
+    /// part; `unwrap_or_default` makes of it the paper's empty part.
+    pub fn read<'a>(
+        &self,
+        table: &[Record],
+        store: &'a [u8],
+        record: usize,
+    ) -> Result<&'a [u8], Refusal> {
+        self.ask_record(Sizes::of(table, store), record)?;
+        self.read_step(&table[record], slot(store, record)?)
+    }
+
+    /// A write of this value.
+    pub fn write(
+        &self,
+        table: &mut [Record],
+        store: &mut [u8],
+        record: usize,
+        value: &[u8],
+    ) -> Answer {
+        self.ask_record(Sizes::of(table, store), record)?;
+        self.write_step(&mut table[record], slot_mut(store, record)?, value)
+    }
+
+    /// A replay of an invalid record whose last writer is gone.
+    pub fn replay(&self, table: &mut [Record], store: &[u8], record: usize) -> Answer {
+        self.ask_record(Sizes::of(table, store), record)?;
+        self.replay_step(&mut table[record])
+    }
+
+    /// The delivery of a message with its body. The envelope names the record.
+    pub fn deliver(
+        &self,
+        table: &mut [Record],
+        store: &mut [u8],
+        envelope: &Envelope,
+        body: &[u8],
+    ) -> Answer {
+        let record = envelope.record;
+        self.ask_record(Sizes::of(table, store), record)?;
+        self.deliver_step(&mut table[record], slot_mut(store, record)?, envelope, body)
+    }
+
+    /// The end of a write or a replay, once all others have acknowledged it.
+    pub fn validate(&self, table: &mut [Record], store: &[u8], record: usize) -> Answer {
+        self.ask_record(Sizes::of(table, store), record)?;
+        self.validate_step(&mut table[record])
+    }
+
+    /// An INV or a VAL of this replica's, again. The record is unchanged.
+    pub fn resend(&self, table: &[Record], store: &[u8], record: usize) -> Answer {
+        self.ask_record(Sizes::of(table, store), record)?;
+        self.resend_step(&table[record])
+    }
+}
+
+/// The bytes that a leaving message takes along: the record's value for an INV,
+/// none otherwise. Decision: memory without that record gives the empty part.
+pub fn body<'a>(message: Message, table: &[Record], store: &'a [u8], record: usize) -> &'a [u8] {
+    match (message, table.get(record), slot(store, record)) {
+        (Message::Inv(_), Some(found), Ok(slot)) => found.value(slot),
+        _ => &[],
+    }
+}
+
+/// The record's 192 bytes. Questions 2 and 4 have seen to it that they are there.
+fn slot(store: &[u8], record: usize) -> Result<&Slot, Refusal> {
+    let (slots, _) = store.as_chunks();
+    slots.get(record).ok_or(Refusal::StrayRecord)
+}
+
+fn slot_mut(store: &mut [u8], record: usize) -> Result<&mut Slot, Refusal> {
+    let (slots, _) = store.as_chunks_mut();
+    slots.get_mut(record).ok_or(Refusal::StrayRecord)
+}

@@ -1,0 +1,12 @@
+//! Reference model of ring records kept by Hermes, written from document 01
+//! and the source documents alone.
+//!
+//! "01, question 13" in a comment names question 13 of document 01. Where that
+//! document is silent, the comment beginning "Decision:" says what was chosen.
+
+#![forbid(unsafe_code)]
+
+pub mod engine;
+pub mod packet;
+pub mod player;
+pub mod rng;

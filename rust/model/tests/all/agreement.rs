@@ -1,0 +1,170 @@
+//! Random runs of small groups, with loss, repetition, reordering and changes
+//! of view. Demand 3 is checked after every event.
+
+use std::collections::BTreeMap;
+
+use model::engine::{Answer, Message, Refusal, State};
+use model::rng::Rng;
+
+use crate::group::{Event, Group};
+use crate::schedule::Schedule;
+use crate::support::{ack, inv, rng, set, val};
+
+const RUNS: usize = 8000;
+const EVENTS: usize = 160;
+
+/// How often each thing came about, so that no run is empty of it.
+type Tally = BTreeMap<&'static str, u32>;
+
+/// The name under which an accepted event is tallied.
+fn name(
+    group: &Group,
+    before: &[State],
+    at: usize,
+    event: &Event,
+    answer: &Answer,
+) -> &'static str {
+    let member = &group.members[at];
+    match *event {
+        Event::Read { .. } => "read",
+        Event::Write { .. } => "write",
+        Event::Replay { .. } => "replay",
+        Event::Resend { .. } => match answer {
+            Ok(Some(Message::Inv(_))) => "resent INV",
+            _ => "resent VAL",
+        },
+        Event::View { .. } => "view",
+        Event::Validate { record } => match before[record] {
+            State::Write => "validated write",
+            _ => "validated replay",
+        },
+        Event::Deliver { post } => {
+            let envelope = &group.posts[post].envelope;
+            let held = member.table[envelope.record];
+            match envelope.message {
+                Message::Inv(timestamp) if held.timestamp > timestamp => "older INV",
+                Message::Inv(_) => match held.state {
+                    State::InvalidWrite => "INV at a write",
+                    _ => "INV",
+                },
+                Message::Ack(_) => "ACK",
+                Message::Val(_) => match before[envelope.record] {
+                    State::InvalidWrite => "VAL at invalid-write",
+                    State::Replay => "VAL at replay",
+                    _ => "VAL",
+                },
+            }
+        }
+    }
+}
+
+fn run(rng: &mut Rng, tally: &mut Tally) -> Result<(), String> {
+    let (mut group, mut schedule) = Schedule::start(rng);
+    for _ in 0..EVENTS {
+        let (at, event) = schedule.next(rng, &group);
+        let table = &group.members[at].table;
+        let before: Vec<State> = table.iter().map(|record| record.state).collect();
+        let answer = group.play(at, &event);
+        if answer.is_ok() {
+            let name = name(&group, &before, at, &event, &answer);
+            *tally.entry(name).or_default() += 1;
+        }
+        let pairs = group.agreement()?;
+        group.durability()?;
+        *tally.entry("valid pairs").or_default() += pairs;
+    }
+    Ok(())
+}
+
+#[test]
+fn random_groups() {
+    let mut rng = rng();
+    let mut tally = Tally::new();
+    for number in 0..RUNS {
+        if let Err(broken) = run(&mut rng, &mut tally) {
+            panic!("run {number}: {broken}");
+        }
+    }
+    println!("{tally:?}");
+    let names = [
+        "read",
+        "write",
+        "replay",
+        "resent INV",
+        "resent VAL",
+        "view",
+        "validated write",
+        "validated replay",
+        "INV",
+        "older INV",
+        "INV at a write",
+        "ACK",
+        "VAL",
+        "VAL at invalid-write",
+        "VAL at replay",
+        "valid pairs",
+    ];
+    for name in names {
+        let times = tally.get(name).copied().unwrap_or(0);
+        assert!(times >= 5, "{name}: only {times} times");
+    }
+}
+
+/// Replica 0 has written; 1 has acknowledged, 2 has heard nothing. The view
+/// {0,1} of epoch 1 has come to 0 alone, which validates.
+fn station() -> Group {
+    let mut group = Group::start(&[0, 1, 2], set(&[0, 1, 2]), 1);
+    let value = b"old ring".to_vec();
+    let write = Event::Write { record: 0, value };
+    let view = Event::View {
+        epoch: 1,
+        view: set(&[0, 1]),
+    };
+    assert_eq!(group.play(0, &write), Ok(Some(inv(1, 0))));
+    let answer = group.play(1, &Event::Deliver { post: 0 });
+    assert_eq!(answer, Ok(Some(ack(1, 0))));
+    assert_eq!(group.play(0, &Event::Deliver { post: 1 }), Ok(None));
+    assert_eq!(group.play(0, &view), Ok(None));
+    let answer = group.play(0, &Event::Validate { record: 0 });
+    assert_eq!(answer, Ok(Some(val(1, 0))));
+    group
+}
+
+/// The fault of the first station: a replica that missed the change of view
+/// takes a validation meant for the new group.
+#[test]
+fn the_first_station() {
+    let mut group = station();
+    let answer = group.play(1, &Event::Deliver { post: 2 });
+    assert_eq!(answer, Err(Refusal::OtherEpoch));
+    assert!(group.agreement().is_ok());
+    assert_eq!(group.durability(), Ok(()));
+}
+
+/// The same with an altered epoch, against the premises: the check sees it.
+#[test]
+fn the_first_check_can_fail() {
+    let mut group = station();
+    group.posts[2].envelope.epoch = 0;
+    assert_eq!(group.play(1, &Event::Deliver { post: 2 }), Ok(None));
+    assert!(group.agreement().is_err());
+}
+
+/// A forged acknowledgement lets 0 validate while 2 still shows the old text.
+#[test]
+fn the_second_check_can_fail() {
+    let mut group = Group::start(&[0, 2], set(&[0, 2]), 1);
+    let value = b"new".to_vec();
+    group
+        .play(0, &Event::Write { record: 0, value })
+        .expect("accepted");
+    group.posts[0].envelope.message = ack(1, 0);
+    group.posts[0].envelope.sender = 2;
+    group.posts[0].body.clear();
+    assert_eq!(group.play(0, &Event::Deliver { post: 0 }), Ok(None));
+    assert_eq!(group.durability(), Ok(()));
+    group
+        .play(0, &Event::Validate { record: 0 })
+        .expect("accepted");
+    assert!(group.durability().is_err());
+}

@@ -1,0 +1,150 @@
+//! A group at work: its members, every message that ever left, the views that
+//! the warden issues, and demand 3 in both halves.
+
+use model::engine::{body, has, number, Answer, Envelope, Message, State, Timestamp};
+
+use crate::support::Member;
+
+/// A message that left, with the bytes it left with, and whom it is for.
+#[derive(Clone, Debug)]
+pub struct Post {
+    pub envelope: Envelope,
+    pub body: Vec<u8>,
+    pub to: u16,
+}
+
+/// An accepted validation.
+#[derive(Clone, Copy, Debug)]
+pub struct Validation {
+    pub record: usize,
+    pub timestamp: Timestamp,
+    /// The finisher's view at that step.
+    pub view: u16,
+}
+
+/// One entry of the list. The member is named by its place in the group.
+#[derive(Clone, Debug)]
+pub enum Event {
+    Read { record: usize },
+    Write { record: usize, value: Vec<u8> },
+    Replay { record: usize },
+    Deliver { post: usize },
+    Validate { record: usize },
+    Resend { record: usize },
+    View { epoch: u32, view: u16 },
+}
+
+pub struct Group {
+    pub members: Vec<Member>,
+    pub posts: Vec<Post>,
+    pub validations: Vec<Validation>,
+}
+
+impl Group {
+    /// All members have just started fresh, with one first view.
+    pub fn start(numbers: &[u8], view: u16, records: usize) -> Group {
+        let start = |&number| Member::start(number, view, records);
+        Group {
+            members: numbers.iter().map(start).collect(),
+            posts: Vec::new(),
+            validations: Vec::new(),
+        }
+    }
+
+    /// Plays one entry. A message that leaves joins the posts.
+    pub fn play(&mut self, at: usize, event: &Event) -> Answer {
+        let member = &mut self.members[at];
+        let before = member.clone();
+        let mut inv_sender = u8::MAX;
+        let (record, answer) = match *event {
+            Event::Read { record } => (record, member.read(record).map(|_| None)),
+            Event::Write { record, ref value } => (record, member.write(record, value)),
+            Event::Replay { record } => (record, member.replay(record)),
+            Event::Validate { record } => (record, member.validate(record)),
+            Event::Resend { record } => (record, member.resend(record)),
+            Event::View { epoch, view } => (usize::MAX, member.view(epoch, view)),
+            Event::Deliver { post } => {
+                let Post { envelope, body, .. } = &self.posts[post];
+                inv_sender = envelope.sender;
+                (envelope.record, member.deliver(envelope, body))
+            }
+        };
+        changes_only(&before, member, record, &answer);
+        if let Ok(Some(message)) = answer {
+            self.posts.push(Post {
+                envelope: member.replica.envelope(record, message),
+                body: body(message, &member.table, &member.store, record).to_vec(),
+                to: member.replica.recipients(message, inv_sender),
+            });
+            if let (Event::Validate { .. }, Message::Val(timestamp)) = (event, message) {
+                self.validations.push(Validation {
+                    record,
+                    timestamp,
+                    view: member.replica.view,
+                });
+            }
+        }
+        answer
+    }
+
+    /// Demand 3, first half: any two members that stand in each other's view
+    /// and both show a record valid hold one stamp and the same bytes for it.
+    /// Gives the count of such pairs.
+    pub fn agreement(&self) -> Result<u32, String> {
+        let mut pairs = 0;
+        for (i, a) in self.members.iter().enumerate() {
+            for b in &self.members[i + 1..] {
+                if !has(a.replica.view, b.replica.number) || !has(b.replica.view, a.replica.number)
+                {
+                    continue;
+                }
+                for (record, (x, y)) in a.table.iter().zip(&b.table).enumerate() {
+                    if x.state != State::Valid || y.state != State::Valid {
+                        continue;
+                    }
+                    pairs += 1;
+                    let one_stamp = x.timestamp == y.timestamp;
+                    let same_bytes = x.len == y.len && a.slot(record) == b.slot(record);
+                    if !one_stamp || !same_bytes {
+                        let (a, b) = (a.replica, b.replica);
+                        return Err(format!("record {record}: {a:?} {x:?}, {b:?} {y:?}"));
+                    }
+                }
+            }
+        }
+        Ok(pairs)
+    }
+
+    /// Demand 3, second half: each member in the finisher's view of a
+    /// validation, if it shows the record valid, shows that stamp or a later.
+    pub fn durability(&self) -> Result<(), String> {
+        for validation in &self.validations {
+            for member in &self.members {
+                let shown = &member.table[validation.record];
+                if has(validation.view, member.replica.number)
+                    && shown.state == State::Valid
+                    && shown.timestamp < validation.timestamp
+                {
+                    let replica = member.replica;
+                    return Err(format!("{validation:?}, but {replica:?} {shown:?}"));
+                }
+            }
+        }
+        Ok(())
+    }
+}
+
+/// Demand 1: a refused event changes nothing; an accepted one only the named
+/// record with its text, or the replica's view.
+fn changes_only(before: &Member, after: &Member, record: usize, answer: &Answer) {
+    if answer.is_err() {
+        assert_eq!(after, before, "refused by {}", number(answer));
+        return;
+    }
+    let is_view = record == usize::MAX;
+    assert!(is_view || after.replica == before.replica);
+    for other in (0..before.table.len()).filter(|&other| other != record) {
+        assert_eq!(after.table[other], before.table[other]);
+        assert_eq!(after.slot(other), before.slot(other));
+    }
+}

@@ -1,0 +1,330 @@
+//! Any input at all: unsound records, stray numbers, wrong sizes, any view, any
+//! bytes. Every event answers; a refused one changes nothing; an accepted one
+//! changes the named record with its text alone, and answers as the one-record
+//! form does.
+
+use model::engine::{
+    body, Answer, Envelope, Message, Record, Refusal, Replica, Sizes, Slot, State, Timestamp,
+};
+use model::rng::Rng;
+
+use crate::support::{rng, set, Member};
+
+const ROUNDS: usize = 60_000;
+
+/// Mostly a number up to 15.
+fn some_number(rng: &mut Rng) -> u8 {
+    if rng.chance(1, 40) {
+        [16, 17, 18, 31, 32, 255][rng.below(6)]
+    } else {
+        [1, 2, 5, rng.below(16) as u8][rng.below(4)]
+    }
+}
+
+fn some_version(rng: &mut Rng) -> u32 {
+    [0, 1, 2, u32::MAX - 1, u32::MAX][rng.below(5)]
+}
+
+fn some_timestamp(rng: &mut Rng) -> Timestamp {
+    Timestamp::new(some_version(rng), some_number(rng))
+}
+
+fn some_view(rng: &mut Rng) -> u16 {
+    match rng.below(24) {
+        0 => 0,
+        1 => 1 << rng.below(16),
+        2 => rng.next_u64() as u16,
+        3 => u16::MAX,
+        4..10 => set(&[1, 2]),
+        _ => set(&[1, 2, 5]),
+    }
+}
+
+fn some_record(rng: &mut Rng) -> Record {
+    let timestamp = some_timestamp(rng);
+    let last_write = some_timestamp(rng);
+    Record {
+        state: State::ALL[rng.below(5)],
+        timestamp,
+        last_writer: some_number(rng),
+        last_write: [timestamp, last_write][rng.below(2)],
+        acks: [0, some_view(rng) & !set(&[2])][rng.below(2)],
+        len: match rng.below(20) {
+            0 => 193,
+            1 => 255,
+            2..6 => 192,
+            _ => rng.below(193) as u8,
+        },
+    }
+}
+
+/// Any member: sometimes with a wrong count or store.
+fn some_member(rng: &mut Rng) -> Member {
+    let count = rng.below(4) + usize::from(rng.chance(9, 10));
+    let mut store = vec![0; 192 * count];
+    rng.fill(&mut store);
+    match rng.below(30) {
+        0 => store.clear(),
+        1 => store.push(0),
+        2 => drop(store.pop()),
+        3 => store.resize(192 * count + 192, 1),
+        _ => (),
+    }
+    Member {
+        replica: Replica {
+            number: if rng.chance(2, 3) {
+                2
+            } else {
+                some_number(rng)
+            },
+            epoch: rng.below(3) as u32,
+            view: some_view(rng),
+        },
+        table: (0..count).map(|_| some_record(rng)).collect(),
+        store,
+    }
+}
+
+fn some_index(rng: &mut Rng) -> usize {
+    match rng.below(24) {
+        0 => usize::MAX,
+        1 => usize::MAX / 192 + 1,
+        2 => 4095 + rng.below(2),
+        3..8 => rng.below(4),
+        _ => 0,
+    }
+}
+
+fn some_bytes(rng: &mut Rng) -> Vec<u8> {
+    let len = [0, 0, 0, 1, 191, 192, 193, rng.below(300)][rng.below(8)];
+    let mut bytes = vec![0; len];
+    rng.fill(&mut bytes);
+    bytes
+}
+
+/// Often a message about what the record holds.
+fn some_message(rng: &mut Rng, member: &Member, index: usize) -> Message {
+    let timestamp = match member.table.get(index) {
+        Some(record) if rng.chance(1, 3) => record.timestamp,
+        Some(record) if rng.chance(1, 2) => record.last_write,
+        _ => some_timestamp(rng),
+    };
+    let kinds = [Message::Inv, Message::Ack, Message::Val];
+    kinds[rng.below(3)](timestamp)
+}
+
+/// The record and its slot apart from the rest; any at all where there is none.
+fn taken_out(member: &Member, index: usize) -> (Record, Slot) {
+    let record = member.table.get(index).copied();
+    let slots = member.store.as_chunks().0;
+    let slot = slots.get(index).copied();
+    (record.unwrap_or(Record::fresh(0)), slot.unwrap_or([0; 192]))
+}
+
+/// What one event did, both ways.
+struct Done {
+    before: Member,
+    after: Member,
+    index: usize,
+    answer: Answer,
+    one: (Answer, Record, Slot),
+}
+
+impl Done {
+    fn check(&self) {
+        let Done { before, after, .. } = self;
+        assert_eq!(self.answer, self.one.0);
+        if self.answer.is_err() {
+            assert_eq!(after, before);
+            return;
+        }
+        assert_eq!(taken_out(after, self.index), (self.one.1, self.one.2));
+        assert_eq!(after.replica, before.replica);
+        for other in (0..before.table.len()).filter(|&other| other != self.index) {
+            assert_eq!(taken_out(after, other), taken_out(before, other));
+        }
+        assert!(after.table[self.index].is_sound(after.replica.number));
+    }
+}
+
+#[test]
+fn events() {
+    let mut rng = rng();
+    let mut accepted = [0; 8];
+    for _ in 0..ROUNDS {
+        let before = some_member(&mut rng);
+        let index = some_index(&mut rng);
+        let replica = before.replica;
+        let sizes = Sizes::of(&before.table, &before.store);
+        let mut after = before.clone();
+        let (mut record, mut slot) = taken_out(&before, index);
+        let bytes = some_bytes(&mut rng);
+        let event = rng.below(8);
+        let mut kind = event;
+        let (answer, one) = match event {
+            0 => {
+                let table = before.read(index);
+                assert_eq!(table, replica.read_one(sizes, index, &record, &slot));
+                let expected = &slot[..usize::from(record.len).min(192)];
+                assert!(table.is_err() || table == Ok(expected));
+                (table.map(|_| None), table.map(|_| None))
+            }
+            1 => (
+                after.write(index, &bytes),
+                replica.write_one(sizes, index, &mut record, &mut slot, &bytes),
+            ),
+            2 => (
+                after.replay(index),
+                replica.replay_one(sizes, index, &mut record),
+            ),
+            3 => (
+                after.validate(index),
+                replica.validate_one(sizes, index, &mut record),
+            ),
+            4 => (
+                after.resend(index),
+                replica.resend_one(sizes, index, &record),
+            ),
+            _ => {
+                let message = some_message(&mut rng, &before, index);
+                kind = match message {
+                    Message::Inv(_) => 5,
+                    Message::Ack(_) => 6,
+                    Message::Val(_) => 7,
+                };
+                let envelope = Envelope {
+                    sender: some_number(&mut rng),
+                    epoch: replica.epoch ^ u32::from(rng.chance(1, 10)),
+                    record: index,
+                    message,
+                };
+                (
+                    after.deliver(&envelope, &bytes),
+                    replica.deliver_one(sizes, &mut record, &mut slot, &envelope, &bytes),
+                )
+            }
+        };
+        accepted[kind] += u32::from(answer.is_ok());
+        let one = (one, record, slot);
+        let done = Done {
+            before,
+            after,
+            index,
+            answer,
+            one,
+        };
+        done.check();
+    }
+    assert!(accepted.iter().all(|&times| times > 50), "{accepted:?}");
+}
+
+#[test]
+fn starts() {
+    let mut rng = rng();
+    let mut accepted = 0;
+    for _ in 0..ROUNDS / 4 {
+        let before = some_member(&mut rng);
+        let mut after = before.clone();
+        let Replica { number, view, .. } = before.replica;
+        let answer = Replica::start(number, view, &mut after.table, &mut after.store);
+
+        let sizes = Sizes::of(&before.table, &before.store);
+        let (mut record, mut slot) = taken_out(&before, 0);
+        let one = Replica::start_one(number, view, sizes, &mut record, &mut slot);
+        assert_eq!(answer, one);
+        let Ok(replica) = answer else {
+            assert_eq!(after, before);
+            continue;
+        };
+        accepted += 1;
+        assert_eq!((replica.number, replica.epoch), (number, 0));
+        assert_eq!(replica.view, view);
+        assert!(after.table.iter().all(|&each| each == record));
+        assert!(after.store.iter().all(|&byte| byte == 0));
+        assert_eq!(record, Record::fresh(view.trailing_zeros() as u8));
+        assert_eq!(slot, [0; 192]);
+    }
+    assert!(accepted > 1000);
+}
+
+#[test]
+fn views() {
+    let mut rng = rng();
+    let mut accepted = 0;
+    for _ in 0..ROUNDS {
+        let before = some_member(&mut rng).replica;
+        let mut after = before;
+        let (epoch, view) = (rng.below(4) as u32, some_view(&mut rng));
+        let answer = after.change_view(epoch, view);
+        if answer.is_ok() {
+            accepted += 1;
+            let number = before.number;
+            let expected = Replica {
+                number,
+                epoch,
+                view,
+            };
+            assert_eq!((answer, after), (Ok(None), expected));
+            assert!(epoch > before.epoch && view | before.view == before.view);
+        } else {
+            assert_eq!(after, before);
+        }
+    }
+    assert!(accepted > 1000);
+}
+
+#[test]
+fn leaving_messages() {
+    let mut rng = rng();
+    for _ in 0..ROUNDS / 4 {
+        let member = some_member(&mut rng);
+        let index = some_index(&mut rng);
+        let message = some_message(&mut rng, &member, index);
+        let sender = rng.next_u64() as u8;
+        let to = member.replica.recipients(message, sender);
+        let bytes = body(message, &member.table, &member.store, index);
+        match message {
+            Message::Ack(_) => {
+                assert_eq!(to.count_ones(), u32::from(sender < 16));
+                assert!(sender > 15 || to == set(&[sender]));
+            }
+            Message::Inv(_) | Message::Val(_) => {
+                let number = member.replica.number;
+                let own = if number < 16 { set(&[number]) } else { 0 };
+                assert_eq!(to, member.replica.view & !own);
+            }
+        }
+        let held = member.table.get(index).map(|record| record.len.into());
+        match (message, held) {
+            (Message::Inv(_), Some(len)) if len <= 192 => {
+                let slots = member.store.as_chunks::<192>().0;
+                assert_eq!(bytes, slots.get(index).map_or(&[][..], |s| &s[..len]));
+            }
+            _ => assert_eq!(bytes, b""),
+        }
+        let envelope = member.replica.envelope(index, message);
+        assert_eq!(
+            (envelope.sender, envelope.epoch),
+            (member.replica.number, member.replica.epoch)
+        );
+        assert_eq!((envelope.record, envelope.message), (index, message));
+    }
+}
+
+#[test]
+fn sizes_up_to_the_greatest() {
+    let replica = Member::ringing().replica;
+    let record = Record::fresh(1);
+    let slot = [0; 192];
+    let max = usize::MAX;
+    for (records, store) in [
+        (max, max),
+        (max, 0),
+        (max / 192 + 1, 128),
+        (4097, 4097 * 192),
+    ] {
+        let sizes = Sizes { records, store };
+        let answer = replica.read_one(sizes, 0, &record, &slot);
+        assert_eq!(answer, Err(Refusal::LentMemory));
+    }
+}

@@ -1,0 +1,197 @@
+//! What each accepted event makes of a whole record (01, "Steps"), from records
+//! whose every field differs from what a fresh start gives.
+
+use model::engine::{Answer, Message, Record, State};
+
+use crate::support::{ack, from, inv, set, ts, val, Member};
+
+/// A record with nothing at its first value. 5 is its last writer.
+fn held(state: State) -> Record {
+    Record {
+        state,
+        timestamp: ts(9, 5),
+        last_writer: 5,
+        last_write: ts(8, 2),
+        acks: set(&[1, 7]),
+        len: 4,
+    }
+}
+
+/// Laptop 2 holding this record, its store full of other bytes behind the value.
+fn holding(record: Record) -> Member {
+    let mut member = Member::ringing();
+    member.table[0] = record;
+    member.store.fill(b'~');
+    member.store[..4].copy_from_slice(b"wing");
+    member
+}
+
+/// The event moves this record to that, and sends this. The store's 192 bytes
+/// are the value and zeroes if the event sets it, else untouched.
+fn moves(
+    before: Record,
+    event: impl Fn(&mut Member) -> Answer,
+    after: Record,
+    sent: Option<Message>,
+    value: Option<&[u8]>,
+) {
+    let mut member = holding(before);
+    assert_eq!(event(&mut member), Ok(sent));
+    assert_eq!(member.table, [after]);
+    let mut store = holding(before).store;
+    if let Some(value) = value {
+        store.fill(0);
+        store[..value.len()].copy_from_slice(value);
+    }
+    assert_eq!(member.store, store);
+}
+
+#[test]
+fn write() {
+    let after = Record {
+        state: State::Write,
+        timestamp: ts(10, 2),
+        last_writer: 2,
+        last_write: ts(10, 2),
+        acks: 0,
+        len: 6,
+    };
+    for state in [State::Valid, State::Invalid] {
+        let event = |m: &mut Member| m.write(0, b"weight");
+        moves(held(state), event, after, Some(inv(10, 2)), Some(b"weight"));
+        let empty = Record { len: 0, ..after };
+        let event = |m: &mut Member| m.write(0, b"");
+        moves(held(state), event, empty, Some(inv(10, 2)), Some(b""));
+    }
+}
+
+#[test]
+fn replay() {
+    let before = Record {
+        last_writer: 7,
+        ..held(State::Invalid)
+    };
+    let after = Record {
+        state: State::Replay,
+        last_writer: 2,
+        last_write: ts(9, 5),
+        acks: 0,
+        ..before
+    };
+    moves(before, |m| m.replay(0), after, Some(inv(9, 5)), None);
+}
+
+#[test]
+fn greater_inv() {
+    for state in State::ALL {
+        let taken = match state {
+            State::Valid | State::Invalid | State::Replay => State::Invalid,
+            State::Write | State::InvalidWrite => State::InvalidWrite,
+        };
+        for (version, tie) in [(9, 6), (10, 0), (u32::MAX, 15)] {
+            // Acknowledgements and the last-write stamp stay.
+            let after = Record {
+                state: taken,
+                timestamp: ts(version, tie),
+                last_writer: 1,
+                len: 2,
+                ..held(state)
+            };
+            let event = |m: &mut Member| m.deliver(&from(1, inv(version, tie)), b"ok");
+            let sent = Some(ack(version, tie));
+            moves(held(state), event, after, sent, Some(b"ok"));
+        }
+    }
+}
+
+#[test]
+fn other_inv() {
+    for state in State::ALL {
+        for (version, tie) in [(9, 5), (9, 4), (8, 15), (0, 0)] {
+            let event = |m: &mut Member| m.deliver(&from(1, inv(version, tie)), b"ok");
+            let sent = Some(ack(version, tie));
+            moves(held(state), event, held(state), sent, None);
+        }
+    }
+}
+
+#[test]
+fn acknowledgement() {
+    for state in [State::Write, State::InvalidWrite, State::Replay] {
+        let after = Record {
+            acks: set(&[1, 5, 7]),
+            ..held(state)
+        };
+        let event = |m: &mut Member| m.deliver(&from(5, ack(8, 2)), b"");
+        moves(held(state), event, after, None, None);
+    }
+}
+
+#[test]
+fn validation() {
+    for state in &State::ALL[1..] {
+        let event = |m: &mut Member| m.deliver(&from(1, val(9, 5)), b"");
+        moves(held(*state), event, held(State::Valid), None, None);
+    }
+    for state in [State::Write, State::Replay] {
+        let acks = set(&[1, 5, 7]);
+        let before = Record {
+            acks,
+            ..held(state)
+        };
+        let after = Record {
+            state: State::Valid,
+            ..before
+        };
+        moves(before, |m| m.validate(0), after, Some(val(9, 5)), None);
+    }
+}
+
+#[test]
+fn resend() {
+    let own = |state| Record {
+        last_writer: 2,
+        ..held(state)
+    };
+    let event = |m: &mut Member| m.resend(0);
+    for state in [State::Write, State::Replay] {
+        moves(held(state), event, held(state), Some(inv(9, 5)), None);
+    }
+    let valid = own(State::Valid);
+    moves(valid, event, valid, Some(val(9, 5)), None);
+}
+
+#[test]
+fn read() {
+    let valid = held(State::Valid);
+    assert_eq!(holding(valid).read(0), Ok(&b"wing"[..]));
+    moves(valid, |m| m.read(0).map(|_| None), valid, None, None);
+}
+
+#[test]
+fn view() {
+    let record = held(State::Replay);
+    let event = |m: &mut Member| {
+        let answer = m.view(3, set(&[2, 5]));
+        assert_eq!((m.replica.epoch, m.replica.view), (3, set(&[2, 5])));
+        assert_eq!(m.replica.number, 2);
+        answer
+    };
+    moves(record, event, record, None, None);
+}
+
+#[test]
+fn the_second_record() {
+    // The part is 192 times the record's number into the store.
+    let mut member = Member::start(2, set(&[1, 2, 5]), 3);
+    member.store.fill(b'~');
+    assert!(member.write(1, b"ring").is_ok());
+    assert_eq!(&member.store[190..197], b"~~ring\0");
+    assert_eq!(&member.store[382..386], b"\0\0~~");
+    member.table[1].state = State::Valid;
+    let part = member.read(1).expect("accepted");
+    assert_eq!(part, b"ring");
+    assert!(std::ptr::eq(part, &member.store[192..196]));
+    assert_eq!(member.table[0], Record::fresh(1));
+    assert_eq!(member.table[2], Record::fresh(1));
+}

@@ -1,0 +1,196 @@
+//! A random schedule of a small group: who does what next, over a radio that
+//! loses, repeats and holds back, with views that reach each member when they
+//! will.
+
+use model::engine::{bit, has, State};
+use model::rng::Rng;
+
+use crate::group::{Event, Group};
+use crate::support::{set, Member};
+
+pub struct Schedule {
+    /// The views that the warden issues, by epoch.
+    views: Vec<(u32, u16)>,
+    /// Posts on their way, each with the place of one member it is for.
+    under_way: Vec<(usize, usize)>,
+    /// How many of the group's posts the radio has taken up.
+    taken: usize,
+    /// The place of a member that does no more.
+    dead: Option<usize>,
+}
+
+impl Schedule {
+    /// A group that has just started, and its schedule.
+    pub fn start(rng: &mut Rng) -> (Group, Schedule) {
+        let numbers = some_numbers(rng);
+        let mut first = set(&numbers);
+        if rng.chance(1, 10) {
+            // A number that no replica has may stand in the first view.
+            first |= bit(rng.below(16) as u8);
+        }
+        let schedule = Schedule {
+            views: some_views(rng, first),
+            under_way: Vec::new(),
+            taken: 0,
+            dead: None,
+        };
+        let records = if rng.chance(1, 8) { 2 } else { 1 };
+        (Group::start(&numbers, first, records), schedule)
+    }
+
+    /// The next event, and the place of the member that it comes to. One that
+    /// is going to be struck off may die after a write; the view without it
+    /// then spreads in the place of its own events.
+    pub fn next(&mut self, rng: &mut Rng, group: &Group) -> (usize, Event) {
+        self.take_up(group);
+        let (at, event) = self.choose(rng, group);
+        let number = group.members[at].replica.number;
+        let mut views = self.views.iter();
+        let without = views.find(|(_, view)| !has(*view, number));
+        match (self.dead, without) {
+            (Some(dead), Some(&(epoch, view))) if dead == at => {
+                let other = (at + 1 + rng.below(group.members.len() - 1)) % group.members.len();
+                (other, Event::View { epoch, view })
+            }
+            (None, Some(_)) if matches!(event, Event::Write { .. }) && rng.chance(1, 3) => {
+                self.dead = Some(at);
+                (at, event)
+            }
+            _ => (at, event),
+        }
+    }
+
+    fn choose(&mut self, rng: &mut Rng, group: &Group) -> (usize, Event) {
+        let record = rng.below(group.members[0].table.len());
+        let anyone = rng.below(group.members.len());
+        // Deliveries come from 34 on, once there are messages.
+        let kinds = if group.posts.is_empty() { 34 } else { 100 };
+        match rng.below(kinds) {
+            0..2 => {
+                // Sometimes a stray record.
+                let record = record + rng.below(2);
+                (anyone, Event::Read { record })
+            }
+            2..6 => {
+                let value = some_value(rng);
+                // Often by one that is going to be struck off.
+                let last_view = self.views[self.views.len() - 1].1;
+                let at = some_member(rng, group, |m| !has(last_view, m.replica.number));
+                let at = if rng.chance(2, 3) { at } else { anyone };
+                (at, Event::Write { record, value })
+            }
+            6..12 => {
+                let at = some_member(rng, group, |m| {
+                    let held = m.table[record];
+                    held.state == State::Invalid && !has(m.replica.view, held.last_writer)
+                });
+                (at, Event::Replay { record })
+            }
+            12..26 => {
+                let at = some_member(rng, group, |m| {
+                    matches!(m.table[record].state, State::Write | State::Replay)
+                });
+                (at, Event::Validate { record })
+            }
+            26..30 => (anyone, Event::Resend { record }),
+            30..34 => {
+                // Mostly the last view that anybody holds, so that it spreads.
+                let last = group.members.iter().map(|m| m.replica.epoch).max();
+                let mut chosen = self.views.iter().filter(|v| Some(v.0) == last);
+                let (epoch, view) = match chosen.next() {
+                    Some(&issued) if rng.chance(6, 7) => issued,
+                    _ => self.views[rng.below(self.views.len())],
+                };
+                (anyone, Event::View { epoch, view })
+            }
+            _ => self.delivery(rng, group),
+        }
+    }
+
+    /// The radio takes up what has left since.
+    fn take_up(&mut self, group: &Group) {
+        for post in self.taken..group.posts.len() {
+            let to = group.posts[post].to;
+            let members = group.members.iter().enumerate();
+            let meant = members.filter(|(_, member)| has(to, member.replica.number));
+            self.under_way.extend(meant.map(|(at, _)| (post, at)));
+        }
+        self.taken = group.posts.len();
+    }
+
+    /// Mostly a message under way, often a young one; now and then any message
+    /// to anyone. Some are lost, some come again.
+    fn delivery(&mut self, rng: &mut Rng, group: &Group) -> (usize, Event) {
+        if rng.chance(1, 10) {
+            let last = self.under_way.len().saturating_sub(1);
+            self.under_way.truncate(last);
+        }
+        let count = self.under_way.len();
+        if count == 0 || rng.chance(1, 8) {
+            let post = rng.below(group.posts.len());
+            return (rng.below(group.members.len()), Event::Deliver { post });
+        }
+        let young = if rng.chance(1, 2) {
+            count.min(4)
+        } else {
+            count
+        };
+        let chosen = count - 1 - rng.below(young);
+        let (post, at) = self.under_way[chosen];
+        if rng.chance(7, 8) {
+            self.under_way.remove(chosen);
+        }
+        (at, Event::Deliver { post })
+    }
+}
+
+/// Distinct replica numbers, in any order.
+fn some_numbers(rng: &mut Rng) -> Vec<u8> {
+    let size = [2, 3, 3, 4, 4][rng.below(5)];
+    let mut numbers: Vec<u8> = Vec::new();
+    while numbers.len() < size {
+        let number = rng.below(16) as u8;
+        if !numbers.contains(&number) {
+            numbers.push(number);
+        }
+    }
+    numbers
+}
+
+/// One view per epoch number, each within all lower-numbered ones. The first is
+/// that of the start.
+fn some_views(rng: &mut Rng, first: u16) -> Vec<(u32, u16)> {
+    let mut issued = vec![(0, first)];
+    let (mut epoch, mut view) = (0, first);
+    for _ in 0..=rng.below(3) {
+        epoch += 1 + rng.below(2) as u32;
+        for _ in 0..[0, 1, 1, 1, 1, 2][rng.below(6)] {
+            let there: Vec<u8> = (0..16).filter(|&number| has(view, number)).collect();
+            view &= !rng.pick(&there).map_or(0, bit);
+        }
+        issued.push((epoch, view));
+    }
+    if rng.chance(1, 20) {
+        issued.push((u32::MAX, view));
+    }
+    issued
+}
+
+/// Mostly one of the members for which this holds, else any.
+fn some_member(rng: &mut Rng, group: &Group, wanted: impl Fn(&Member) -> bool) -> usize {
+    let count = group.members.len();
+    let places = 0..count;
+    let fit: Vec<usize> = places.filter(|&at| wanted(&group.members[at])).collect();
+    match rng.pick(&fit) {
+        Some(at) if rng.chance(7, 8) => at,
+        _ => rng.below(count),
+    }
+}
+
+/// A text of its own, so that two writes are told apart. Sometimes too long.
+fn some_value(rng: &mut Rng) -> Vec<u8> {
+    let len = [4, 8, 16, 192, rng.below(194)][rng.below(5)];
+    let mut value = vec![0; len];
+    rng.fill(&mut value);
+    value
+}
