@@ -3,3 +3,4 @@ pub mod Printing
 pub mod Clusters
 pub mod Turns
 pub mod Games
+pub mod Views

@@ -14,6 +14,7 @@ const LINE_FEED: u8 = b'\n';
 
 // The most bytes of an input, and of an answer line.
 const INPUT_MAX: usize = 65536;
+
 const LINE_MAX: usize = 25;
 
 // How many bytes were printed; refused where the input is too long, or the output too short for what an input of its length could print.

@@ -183,10 +183,7 @@ fn unknown(c: Cluster, out: &mut [u8], at: usize) -> Turned
     ensures { λ r. ⌜ (r .cluster ≡ c) × (Put unknownLine at (now (out .entry)) (r .at) (now (out .exit))) ⌝ }
 {
     let to = print::put_unknown(out, at);
-    Turned {
-        cluster: c,
-        at: to,
-    }
+    Turned { cluster: c, at: to }
 }
 
 // An event that sends nothing: the member is put back.
@@ -271,13 +268,7 @@ fn conclude(
 }
 
 // One line.
-pub(crate) fn turn(
-    c: Cluster,
-    line: &[u8],
-    bodies: &mut [u8],
-    out: &mut [u8],
-    at: usize,
-) -> Turned
+pub(crate) fn turn(c: Cluster, line: &[u8], bodies: &mut [u8], out: &mut [u8], at: usize) -> Turned
     requires { ⌜ (Sound c (now bodies)) × (at + 25 ≤ length (now out)) ⌝ }
     ensures { λ r. ⌜ TurnIs c (after (c .count) (groupOf c (now (bodies .entry))) (now (line .entry)))
         (turn (c .count) (groupOf c (now (bodies .entry))) (now (line .entry)) .text) at (now (out .entry)) r (now (bodies .exit)) (now (out .exit)) ⌝ }

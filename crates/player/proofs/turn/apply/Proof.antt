@@ -7,19 +7,13 @@ use borrow.Author.Needs.{needs}
 use mathlib.Core.Path.{_∙_, ap}
 use Rattle.player.proofs.turn.apply.Statement.{statement}
 use Rattle.player.proofs.turn.apply.Tie as tie
-use Rattle.player.proofs.turn.apply.Reads as reads
-use Rattle.player.proofs.turn.apply.Lts as lts
-use Rattle.player.proofs.engine.step.Reads as step-reads
 
--- src/turn.rt:51:46
 slice-aggregate-step : tie.Need-slice-aggregate-step
 slice-aggregate-step c = search needs
 
--- src/turn.rt:51:9
 step-requires : tie.Need-step-requires
 step-requires c κs = search needs
 
--- src/turn.rt:45:1
 returns : tie.Need-returns
 returns c = (apply-is _ _ _ _ _ (c .before .before .step .ensures .0) (c .before .before .step .ensures .1), ap (λ (x : Moved). indexOf (sentBy (x .answer))) (c .before .before .step .ensures .0) ∙ effect-index _ _ _ _ _)
 

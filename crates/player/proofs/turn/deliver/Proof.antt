@@ -5,47 +5,34 @@ use mathlib.Core.Path.{refl}
 use native.Mathlib.Omega.{arith}
 use Rattle.player.proofs.turn.deliver.Statement.{statement}
 use Rattle.player.proofs.turn.deliver.Tie as tie
-use Rattle.player.proofs.turn.deliver.Reads as reads
-use Rattle.player.proofs.turn.deliver.Lts as lts
-use Rattle.player.proofs.turn.apply.Reads as apply-reads
 
--- src/turn.rt:71:9
 returns : tie.Need-returns
 returns c = (deliver-none _ _ _ _ _ (c .if1 .taken), refl)
 
--- src/turn.rt:77:13
 mul-e : tie.Need-mul-e
 mul-e c = search needs
 
--- src/turn.rt:77:13
 array-copy-out-e : tie.Need-array-copy-out-e
 array-copy-out-e c = search needs
 
--- src/turn.rt:79:14
 mul-at : tie.Need-mul-at
 mul-at c = search needs
 
--- src/turn.rt:80:15
 add-end : tie.Need-add-end
 add-end c = omega (arith, c .before .before .before .before .pre .1 (c .before .before .before .before .args .k))
 
--- src/turn.rt:86:40
 sub-apply : tie.Need-sub-apply
 sub-apply c = search needs
 
--- src/turn.rt:86:40
 part-apply-start : tie.Need-part-apply-start
 part-apply-start c = search needs
 
--- src/turn.rt:86:40
 part-apply-end : tie.Need-part-apply-end
 part-apply-end c = omega (arith, c .before .before .before .before .pre .1 (c .before .before .before .before .args .k), c .before .before .before .before .pre .2)
 
--- src/turn.rt:86:5
 apply-requires : tie.Need-apply-requires
 apply-requires c κs = search needs
 
--- src/turn.rt:66:1
 returns-2 : tie.Need-returns-2
 returns-2 c = (deliver-is (c .before .before .before .before .before .before .args .m) _ (c .before .before .before .before .before .before .args .bodies .now) (c .before .before .before .before .before .before .args .sent) (c .before .before .before .before .before .before .args .k) (c .apply .result) (c .before .before .before .before .if1 .left) (c .apply .ensures .0), c .apply .ensures .1)
 

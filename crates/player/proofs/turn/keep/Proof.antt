@@ -8,34 +8,24 @@ use mathlib.Core.Path.{_∙_, _≡_, ap}
 use native.Mathlib.Omega.{arith}
 use Rattle.player.proofs.turn.keep.Statement.{statement}
 use Rattle.player.proofs.turn.keep.Tie as tie
-use Rattle.player.proofs.turn.keep.Reads as reads
-use Rattle.player.proofs.turn.keep.Lts as lts
-use Rattle.player.proofs.engine.body.Reads as body-reads
-use Rattle.player.proofs.turn.copy.Reads as copy-reads
 
--- src/turn.rt:175:38
 slice-aggregate-body : tie.Need-slice-aggregate-body
 slice-aggregate-body c = search needs
 
--- src/turn.rt:175:9
 body-requires : tie.Need-body-requires
 body-requires c κs = search needs
 
--- src/turn.rt:176:24
 mul-copy : tie.Need-mul-copy
 mul-copy c = search needs
 
--- src/turn.rt:176:5
 copy-requires : tie.Need-copy-requires
 copy-requires c κs = let s : length (c .before .before .before .before .before .before .args .m .store) ≡ 192 = search needs in omega (arith, ap length (c .before .body .ensures), leaving-short (c .before .before .before .before .before .before .args .o) (c .before .before .before .before .before .before .args .m .held) (c .before .before .before .before .before .before .args .m .store), c .before .before .before .before .before .before .pre .0, c .before .before .before .before .before .before .pre .1)
 
--- src/turn.rt:168:1
 same-length : tie.Need-same-length
 same-length c = search needs
 
--- src/turn.rt:168:1
 returns : tie.Need-returns
-returns c = 
+returns c =
     let s : length (c .before .before .before .before .before .before .before .before .before .args .m .store) ≡ 192 = search needs in
     let l : length (leavingBody (c .before .before .before .before .before .before .before .before .before .args .o) (c .before .before .before .before .before .before .before .before .before .args .m .held) (c .before .before .before .before .before .before .before .before .before .args .m .store)) ≤ 192 = omega (arith, leaving-short (c .before .before .before .before .before .before .before .before .before .args .o) (c .before .before .before .before .before .before .before .before .before .args .m .held) (c .before .before .before .before .before .before .before .before .before .args .m .store)) in
     (ap length (c .before .before .before .before .body .ensures), rw (c .before .before .before .before .body .ensures) l, c .before .before .copy .ensures ∙ ap (kept (c .before .before .before .before .before .before .before .before .before .args .bodies .now) (c .before .before .before .before .before .before .before .before .before .args .n)) (c .before .before .before .before .body .ensures))

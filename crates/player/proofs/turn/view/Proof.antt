@@ -3,27 +3,19 @@ use borrow.Author.Needs.{needs}
 use mathlib.Core.Path.{_∙_, refl, sym}
 use Rattle.player.proofs.turn.view.Statement.{statement}
 use Rattle.player.proofs.turn.view.Tie as tie
-use Rattle.player.proofs.turn.view.Reads as reads
-use Rattle.player.proofs.turn.view.Lts as lts
-use Rattle.player.proofs.engine.view.Reads as view-reads
 
--- src/turn.rt:96:9
 view-requires : tie.Need-view-requires
 view-requires c κs = search needs
 
--- src/turn.rt:98:29
 enum-known-a : tie.Need-enum-known-a
 enum-known-a c = search needs
 
--- src/turn.rt:107:28
 enum-known-a-2 : tie.Need-enum-known-a-2
 enum-known-a-2 c = search needs
 
--- src/turn.rt:90:1
 returns : tie.Need-returns
 returns c = (view-admitted _ _ _ _ (sym (c .before .before .before .view .ensures) ∙ c .before .a .given .1), refl)
 
--- src/turn.rt:90:1
 returns-2 : tie.Need-returns-2
 returns-2 c = (view-refused _ _ _ _ (sym (c .before .before .before .view .ensures) ∙ c .before .a2 .given .1), refl)
 
