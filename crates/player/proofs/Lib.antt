@@ -4,3 +4,4 @@ pub mod Clusters
 pub mod Turns
 pub mod Games
 pub mod Views
+pub mod Agreeing

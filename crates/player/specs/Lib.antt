@@ -2,3 +2,4 @@
 pub mod Print
 pub mod Play
 pub mod Cluster
+pub mod Agreed
