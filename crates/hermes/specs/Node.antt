@@ -4,7 +4,8 @@ use mathlib.Core.Bool.{Bool}
 use mathlib.Core.List.{List, [], _∷_}
 use lib.ListN.{length, getD, set, replicate}
 use Rattle.hermes.specs.declared.record.Record.{Record}
-use Rattle.hermes.specs.declared.message.Outgoing.the-variants.{None}
+use Rattle.hermes.specs.declared.message.Outgoing.{Outgoing}
+use Rattle.hermes.specs.declared.message.Outgoing.the-variants.{None, Sent}
 use Rattle.hermes.specs.declared.event.Replica.{Replica}
 use Rattle.hermes.specs.declared.event.Event.{Event}
 use Rattle.hermes.specs.declared.event.Answer.{Answer}
@@ -14,13 +15,17 @@ use Rattle.hermes.specs.Members.{lowest}
 use Rattle.hermes.specs.Record.{freshRecord}
 use Rattle.hermes.specs.Store.{slot, valueAt}
 use Rattle.hermes.specs.Guards.{Question, firstNo, question1, question2, question3, question18, question19}
-use Rattle.hermes.specs.Event.{Effect, effect, readPart, answerOf}
+use Rattle.hermes.specs.Event.{Effect, effect, readPart, leavingBody, answerOf}
 
 -- a laptop of document 01
 pub record Node : Type 0 where
   pub me : Replica
   pub table : List Record
   pub store : List ℕ
+
+-- a replica with the memory lent to it
+abbrev pub lent : Replica → List Record → List ℕ → Node
+lent me table store = record { me = me; table = table; store = store }
 
 -- record i; past the table's end, where question 4 refuses, a fresh one
 abbrev pub recordAt : List Record → ℕ → Record
@@ -32,6 +37,15 @@ recordOf i n = recordAt (n .table) i
 -- the value of record i
 abbrev pub valueOf : ℕ → Node → List ℕ
 valueOf i n = valueAt i (recordOf i n .len) (n .store)
+
+-- the number of the record that a message which left is about
+abbrev pub indexOf : Outgoing → ℕ
+indexOf None = 0
+indexOf (Sent m h) = h .index
+
+-- the bytes that what left takes along, out of the memory that the event left
+abbrev pub leaving : Outgoing → List Record → List ℕ → List ℕ
+leaving out table store = leavingBody out (recordAt table (indexOf out)) store
 
 -- the answer, and the replica with its memory after an event
 pub record Outcome : Type 0 where
@@ -83,11 +97,19 @@ pub record Start : Type 0 where
   pub table : List Record
   pub store : List ℕ
 
+-- a fresh start with so many records and bytes of store: its admission
+abbrev pub admit : ℕ → ℕ → ℕ → ℕ → Admission
+admit number view count bytes = admissionOf (firstNo (startQuestions (newcomer number view) count bytes)) (newcomer number view)
+
+-- 01, fresh start: "both stamps version 0 with the lowest number in the view; that number as last writer"
+abbrev pub firstRecord : ℕ → Record
+firstRecord view = freshRecord (lowest view)
+
 -- 01, fresh start: every record fresh, the store zero
 abbrev pub begin : ℕ → Replica → List Record → List ℕ → Start
 begin zero me table store = record {
   admission = admissionOf zero me;
-  table = replicate (length table) (freshRecord (lowest (me .view)));
+  table = replicate (length table) (firstRecord (me .view));
   store = replicate (length store) 0;
 }
 begin (suc k) me table store = record { admission = admissionOf (suc k) me; table = table; store = store }

@@ -15,7 +15,7 @@ use Rattle.packet.specs.Bytes.{Bytes}
 use Rattle.packet.specs.Entry.{fieldsOf, entryBytes, entryOf, fieldsFor, entriesOf, good, noEntry, AllFit}
 use Rattle.packet.specs.Reading.{walk}
 use Rattle.packet.specs.Writing.{summed, contents, allGood}
-use Rattle.packet.proofs.Tests.{and-elim}
+use Rattle.hermes.proofs.Tests.{both}
 use Rattle.packet.proofs.Entries.{fields-back, drop-entry, length-entry, bytes-back, good-parts, good-offset, message-back, fits-read, sized}
 
 pub length-contents : (es : List Entry) (at : ℕ) → length (contents at es) ≡ 16 * length es
@@ -57,7 +57,7 @@ pub walk-contents : (es : List Entry) (at : ℕ) (rest : List ℕ) → AllFit es
 unfolding walk summed allGood
 walk-contents [] at rest s g h = eq-eqb at (at + 0) (sym (add-zero at))
 walk-contents (e ∷ es) at rest s g h =
-    let gs = and-elim (good (fieldsFor e 0)) (allGood es) g in
+    let gs = both (good (fieldsFor e 0)) (allGood es) g in
     let f = fieldsFor e at in
     let tail = contents (at + e .len) es ++ rest in
     let total = at + (e .len + summed es) in
@@ -73,12 +73,12 @@ pub entry-at : (es : List Entry) (i at : ℕ) (rest : List ℕ) → AllFit es �
 unfolding summed allGood
 entry-at [] i at rest s g h l = absurd (not-suc-le-zero l)
 entry-at (e ∷ es) zero at rest s g h l =
-    let gs = and-elim (good (fieldsFor e 0)) (allGood es) g in
+    let gs = both (good (fieldsFor e 0)) (allGood es) g in
     ap fieldsOf (front e es at rest)
     ∙ fields-back (fieldsFor e at) (contents (at + e .len) es ++ rest) (sized e at (s 0) (gs .0) (omega arith))
     ∙ ap (fieldsFor e) (sym (add-zero at))
 entry-at (e ∷ es) (suc i) at rest s g h l =
-    let gs = and-elim (good (fieldsFor e 0)) (allGood es) g in
+    let gs = both (good (fieldsFor e 0)) (allGood es) g in
     ap fieldsOf
     (sixteen i (contents at (e ∷ es) ++ rest)
     ∙ ap (λ (q : List ℕ). drop (16 * i) (drop 16 q)) (front e es at rest)
@@ -104,8 +104,8 @@ contents-walk (suc n) q at total h b w =
     let f = fieldsOf q in
     let e = entryOf f in
     let es = entriesOf n (drop 16 q) in
-    let s1 = and-elim (good f && eqb (f .offset) at) (walk n (drop 16 q) (at + f .len) total) w in
-    let s2 = and-elim (good f) (eqb (f .offset) at) (s1 .0) in
+    let s1 = both (good f && eqb (f .offset) at) (walk n (drop 16 q) (at + f .len) total) w in
+    let s2 = both (good f) (eqb (f .offset) at) (s1 .0) in
     let same : fieldsFor e at ≡ f = message-back f at (good-parts f (s2 .0)) (eqb-true (f .offset) at (s2 .1)) in
     let r = contents-walk n (drop 16 q) (at + f .len) total (simp length-drop (omega arith)) (bytes-drop 16 q b) (s1 .1) in (
       append-assoc (entryBytes (fieldsFor e at)) (contents (at + f .len) es) (drop (16 * suc n) q)

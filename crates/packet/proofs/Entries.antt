@@ -14,7 +14,7 @@ use Rattle.packet.specs.declared.entry.Entry.{Entry}
 use Rattle.packet.specs.declared.entry.Fields.{Fields}
 use Rattle.packet.specs.Bytes.{window, Bytes}
 use Rattle.packet.specs.Entry.{fieldsOf, entryBytes, kindOf, timestampOf, messageOf, entryOf, fieldsFor, bodied, good, Fits}
-use Rattle.packet.proofs.Tests.{and-elim}
+use Rattle.hermes.proofs.Tests.{both}
 use Rattle.packet.proofs.Width.{num-be, window-drop, be-window, window-lt}
 
 -- the fields fit their widths
@@ -78,12 +78,12 @@ pub record Good (f : Fields) : Type 0 where
 pub good-parts : (f : Fields) → good f ≡ true → Good f
 unfolding good
 good-parts f h =
-    let s6 = and-elim _ (bodied f) h in
-    let s5 = and-elim _ (leb (f .len) 192) (s6 .0) in
-    let s4 = and-elim _ (leb (f .index) 4095) (s5 .0) in
-    let s3 = and-elim _ (leb (f .tie) 15) (s4 .0) in
-    let s2 = and-elim _ (leb (f .sender) 15) (s3 .0) in
-    let s1 = and-elim (leb 1 (f .kind)) (leb (f .kind) 3) (s2 .0) in
+    let s6 = both _ (bodied f) h in
+    let s5 = both _ (leb (f .len) 192) (s6 .0) in
+    let s4 = both _ (leb (f .index) 4095) (s5 .0) in
+    let s3 = both _ (leb (f .tie) 15) (s4 .0) in
+    let s2 = both _ (leb (f .sender) 15) (s3 .0) in
+    let s1 = both (leb 1 (f .kind)) (leb (f .kind) 3) (s2 .0) in
     record { low = leb-true _ _ (s1 .0); high = leb-true _ _ (s1 .1); index = leb-true _ _ (s4 .1) }
 
 -- an offset is no part of `good`

@@ -5,4 +5,3 @@ pub mod Writing
 pub mod Entries
 pub mod Contents
 pub mod RoundTrip
-pub mod Vector

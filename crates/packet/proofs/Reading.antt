@@ -15,7 +15,7 @@ use Rattle.packet.specs.declared.answer.Fetched.the-variants.{Found, Ref
 use Rattle.packet.specs.Bytes.{num, window}
 use Rattle.packet.specs.Entry.{fieldsOf, entryOf, good}
 use Rattle.packet.specs.Reading.{countOf, entryAt, question20, question22, walk, fetchRefusal, fetchedAs, fetched, numberOf}
-use Rattle.packet.proofs.Tests.{and-elim}
+use Rattle.hermes.proofs.Tests.{both}
 
 -- a part to the end is what is left after the start
 pub part-to-end : (p : List ℕ) (a : ℕ) → take (length p - a) (drop a p) ≡ drop a p
@@ -70,11 +70,11 @@ pub record Header (p : List ℕ) : Type 0 where
 
 pub header : (p : List ℕ) → question20 p .yes ≡ true → Header p
 header p h =
-    let s5 = and-elim _ (leb (length p) 1400) h in
-    let s4 = and-elim _ (eqb (num (window p 2 2)) (length p)) (s5 .0) in
-    let s3 = and-elim _ (leb (countOf p) 64) (s4 .0) in
-    let s2 = and-elim _ (leb 1 (countOf p)) (s3 .0) in
-    let s1 = and-elim (leb 4 (length p)) (eqb (getD p 0 0) 1) (s2 .0) in
+    let s5 = both _ (leb (length p) 1400) h in
+    let s4 = both _ (eqb (num (window p 2 2)) (length p)) (s5 .0) in
+    let s3 = both _ (leb (countOf p) 64) (s4 .0) in
+    let s2 = both _ (leb 1 (countOf p)) (s3 .0) in
+    let s1 = both (leb 4 (length p)) (eqb (getD p 0 0) 1) (s2 .0) in
     record {
       long = leb-true _ _ (s1 .0);
       first = eqb-true _ _ (s1 .1);

@@ -10,7 +10,7 @@ use lib.ListN.{length, take}
 use Rattle.packet.specs.declared.entry.Entry.{Entry}
 use Rattle.packet.specs.declared.answer.Written.the-variants.{Total}
 use Rattle.packet.specs.Writing.{summed, totalOf, allGood, question24, question25, writeRefusal, writtenAs, written, numberOf}
-use Rattle.packet.proofs.Tests.{and-elim}
+use Rattle.hermes.proofs.Tests.{both}
 
 -- the parts of questions 24 and 25
 pub record Accepts (ms : List Entry) (count : ℕ) (bodies : List ℕ) (room : ℕ) : Type 0 where
@@ -35,10 +35,10 @@ module _ (ms : List Entry) (count : ℕ) (bodies : List ℕ) (room : ℕ) where
   unfolding writeRefusal
   accepts h =
       let s = both-passed (question24 ms count bodies .yes) (question25 count bodies room .yes) h in
-      let s3 = and-elim _ (eqb (summed (take count ms)) (length bodies)) (s .0) in
-      let s2 = and-elim _ (allGood (take count ms)) (s3 .0) in
-      let s1 = and-elim (leb 1 count) (leb count 64) (s2 .0) in
-      let t = and-elim (leb (totalOf count bodies) 1400) (leb (totalOf count bodies) room) (s .1) in
+      let s3 = both _ (eqb (summed (take count ms)) (length bodies)) (s .0) in
+      let s2 = both _ (allGood (take count ms)) (s3 .0) in
+      let s1 = both (leb 1 count) (leb count 64) (s2 .0) in
+      let t = both (leb (totalOf count bodies) 1400) (leb (totalOf count bodies) room) (s .1) in
       record {
         some = leb-true _ _ (s1 .0);
         few = leb-true _ _ (s1 .1);

@@ -14,7 +14,7 @@ use Rattle.packet.specs.Bytes.{be}
 use Rattle.packet.specs.Entry.{fieldsFor, entryBytes, good, noEntry}
 use Rattle.packet.specs.Reading.{entryAt}
 use Rattle.packet.specs.Writing.{summed, contents, totalOf, encode, allGood}
-use Rattle.packet.proofs.Tests.{and-elim}
+use Rattle.hermes.proofs.Tests.{both}
 use Rattle.packet.proofs.Entries.{good-parts}
 use Rattle.packet.proofs.Contents.{length-contents}
 use Rattle.packet.proofs.RoundTrip.{length-encode}
@@ -33,7 +33,7 @@ unfolding allGood
 good-more [] k h a g = absurd (not-suc-le-zero h)
 good-more (m ∷ ms) zero h a g = rw g
 good-more (m ∷ ms) (suc k) h a g =
-    let s = and-elim (good (fieldsFor m 0)) (allGood (take k ms)) a in
+    let s = both (good (fieldsFor m 0)) (allGood (take k ms)) a in
     rw (s .0) (good-more ms k (le-of-suc-le-suc h) (s .1) g)
 
 -- a bad message among them
@@ -49,9 +49,9 @@ good-at : (ms : List Entry) (k n : ℕ) → k < n → n ≤ length ms → allGoo
 unfolding allGood
 good-at ms k zero h l a = absurd (not-suc-le-zero h)
 good-at [] k (suc n) h l a = absurd (not-suc-le-zero l)
-good-at (m ∷ ms) zero (suc n) h l a = and-elim (good (fieldsFor m 0)) (allGood (take n ms)) a .0
+good-at (m ∷ ms) zero (suc n) h l a = both (good (fieldsFor m 0)) (allGood (take n ms)) a .0
 good-at (m ∷ ms) (suc k) (suc n) h l a =
-    good-at ms k n (le-of-suc-le-suc h) (le-of-suc-le-suc l) (and-elim (good (fieldsFor m 0)) (allGood (take n ms)) a .1)
+    good-at ms k n (le-of-suc-le-suc h) (le-of-suc-le-suc l) (both (good (fieldsFor m 0)) (allGood (take n ms)) a .1)
 
 -- ---- the first loop
 

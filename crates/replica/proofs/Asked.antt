@@ -10,16 +10,18 @@ use borrow.Author.Tests.{ltb-true}
 use Rattle.hermes.specs.declared.record.Record.{Record}
 use Rattle.hermes.specs.declared.event.Moved.{Moved}
 use Rattle.hermes.specs.declared.event.Answer.the-variants as answer
+use Rattle.hermes.specs.declared.event.Admission.the-variants as admission
 use Rattle.hermes.specs.declared.event.Replica.{Replica}
 use Rattle.hermes.specs.declared.event.Event.{Event}
 use Rattle.hermes.specs.Guards.{Question, firstNo}
 use Rattle.hermes.specs.declared.event.Event.the-variants.{Read, Write, Replay, Deliver, Validate, Resend}
 use Rattle.hermes.specs.Event.{Step, kept, partOf, common, own, refusal, movedBy, storedBy, storing, decide, moved, effect, readStep, replayStep, validateStep, resendStep}
+use Rattle.hermes.specs.Node.{admissionOf}
 use Rattle.hermes.proofs.Tests.{both}
 use Rattle.hermes.proofs.Guards.{positive, positive-own}
 use Rattle.replica.specs.declared.guards.Asked.{Asked}
 use Rattle.replica.specs.declared.guards.Asked.the-variants.{Passed, Refused}
-use Rattle.replica.specs.Asked.{asked, next, stoppedBy}
+use Rattle.replica.specs.Asked.{asked, next, stoppedBy, admissionBy}
 
 never : {r : Record} {k : ℕ} → Passed r ≡ Refused k → ⊥
 never e = let z : _≡_ {A = ℕ} 0 1 = cc in omega arith
@@ -76,6 +78,20 @@ refused-first (q ∷ qs) r k p e = go (q .yes) (refused-first qs r k (both (ltb 
         → (cond b (firstNo qs) (q .number) ≡ k) × (0 < k)
     go true rest h = rest h
     go false rest h = (the-number h, rw (the-number h) at (ltb-true 0 (q .number) (both (ltb 0 (q .number)) (positive qs) p .0)))
+
+-- ---- what an admission comes to, by what its questions answered
+
+refused-admission : (k : ℕ) (me : Replica) → 0 < k → admission.Refused k ≡ admissionOf k me
+refused-admission zero me l = absurd (omega arith)
+refused-admission (suc k) me l = refl
+
+pub admits : (qs : List Question) (r : Record) (me : Replica) → positive qs ≡ true → admissionBy (asked qs r) me ≡ admissionOf (firstNo qs) me
+admits [] r me p = refl
+admits (q ∷ qs) r me p = go (q .yes) (admits qs r me (both (ltb 0 (q .number)) (positive qs) p .1))
+  where
+    go : (b : Bool) → admissionBy (asked qs r) me ≡ admissionOf (firstNo qs) me → admissionBy (next b (asked qs r) (q .number)) me ≡ admissionOf (cond b (firstNo qs) (q .number)) me
+    go true rest = rest
+    go false rest = refused-admission (q .number) me (ltb-true 0 (q .number) (both (ltb 0 (q .number)) (positive qs) p .0))
 
 -- ---- what an event comes to, by what its questions answered
 

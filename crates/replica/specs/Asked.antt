@@ -6,6 +6,9 @@ use Rattle.hermes.specs.declared.record.Record.{Record}
 use Rattle.hermes.specs.declared.message.Outgoing.the-variants.{None}
 use Rattle.hermes.specs.declared.event.Moved.{Moved}
 use Rattle.hermes.specs.declared.event.Answer.the-variants as answer
+use Rattle.hermes.specs.declared.event.Replica.{Replica}
+use Rattle.hermes.specs.declared.event.Admission.{Admission}
+use Rattle.hermes.specs.declared.event.Admission.the-variants as admission
 use Rattle.hermes.specs.Guards.{Question}
 use Rattle.replica.specs.declared.guards.Asked.{Asked}
 use Rattle.replica.specs.declared.guards.Asked.the-variants.{Passed, Refused}
@@ -24,3 +27,8 @@ asked (q ∷ qs) r = next (q .yes) (asked qs r) (q .number)
 abbrev pub stoppedBy : Asked → Record → Moved
 stoppedBy (Refused k) r = record { answer = answer.Refused k; after = r }
 stoppedBy (Passed p) r = record { answer = answer.Accepted None; after = r }
+
+-- an admission: the identity after a yes to every question, the number after a no
+abbrev pub admissionBy : Asked → Replica → Admission
+admissionBy (Refused k) me = admission.Refused k
+admissionBy (Passed r) me = admission.Admitted me

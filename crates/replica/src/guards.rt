@@ -2,7 +2,8 @@
 ghost use mathlib.Core.Path.{_≡_};
 ghost use mathlib.Core.List.{[], _∷_};
 ghost use Rattle.hermes.specs.Event.{common, ofKind};
-ghost use Rattle.hermes.specs.Guards.{ask, question1, question2, question3, question4, question5, question6, question7, question8, question9, question10, question11, question12, question13, question14, question15, question16, question17};
+ghost use Rattle.hermes.specs.Guards.{ask, question1, question2, question3, question4, question5, question6, question7, question8, question9, question10, question11, question12, question13, question14, question15, question16, question17, question18, question19};
+ghost use Rattle.hermes.specs.Node.{startQuestions};
 ghost use Rattle.replica.specs.Asked.{asked, stoppedBy};
 use crate::members;
 use crate::states;
@@ -91,9 +92,9 @@ pub(crate) fn question5(me: Replica, r: Record) -> Asked
     )
 }
 
-// Questions 1 to 5, of every event.
-pub(crate) fn every(me: Replica, count: usize, bytes: usize, i: usize, r: Record) -> Asked
-    ensures { λ a. ⌜ a ≡ asked (common me count bytes i r []) r ⌝ }
+// Questions 1 to 3, of a fresh start.
+pub(crate) fn at_start(me: Replica, count: usize, bytes: usize, r: Record) -> Asked
+    ensures { λ a. ⌜ a ≡ asked (startQuestions me count bytes) r ⌝ }
 {
     let a = question1(me, r);
     let Asked::Passed(r1) = a else {
@@ -103,15 +104,22 @@ pub(crate) fn every(me: Replica, count: usize, bytes: usize, i: usize, r: Record
     let Asked::Passed(r2) = b else {
         return b;
     };
-    let c = question3(me, r2);
-    let Asked::Passed(r3) = c else {
-        return c;
+    question3(me, r2)
+}
+
+// Questions 1 to 5, of every event.
+pub(crate) fn every(me: Replica, count: usize, bytes: usize, i: usize, r: Record) -> Asked
+    ensures { λ a. ⌜ a ≡ asked (common me count bytes i r []) r ⌝ }
+{
+    let a = at_start(me, count, bytes, r);
+    let Asked::Passed(r1) = a else {
+        return a;
     };
-    let d = question4(i, count, r3);
-    let Asked::Passed(r4) = d else {
-        return d;
+    let b = question4(i, count, r1);
+    let Asked::Passed(r2) = b else {
+        return b;
     };
-    question5(me, r4)
+    question5(me, r2)
 }
 
 pub(crate) fn question6(r: Record) -> Asked
@@ -223,4 +231,18 @@ pub(crate) fn question17(me: Replica, r: Record) -> Asked
     let pending = states::is_pending(s);
     let valid = states::is_valid(s);
     question(17, pending | (valid & (r.writer == me.number)), r)
+}
+
+pub(crate) fn question18(me: Replica, epoch: u32, r: Record) -> Asked
+    ensures { λ a. ⌜ a ≡ asked (question18 me epoch ∷ []) r ⌝ }
+{
+    question(18, me.epoch < epoch, r)
+}
+
+pub(crate) fn question19(me: Replica, view: u16, r: Record) -> Asked
+    ensures { λ a. ⌜ a ≡ asked (question19 me view ∷ []) r ⌝ }
+{
+    let inside = members::within(view, me.view);
+    let two = members::plural(view);
+    question(19, inside & two, r)
 }

@@ -1,5 +1,6 @@
 -- `replica::delivery::take_inv` meets its contract.
-use mathlib.Core.Path.{_∙_}
+use Rattle.hermes.specs.declared.event.Answer.the-variants.{Accepted}
+use mathlib.Core.Path.{ap, _∙_}
 use borrow.Author.Needs.{needs}
 use Rattle.replica.proofs.delivery.take_inv.Statement.{statement}
 use Rattle.replica.proofs.delivery.take_inv.Tie as tie
@@ -26,7 +27,10 @@ returns : tie.Need-returns
 returns c = (rw (c .before .before .before .before .before .before .before .send .ensures, c .take-invalidation .ensures, ← c .before .before .before .before .before .before .later .ensures, c .before .before .before .before .before .if1 .taken), c .before .before .before .place .ensures ∙ rw (← c .before .before .before .before .before .before .later .ensures, c .before .before .before .before .before .if1 .taken))
 
 returns-2 : tie.Need-returns-2
-returns-2 c = (rw (c .before .before .send .ensures, ← c .before .later .ensures, c .if1 .left), rw (← c .before .later .ensures, c .if1 .left))
+returns-2 c = (
+  ap (λ o. record { answer = Accepted o; after = c .before .before .before .before .before .args .r }) (c .before .before .send .ensures) ∙ rw (← c .before .later .ensures, c .if1 .left),
+  rw (← c .before .later .ensures, c .if1 .left),
+)
 
 pub take-inv-spec : {M : Type 1} → statement M
 take-inv-spec =

@@ -1,9 +1,9 @@
--- `inbox::deliver_packet` meets its contract.
+-- `inbox::one::deliver_packet` meets its contract.
 use Rattle.inbox.specs.Arrival.{arrival}
 use mathlib.Core.Path.{refl}
 use borrow.Author.Needs.{needs}
-use Rattle.inbox.proofs.deliver_packet.Statement.{statement}
-use Rattle.inbox.proofs.deliver_packet.Tie as tie
+use Rattle.inbox.proofs.one.deliver_packet.Statement.{statement}
+use Rattle.inbox.proofs.one.deliver_packet.Tie as tie
 
 fetch-requires : tie.Need-fetch-requires
 fetch-requires c κs = search needs

@@ -1,0 +1,4 @@
+-- What the proofs share.
+pub mod Walk
+pub mod RecordAt
+pub mod Filling

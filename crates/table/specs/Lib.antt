@@ -1,0 +1,2 @@
+-- What the covered parts of the crate are to do.
+pub mod Filling
