@@ -3,5 +3,4 @@ pub mod Printing
 pub mod Clusters
 pub mod Turns
 pub mod Games
-pub mod Views
 pub mod Agreeing

@@ -1,6 +1,5 @@
 // The playing program as a library: what a script prints.
 mod cluster;
-mod engine;
 mod game;
 mod print;
 mod turn;

@@ -14,7 +14,6 @@ ghost use Rattle.player.specs.Cluster.{nodeOf, logOf, groupOf, resultOf,
 use crate::cluster::Cluster;
 use crate::cluster::Envelope;
 use crate::cluster::Member;
-use crate::engine;
 use crate::print;
 use crate::print::Left;
 use hermes::Admission;
@@ -93,7 +92,7 @@ fn view(m: Member, epoch: u32, set: u16) -> Judged
     let me = m.me;
     let held = m.held;
     let store = m.store;
-    let a = engine::view(me, epoch, set);
+    let a = replica::view(me, epoch, set);
     match a {
         Admission::Admitted(next) => Judged {
             known: true,
