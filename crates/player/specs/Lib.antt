@@ -1,0 +1,5 @@
+-- What the playing program prints (01, "The playing program").
+pub mod Print
+pub mod Play
+pub mod Cluster
+pub mod Agreed

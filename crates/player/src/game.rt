@@ -1,0 +1,70 @@
+// A whole script.
+ghost use mathlib.Core.Path.{_≡_};
+ghost use Prim.Native.Nat.{_+_, _*_, _≤_, _<_};
+ghost use lib.ListN.{length, drop};
+ghost use Rattle.script.specs.Text.{lines};
+ghost use Rattle.player.specs.Print.{Put};
+ghost use Rattle.player.specs.Play.{freshGroup, prints, printed, answerOf, outputOf};
+use crate::cluster::Cluster;
+use crate::print;
+use crate::turn;
+use script::Size;
+
+const LINE_FEED: u8 = b'\n';
+
+// The most bytes of an input, and of an answer line.
+const INPUT_MAX: usize = 65536;
+
+const LINE_MAX: usize = 25;
+
+// How many bytes were printed; refused where the input is too long, or the output too short for what an input of its length could print.
+pub enum Played {
+    Printed(usize),
+    Refused,
+}
+
+// Room for the bodies of the log.
+fn space() -> [u8; 49152]
+    ensures { λ r. ⌜ 49152 ≡ length r ⌝ }
+{
+    [0; 49152]
+}
+
+// The lines from index `from` on, played by a group of this many that has just started.
+fn play_lines(count: usize, input: &[u8], from: usize, bodies: &mut [u8], out: &mut [u8]) -> usize
+    requires { ⌜ (count < 5) × (length (now input) ≤ 65536) × (length (now bodies) ≡ 49152) × (25 * length (now input) ≤ length (now out)) ⌝ }
+    ensures { λ r. ⌜ Put (prints count (freshGroup count) (lines (drop from (now (input .entry))))) 0 (now (out .entry)) r (now (out .exit)) ⌝ }
+{
+    let mut c = Cluster::fresh(count);
+    let mut pos = from;
+    let mut at = 0;
+    while pos < input.len() {
+        let end = bytes::scan::find(input, pos, input.len(), LINE_FEED);
+        let t = turn::turn(c, &input[pos..end], bodies, out, at);
+        c = t.cluster;
+        at = t.at;
+        pos = end + 1;
+    }
+    at
+}
+
+// Plays a script: what it prints stands at the front of the output.
+pub fn play(input: &[u8], out: &mut [u8]) -> Played
+    ensures { λ r. ⌜ (r ≡ answerOf (now (input .entry)) (length (now (out .entry)))) × (now (out .exit) ≡ outputOf (now (input .entry)) (now (out .entry))) ⌝ }
+{
+    if INPUT_MAX < input.len() {
+        return Played::Refused;
+    }
+    if out.len() < LINE_MAX * input.len() + 2 {
+        return Played::Refused;
+    }
+    let end = bytes::scan::find(input, 0, input.len(), LINE_FEED);
+    let size = script::group_size(&input[..end]);
+    let Size::Of(count) = size else {
+        let to = print::put_unknown(out, 0);
+        return Played::Printed(to);
+    };
+    let mut bodies = space();
+    let to = play_lines(count, input, end + 1, &mut bodies, out);
+    Played::Printed(to)
+}

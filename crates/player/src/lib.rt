@@ -1,0 +1,8 @@
+// The playing program as a library: what a script prints.
+mod cluster;
+mod game;
+mod print;
+mod turn;
+
+pub use game::Played;
+pub use game::play;

@@ -1,0 +1,3 @@
+-- What the lines of a script mean (01, "The playing program").
+pub mod Text
+pub mod Command

@@ -1,0 +1,11 @@
+// The script of the playing program: what a line asks for.
+mod command;
+mod line;
+mod number;
+
+pub use command::Command;
+pub use command::Line;
+pub use line::Size;
+pub use line::group_size;
+pub use line::parse;
+pub use line::text;
