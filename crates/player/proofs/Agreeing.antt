@@ -1,21 +1,20 @@
 -- The group that is played is a run of the fresh group's entries, each of a laptop of the group and with the view issued, so agreement holds of it.
-use mathlib.Core.Path.{_≡_, refl, sym, ap, _∙_, subst}
+use mathlib.Core.Path.{_≡_, refl, sym, ap, _∙_}
 use mathlib.Core.Bool.{Bool, true, false, cond}
 use mathlib.Core.List.{List, [], _∷_, _++_}
-use Prim.Native.Nat.{ℕ, zero, suc, _+_, _-_, _^_, _≤_, _<_}
+use Prim.Native.Nat.{ℕ, zero, suc, _-_, _^_, _≤_, _<_}
 use native.Mathlib.Omega.{arith}
 use borrow.Author.Tests.{ltb-true}
 use lib.Dec.{ltb}
 use lib.ListN.{length, replicate}
 use Rattle.hermes.specs.declared.event.Admission.the-variants.{Admitted}
-use Rattle.hermes.specs.declared.message.Outgoing.{Outgoing}
 use Rattle.hermes.specs.Members.{has, size, lowest}
 use Rattle.hermes.specs.Order.{higher}
 use Rattle.hermes.specs.Record.{freshRecord}
 use Rattle.hermes.specs.Event.{sentBy}
-use Rattle.hermes.specs.Node.{Node, newcomer, Start, start}
-use Rattle.hermes.specs.Run.{Action, Entry, Group, Result, nothing, event, result, run}
-use Rattle.hermes.specs.Agreement.{FreshStart, Started, AsIssued, Entries, Agreement}
+use Rattle.hermes.specs.Node.{newcomer, Start, start}
+use Rattle.hermes.specs.Run.{Entry, Group, Result, nothing, event, result, run}
+use Rattle.hermes.specs.Agreement.{Started, AsIssued, Entries}
 use Rattle.hermes.proofs.Agreement.{agreement}
 use Rattle.script.specs.Command.{lineOf, textOf}
 use Rattle.script.specs.declared.command.Command.{Command}

@@ -1,31 +1,29 @@
 -- The cluster of the code read as a group: the fresh one, one member put back, one message more.
-use mathlib.Core.Path.{_≡_, refl, sym, ap, _∙_, subst}
+use mathlib.Core.Path.{_≡_, refl, sym, ap, _∙_}
 use mathlib.Core.Bool.{Bool, true, false, cond}
-use mathlib.Core.Logic.{_≢_}
 use mathlib.Core.List.{List, [], _∷_, _++_, append-assoc}
-use Prim.Native.Nat.{ℕ, zero, suc, _+_, _-_, _*_, _/_, _%_, _^_, _≤_, _<_}
+use Prim.Native.Nat.{ℕ, zero, suc, _+_, _-_, _*_, _%_, _^_, _≤_, _<_}
 use native.Mathlib.Nat.{one-mul, not-suc-le-zero}
 use native.Mathlib.Numerals.{add-one}
 use native.Mathlib.Omega.{arith}
-use borrow.Author.Tests.{lt-ltb, le-ltb, ltb-true, ltb-false, eq-eqb, ne-eqb, eqb-true, eqb-false}
+use borrow.Author.Tests.{lt-ltb, ltb-true, ltb-false, eqb-true, eqb-false}
 use lib.Dec.{lit<, ltb, eqb}
 use lib.Pow.{shl-exact, pow-pos}
-use lib.ListN.{length, take, drop, getD, set, replicate, length-set, length-append, length-take, length-drop, take-append-drop}
+use lib.ListN.{length, take, drop, getD, set, replicate, length-set, length-append, length-drop, take-append-drop}
 use lib.Seq.{paste, length-take-le, getD-set-same, getD-set-other, take-append-le, drop-append-le, drop-at, take-at, take-length, length-paste}
 use Rattle.hermes.specs.declared.message.Message.{Message}
 use Rattle.hermes.specs.declared.message.Header.{Header}
-use Rattle.hermes.specs.declared.message.Outgoing.the-variants.{None, Sent}
+use Rattle.hermes.specs.declared.message.Outgoing.the-variants.{Sent}
 use Rattle.hermes.specs.declared.record.Record.{Record}
 use Rattle.hermes.specs.Record.{freshRecord}
 use Rattle.hermes.specs.Store.{valueAt}
 use Rattle.hermes.specs.Event.{bodyOf, leavingBody}
-use Rattle.hermes.specs.Node.{Node}
-use Rattle.hermes.specs.Run.{Logged, Group, Found, missing, found, find, logged}
+use Rattle.hermes.specs.Run.{Logged, missing, found, find, logged}
 use Rattle.player.specs.declared.cluster.Member.{Member}
 use Rattle.player.specs.declared.cluster.Envelope.{Envelope}
 use Rattle.player.specs.declared.cluster.Cluster.{Cluster}
 use Rattle.player.specs.Play.{freshNode}
-use Rattle.player.specs.Cluster.{noMember, noEnvelope, nodeOf, loggedAt, upTo, logOf, groupOf, freshIn, freshMember, freshCluster, placed, pushed, envelopeOf, kept, Sized, Sound}
+use Rattle.player.specs.Cluster.{noMember, noEnvelope, nodeOf, loggedAt, upTo, logOf, groupOf, freshIn, freshCluster, placed, pushed, envelopeOf, kept, Sized, Sound}
 
 -- ---- the fresh cluster
 

@@ -1,30 +1,27 @@
 -- A script line by line: what is still to be printed after a line is what its rest prints.
 use mathlib.Core.Path.{_≡_, refl, sym, ap, _∙_}
-use mathlib.Core.Bool.{Bool, true, false, cond, _&&_}
+use mathlib.Core.Bool.{cond}
 use mathlib.Core.List.{List, [], _∷_, _++_}
 use Prim.Native.Nat.{ℕ, zero, suc, _+_, _-_, _*_, _≤_, _<_}
 use native.Mathlib.Nat.{zero-add}
 use native.Mathlib.Omega.{arith}
 use borrow.Author.Tests.{le-ltb, le-leb, lt-leb}
-use lib.Dec.{ltb, leb}
+use lib.Dec.{ltb}
 use lib.ListN.{length, take, drop, getD, replicate, length-append, length-drop, drop-of-length-le, length-replicate}
 use lib.Seq.{sets, take-length, drop-drop, take-nil}
 use Rattle.bytes.specs.Bytes.{indexOf, slice}
 use Rattle.script.specs.Text.{lines}
 use Rattle.script.specs.Command.{sizeOf}
 use Rattle.script.specs.declared.line.Size.{Size}
-use Rattle.script.specs.declared.line.Size.the-variants.{Of, Wrong}
 use Rattle.script.proofs.Lines.{lines-step}
 use Rattle.script.proofs.Words.{find-is, size-empty}
-use Rattle.hermes.specs.Node.{Node}
 use Rattle.hermes.specs.Run.{Group}
 use Rattle.player.specs.declared.cluster.Envelope.{Envelope}
 use Rattle.player.specs.declared.cluster.Cluster.{Cluster}
 use Rattle.player.specs.declared.turn.Turned.{Turned}
-use Rattle.player.specs.declared.game.Played.{Played}
 use Rattle.player.specs.declared.game.Played.the-variants.{Printed, Refused}
-use Rattle.player.specs.Print.{Put, unknownLine}
-use Rattle.player.specs.Play.{freshNode, freshGroup, turn, after, prints, begun, opened, printed, playable, answerOf, outputOf}
+use Rattle.player.specs.Print.{Put}
+use Rattle.player.specs.Play.{freshNode, freshGroup, turn, after, prints, begun, opened, printed, answerOf, outputOf}
 use Rattle.player.specs.Cluster.{noMember, noEnvelope, nodeOf, upTo, logOf, groupOf, freshMember, freshCluster, Sound, TurnIs}
 use Rattle.player.proofs.Printing.{sets-append-at}
 

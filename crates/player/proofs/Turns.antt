@@ -1,14 +1,13 @@
 -- What the code makes of an entry is what the run makes of it.
 use mathlib.Core.Path.{_≡_, refl, sym, ap, _∙_, subst}
 use mathlib.Core.Bool.{Bool, true, false, cond}
-use mathlib.Core.List.{List, [], _∷_, _++_}
+use mathlib.Core.List.{List, [], _∷_}
 use Prim.Native.Nat.{ℕ, zero, suc, _+_, _-_, _*_, _≤_, _<_}
 use native.Mathlib.Nat.{not-suc-le-zero}
 use native.Mathlib.Omega.{arith}
 use borrow.Author.Tests.{lt-ltb, le-ltb}
-use lib.Dec.{ltb, eqb}
+use lib.Dec.{eqb}
 use lib.ListN.{length, getD, take, drop, length-take, length-drop}
-use lib.Seq.{length-take-le}
 use Rattle.hermes.specs.declared.timestamp.Timestamp.{Timestamp}
 use Rattle.hermes.specs.declared.record.Record.{Record}
 use Rattle.hermes.specs.declared.record.State.{State}
@@ -26,10 +25,9 @@ use Rattle.hermes.specs.declared.event.Answer.the-variants as answer
 use Rattle.hermes.specs.declared.event.Admission.{Admission}
 use Rattle.hermes.specs.declared.event.Admission.the-variants as admission
 use Rattle.hermes.specs.Order.{higher, later}
-use Rattle.hermes.specs.Store.{valueAt}
-use Rattle.hermes.specs.Event.{step, invStep, resent, deliverStep, refusal, movedBy, effect, answerOf, sentBy, bodyOf, leavingBody}
-use Rattle.hermes.specs.Node.{Node, Outcome, apply, view, viewed, admissionOf, admissionNumber, identity}
-use Rattle.hermes.specs.Run.{Entry, Group, Result, nothing, event, Found, found, missing, find, received, delivery, perform, logged, logAfter, nodeAfter, result, advance, run}
+use Rattle.hermes.specs.Event.{step, invStep, resent, deliverStep, refusal, movedBy, effect, answerOf, sentBy, leavingBody}
+use Rattle.hermes.specs.Node.{Outcome, apply, view, viewed, admissionOf, admissionNumber, identity}
+use Rattle.hermes.specs.Run.{Entry, Group, Result, nothing, event, Found, find, received, delivery, perform, logged, logAfter, nodeAfter, result, advance, run}
 use Rattle.player.specs.declared.cluster.Member.{Member}
 use Rattle.player.specs.declared.cluster.Envelope.{Envelope}
 use Rattle.player.specs.declared.turn.Judged.{Judged}

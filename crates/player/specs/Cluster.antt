@@ -1,7 +1,7 @@
 -- How the cluster that the code holds by value, with the lent bytes of the bodies, is read as a group of the run.
 use Prim.Native.Nat.{ℕ, zero, suc, _+_, _-_, _*_, _^_, _≤_}
 use mathlib.Core.Path.{_≡_}
-use mathlib.Core.Bool.{Bool, true, false, cond}
+use mathlib.Core.Bool.{cond}
 use mathlib.Core.List.{List, [], _∷_, _++_}
 use lib.ListN.{length, take, drop, getD, set, replicate}
 use lib.Dec.{ltb, eqb}
@@ -21,7 +21,7 @@ use Rattle.player.specs.declared.cluster.Cluster.{Cluster}
 use Rattle.player.specs.declared.turn.Judged.{Judged}
 use Rattle.player.specs.declared.turn.Turned.{Turned}
 use Rattle.player.specs.Print.{Put}
-use Rattle.player.specs.Play.{freshNode, hasRoom, reply, Turn, turn, after}
+use Rattle.player.specs.Play.{freshNode, hasRoom}
 
 -- what an index past the end of an array stands for
 abbrev pub noMember : Member

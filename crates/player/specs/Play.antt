@@ -1,6 +1,6 @@
 -- The playing program (01): a script is played on the run of a group that agreement is proved of.
 use Prim.Native.Nat.{ℕ, _+_, _-_, _*_, _^_}
-use mathlib.Core.Bool.{Bool, true, false, cond, _&&_}
+use mathlib.Core.Bool.{Bool, true, cond, _&&_}
 use mathlib.Core.List.{List, [], _∷_, _++_}
 use lib.ListN.{length, replicate}
 use lib.Dec.{ltb, leb}
@@ -10,8 +10,8 @@ use Rattle.hermes.specs.declared.message.Outgoing.the-variants.{None, Sent}
 use Rattle.hermes.specs.Order.{higher}
 use Rattle.hermes.specs.Record.{freshRecord}
 use Rattle.hermes.specs.Event.{numberOf, sentBy}
-use Rattle.hermes.specs.Node.{Node, Outcome, recordOf, newcomer}
-use Rattle.hermes.specs.Run.{Logged, Action, read, write, replay, deliver, validate, resend, view, Entry, Group, Result, nothing, event, result, run}
+use Rattle.hermes.specs.Node.{Node, recordOf, newcomer}
+use Rattle.hermes.specs.Run.{Action, read, write, replay, deliver, validate, resend, view, Entry, Group, Result, nothing, event, result, run}
 use Rattle.script.specs.Text.{lines}
 use Rattle.script.specs.Command.{lineOf, textOf, sizeOf}
 use Rattle.script.specs.declared.command.Command.{Command}

@@ -1,6 +1,6 @@
 -- The commands of a script (01, "A line is `read`, `validate`, `replay` or `resend` with a laptop, or `write` with laptop and text, or ..").
 use Prim.Native.Nat.{ℕ, _+_, _<_}
-use mathlib.Core.Bool.{Bool, true, false, cond, _&&_}
+use mathlib.Core.Bool.{Bool, cond, _&&_}
 use mathlib.Core.List.{List, [], _∷_}
 use lib.ListN.{length, take, drop}
 use lib.Dec.{ltb, leb}
@@ -8,7 +8,6 @@ use Rattle.bytes.specs.Bytes.{indexOf}
 use Rattle.script.specs.Text.{numberOf, same}
 use Rattle.script.specs.declared.number.Number.{Number}
 use Rattle.script.specs.declared.number.Number.the-variants.{Value, NotANumber}
-use Rattle.script.specs.declared.command.Command.{Command}
 use Rattle.script.specs.declared.command.Command.the-variants as command
 use Rattle.script.specs.declared.command.Line.{Line}
 use Rattle.script.specs.declared.command.Line.the-variants as line

@@ -1,4 +1,4 @@
--- Refused before anything is printed; else line one, and the lines after it.
+-- `player::game::play` meets its contract. Refused before anything is printed; else line one, and the lines after it.
 use Prim.Native.Nat.{_+_}
 use Rattle.player.proofs.Games.{all-played, first-line, too-long, too-short}
 use Rattle.player.specs.Play.{begun}

@@ -1,4 +1,4 @@
--- The loop prints what is left of the script: the bytes so far and what the rest prints are what the whole prints.
+-- `player::game::play_lines` meets its contract. The loop prints what is left of the script: the bytes so far and what the rest prints are what the whole prints.
 use Prim.Native.Nat.{_*_, _+_, _-_, _≤_}
 use Rattle.player.proofs.Games.{again-length, again-text, fresh-prints, fresh-sound, next-line, no-line}
 use Rattle.player.specs.Cluster.{Sound, groupOf, kept}

@@ -1,4 +1,4 @@
--- The digits but the last are printed by the call on a tenth of the number, which is smaller.
+-- `player::print::put_decimal` meets its contract. The digits but the last are printed by the call on a tenth of the number, which is smaller.
 use Prim.Native.Nat.{_<_, ℕ}
 use Rattle.player.proofs.Printing.{put-digit, put-small}
 use Rattle.script.proofs.Numbers.{length-large, length-small}

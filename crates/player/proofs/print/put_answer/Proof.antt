@@ -1,4 +1,4 @@
--- The words one after another, each with room left for the rest.
+-- `player::print::put_answer` meets its contract. The words one after another, each with room left for the rest.
 use Rattle.player.proofs.Printing.{answer-room, answer-short, put-whole, room-1, room-2, room-3, room-4, room-5}
 use borrow.Author.Needs.{needs}
 use lib.ListN.{length}

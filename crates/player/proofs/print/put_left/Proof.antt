@@ -1,3 +1,4 @@
+-- `player::print::put_left` meets its contract.
 use Rattle.player.proofs.Printing.{left-nothing, left-number, put-then}
 use borrow.Author.Needs.{needs}
 use native.Mathlib.Omega.{arith}

@@ -1,3 +1,4 @@
+-- `player::print::put_number` meets its contract.
 use Rattle.player.proofs.Printing.{put-then}
 use Rattle.script.specs.Text.{decimal}
 use borrow.Author.Needs.{needs}

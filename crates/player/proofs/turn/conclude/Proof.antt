@@ -1,3 +1,4 @@
+-- `player::turn::conclude` meets its contract.
 use Rattle.player.proofs.Turns.{end-full, end-sent, end-settled, end-unknown}
 use Rattle.player.specs.Cluster.{indexOf}
 use Rattle.player.specs.Play.{unknown}

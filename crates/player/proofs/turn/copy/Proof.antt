@@ -1,4 +1,4 @@
--- The loop has copied the first k bytes.
+-- `player::turn::copy` meets its contract. The loop has copied the first k bytes.
 use Prim.Native.Nat.{_+_, _-_, _≤_, ℕ}
 use lib.ListN.{getD, length, set}
 use lib.Seq.{length-paste, paste, paste-suc, paste-zero}

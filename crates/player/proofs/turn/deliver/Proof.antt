@@ -1,3 +1,4 @@
+-- `player::turn::deliver` meets its contract.
 use Rattle.hermes.specs.Node.{apply}
 use Rattle.player.proofs.Turns.{deliver-is, deliver-none}
 use borrow.Author.Needs.{needs}

@@ -1,3 +1,4 @@
+-- `player::turn::keep` meets its contract.
 use Prim.Native.Nat.{_≤_}
 use Rattle.hermes.specs.Event.{leavingBody}
 use Rattle.player.proofs.Turns.{leaving-short}

@@ -1,3 +1,4 @@
+-- `player::turn::log_message` meets its contract.
 use Rattle.hermes.specs.Event.{leavingBody}
 use Rattle.hermes.specs.declared.message.Outgoing.the-variants.{Sent}
 use Rattle.player.proofs.Turns.{push-is, push-room}

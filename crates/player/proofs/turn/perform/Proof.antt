@@ -1,3 +1,4 @@
+-- `player::turn::perform` meets its contract.
 use Rattle.hermes.specs.declared.event.Event.the-variants.{Write}
 use Prim.Native.Nat.{ℕ}
 use Rattle.hermes.specs.Node.{apply}

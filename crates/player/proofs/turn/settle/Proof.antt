@@ -1,3 +1,4 @@
+-- `player::turn::settle` meets its contract.
 use borrow.Author.Needs.{needs}
 use native.Mathlib.Omega.{arith}
 use Rattle.player.proofs.turn.settle.Statement.{statement}

@@ -1,4 +1,4 @@
--- An unknown line, a laptop that there is not, or an entry: what it comes to is what the run makes of it.
+-- `player::turn::turn` meets its contract. An unknown line, a laptop that there is not, or an entry: what it comes to is what the run makes of it.
 use Rattle.player.proofs.Turns.{line-entry, line-stranger, line-unknown, turn-unknown}
 use Rattle.player.specs.Play.{unknown}
 use borrow.Author.Needs.{needs}

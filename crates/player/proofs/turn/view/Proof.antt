@@ -1,3 +1,4 @@
+-- `player::turn::view` meets its contract.
 use Rattle.player.proofs.Turns.{view-admitted, view-refused}
 use borrow.Author.Needs.{needs}
 use mathlib.Core.Path.{_∙_, refl, sym}

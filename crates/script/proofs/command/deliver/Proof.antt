@@ -1,3 +1,4 @@
+-- `script::command::deliver` meets its contract.
 use Rattle.script.specs.Command.{deliverOf}
 use borrow.Author.Needs.{needs}
 use mathlib.Core.Path.{ap, sym}

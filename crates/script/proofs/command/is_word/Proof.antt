@@ -1,4 +1,4 @@
--- The loop compares what is left of the two words.
+-- `script::command::is_word` meets its contract. The loop compares what is left of the two words.
 use Prim.Native.Nat.{_-_, _<_, _≤_}
 use Rattle.script.proofs.Words.{same-end, same-length, same-step, same-stop}
 use Rattle.script.specs.Text.{same}

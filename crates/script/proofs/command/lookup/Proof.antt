@@ -1,4 +1,4 @@
--- The words are tried in the order of the definition.
+-- `script::command::lookup` meets its contract. The words are tried in the order of the definition.
 use Rattle.script.specs.Command.{keywordOf}
 use borrow.Author.Needs.{needs}
 use mathlib.Core.Path.{_∙_, sym}

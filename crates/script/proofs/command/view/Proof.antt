@@ -1,3 +1,4 @@
+-- `script::command::view` meets its contract.
 use Rattle.script.specs.Command.{Below, viewOf}
 use borrow.Author.Needs.{needs}
 use lib.ListN.{set}

@@ -1,3 +1,4 @@
+-- `script::line::arguments` meets its contract.
 use Rattle.script.specs.declared.number.Number.{Number}
 use Rattle.script.specs.declared.command.Operands.the-variants.{Given}
 use Rattle.script.specs.Command.{argumentsOf, entryOf}

@@ -1,3 +1,4 @@
+-- `script::line::entry` meets its contract.
 use Rattle.script.specs.Command.{entryOf}
 use borrow.Author.Needs.{needs}
 use mathlib.Core.Path.{sym}

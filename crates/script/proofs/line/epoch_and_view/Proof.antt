@@ -1,3 +1,4 @@
+-- `script::line::epoch_and_view` meets its contract.
 use Rattle.script.proofs.Numbers.{number-below}
 use Rattle.script.proofs.Words.{view-none, view-some}
 use borrow.Author.Needs.{needs}

@@ -1,3 +1,4 @@
+-- `script::line::group_size` meets its contract.
 use Rattle.script.proofs.Words.{size-none, size-other, size-some}
 use borrow.Author.Needs.{needs}
 use lib.Seq.{length-take-le}

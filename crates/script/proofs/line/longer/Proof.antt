@@ -1,3 +1,4 @@
+-- `script::line::longer` meets its contract.
 use Rattle.script.proofs.Words.{longer-none, longer-some}
 use borrow.Author.Needs.{needs}
 use lib.Seq.{length-take-le}

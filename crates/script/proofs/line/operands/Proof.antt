@@ -1,3 +1,4 @@
+-- `script::line::operands` meets its contract.
 use Rattle.script.specs.Command.{deliverOf, operandsOf}
 use borrow.Author.Needs.{needs}
 use mathlib.Core.Path.{_∙_, ap}

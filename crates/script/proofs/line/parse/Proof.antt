@@ -1,3 +1,4 @@
+-- `script::line::parse` meets its contract.
 use Rattle.script.proofs.Words.{line-none, line-some}
 use borrow.Author.Needs.{needs}
 use lib.Seq.{length-take-le}

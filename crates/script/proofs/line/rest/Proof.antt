@@ -1,3 +1,4 @@
+-- `script::line::rest` meets its contract.
 use Rattle.script.proofs.Words.{rest-is, rest-none}
 use borrow.Author.Needs.{needs}
 use Rattle.script.proofs.line.rest.Statement.{statement}

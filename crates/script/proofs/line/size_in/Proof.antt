@@ -1,3 +1,4 @@
+-- `script::line::size_in` meets its contract.
 use borrow.Author.Needs.{needs}
 use borrow.Author.Tests.{le-leb, lt-leb}
 use Rattle.script.proofs.line.size_in.Statement.{statement}

@@ -1,3 +1,4 @@
+-- `script::line::text` meets its contract.
 use Rattle.script.specs.Command.{restOf, textOf}
 use borrow.Author.Needs.{needs}
 use mathlib.Core.Path.{_∙_, ap}

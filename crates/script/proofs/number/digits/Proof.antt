@@ -1,4 +1,4 @@
--- The loop reads what is left of the word: the number of the whole word is that of the rest, from the value so far.
+-- `script::number::digits` meets its contract. The loop reads what is left of the word: the number of the whole word is that of the rest, from the value so far.
 use Prim.Native.Nat.{_-_, _<_, _^_, _≤_}
 use Rattle.script.proofs.Numbers.{digit-range, more-end, more-step}
 use Rattle.script.specs.Text.{more}

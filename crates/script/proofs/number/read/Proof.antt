@@ -1,3 +1,4 @@
+-- `script::number::read` meets its contract.
 use Rattle.script.proofs.Numbers.{number-empty, number-more, number-one, number-zero}
 use Rattle.script.specs.Text.{digits}
 use borrow.Author.Needs.{needs}

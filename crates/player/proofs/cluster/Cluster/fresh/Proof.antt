@@ -1,3 +1,4 @@
+-- `player::cluster::Cluster::fresh` meets its contract.
 use Prim.Native.Nat.{_-_, ℕ}
 use Rattle.player.proofs.Clusters.{first-bit, first-bits, fresh-cluster}
 use borrow.Author.Needs.{needs}

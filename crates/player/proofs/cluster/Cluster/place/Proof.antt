@@ -1,3 +1,4 @@
+-- `player::cluster::Cluster::place` meets its contract.
 use Rattle.player.specs.Cluster.{placed}
 use borrow.Author.Needs.{needs}
 use mathlib.Core.Path.{refl}

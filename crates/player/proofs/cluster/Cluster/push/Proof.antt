@@ -1,3 +1,4 @@
+-- `player::cluster::Cluster::push` meets its contract.
 use Rattle.player.specs.Cluster.{pushed}
 use borrow.Author.Needs.{needs}
 use mathlib.Core.Path.{refl}

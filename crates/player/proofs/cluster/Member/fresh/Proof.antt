@@ -1,3 +1,4 @@
+-- `player::cluster::Member::fresh` meets its contract.
 use borrow.Author.Needs.{needs}
 use Rattle.player.proofs.cluster.Member.fresh.Statement.{statement}
 use Rattle.player.proofs.cluster.Member.fresh.Tie as tie
