@@ -1,0 +1,3 @@
+pub mod Crossing
+pub mod Events
+pub mod Words
