@@ -82,6 +82,11 @@ tableOf words = records (countOf (length words)) 0 words
 abbrev pub put : List ℕ → ℕ → Record → List ℕ
 put words i r = sets words (8 * i) (encode r)
 
+-- the first k records all replaced by r
+abbrev pub fill : ℕ → List ℕ → Record → List ℕ
+fill zero words r = words
+fill (suc k) words r = put (fill k words r) k r
+
 -- 01, "A "no" .. leaves every lent byte and record as found"; an accepted event replaces the eight words of its record
 abbrev pub wordsBy : Answer → List ℕ → ℕ → Record → List ℕ
 wordsBy (Accepted o) words i r = cond (ltb i (countOf (length words))) (put words i r) words

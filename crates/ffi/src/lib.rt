@@ -1,6 +1,7 @@
 // The engine for C and Rust: exported functions over numbers, slices of numbers and structs of numbers.
 mod crossing;
 mod events;
+mod membership;
 mod words;
 
 pub use crossing::CetskobiAdmission;
@@ -14,3 +15,5 @@ pub use events::cetskobi_replay;
 pub use events::cetskobi_resend;
 pub use events::cetskobi_validate;
 pub use events::cetskobi_write;
+pub use membership::cetskobi_start;
+pub use membership::cetskobi_view;

@@ -145,7 +145,7 @@ fn record_in(words: &[u32], i: usize) -> Record
 }
 
 // Record i's eight words are replaced.
-fn put_record(words: &mut [u32], i: usize, r: Record)
+pub(crate) fn put_record(words: &mut [u32], i: usize, r: Record)
     requires { ⌜ 8 * i + 8 ≤ length (now words) ⌝ }
     ensures { λ _. ⌜ now (words .exit) ≡ put (now (words .entry)) i r ⌝ }
 {
