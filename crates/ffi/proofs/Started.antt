@@ -4,7 +4,7 @@ use mathlib.Core.Path.{_≡_, refl, sym, ap, _∙_}
 use mathlib.Core.List.{List, [], _∷_, _++_, append-nil}
 use native.Mathlib.Nat.{not-suc-le-zero, le-of-suc-le-suc}
 use lib.ListN.{length, set, drop, replicate}
-use lib.Seq.{drop-length, length-sets}
+use lib.Seq.{drop-length}
 use Rattle.hermes.specs.declared.record.Record.{Record}
 use Rattle.hermes.specs.declared.event.Replica.{Replica}
 use Rattle.hermes.specs.declared.event.Admission.{Admission}
@@ -13,13 +13,9 @@ use Rattle.hermes.specs.Guards.{firstNo}
 use Rattle.hermes.specs.Node.{newcomer, startQuestions, admissionOf, admit, firstRecord, begin, start}
 use Rattle.ffi.specs.declared.crossing.CetskobiAdmission.{CetskobiAdmission}
 use Rattle.ffi.specs.Crossing.{identityOf, admissionOut}
-use Rattle.ffi.specs.Words.{countOf, tableOf, encode, fill}
+use Rattle.ffi.specs.Words.{countOf, tableOf, fill}
 use Rattle.ffi.specs.Membership.{filledBy, StartDone}
 use Rattle.ffi.proofs.Lent.{length-table}
-
-pub length-fill : (k : ℕ) (words : List ℕ) (r : Record) → length (fill k words r) ≡ length words
-length-fill zero words r = refl
-length-fill (suc k) words r = length-sets (fill k words r) _ (encode r) ∙ length-fill k words r
 
 -- the first i bytes are zero, and the others are as they were
 abbrev pub zeros : List ℕ → ℕ → List ℕ
