@@ -1,0 +1,77 @@
+-- An exported event's end: what the parts of its code give is what hermes's `apply` says of the replica with its words.
+use Prim.Native.Nat.{ℕ, zero, suc, _*_}
+use mathlib.Core.Path.{_≡_, refl, sym, ap, _∙_}
+use mathlib.Core.List.{List, [], _∷_}
+use lib.ListN.{length, take, drop}
+use Rattle.hermes.specs.declared.record.Record.{Record}
+use Rattle.hermes.specs.declared.event.Replica.{Replica}
+use Rattle.hermes.specs.declared.event.Event.{Event}
+use Rattle.hermes.specs.declared.event.Event.the-variants as event
+use Rattle.hermes.specs.declared.event.Answer.{Answer}
+use Rattle.hermes.specs.declared.event.Moved.{Moved}
+use Rattle.hermes.specs.Order.{higher}
+use Rattle.hermes.specs.Event.{Effect, effect, moved, numberOf, partOf, readPart, refusal}
+use Rattle.hermes.specs.Store.{valueAt}
+use Rattle.hermes.specs.Node.{recordAt, effectOf, apply, read}
+use Rattle.replica.proofs.Asked.{quiet}
+use Rattle.ffi.specs.declared.crossing.CetskobiReplica.{CetskobiReplica}
+use Rattle.ffi.specs.declared.crossing.CetskobiAnswer.{CetskobiAnswer}
+use Rattle.ffi.specs.declared.crossing.CetskobiRead.{CetskobiRead}
+use Rattle.ffi.specs.Crossing.{replicaOf, answerOut}
+use Rattle.ffi.specs.Words.{countOf, tableOf, wordsAfter}
+use Rattle.ffi.specs.Events.{nodeOf, Done, ReadDone}
+use Rattle.ffi.proofs.Lent.{length-table}
+
+-- what the code takes out of the words and hands to the engine
+pub record Taken (me : CetskobiReplica) (words : List ℕ) (i : ℕ) (who : Replica) (count : ℕ) (r : Record) : Type 0 where
+  pub identity : who ≡ replicaOf me
+  pub counted : count ≡ countOf (length words)
+  pub found : r ≡ recordAt (tableOf words) i
+
+module _ (me : CetskobiReplica) (words : List ℕ) (i : ℕ) (who : Replica) (count : ℕ) (r : Record) (t : Taken me words i who count r) where
+  -- the engine's effect is that of the node
+  same : (store : List ℕ) (e : Event) (v : List ℕ) → effect higher who count i r store e v ≡ effectOf higher (nodeOf me words store) i e v
+  same store e v = rw (t .identity, t .counted, t .found, length-table words)
+
+  -- an event that stores
+  pub done : (store : List ℕ) (e : Event) (v : List ℕ) (m : Moved) (a : CetskobiAnswer) (words′ store′ : List ℕ)
+      → (m ≡ effect higher who count i r store e v .moved) × (store′ ≡ effect higher who count i r store e v .store)
+      → (a ≡ answerOut (m .answer)) × (words′ ≡ wordsAfter m words i) → Done (nodeOf me words store) words i e v a words′ store′
+  unfolding apply
+  done store e v m a words′ store′ (hm, hs) (ha, hw) =
+      let moves : m ≡ effectOf higher (nodeOf me words store) i e v .moved = hm ∙ ap (λ (x : Effect). x .moved) (same store e v) in
+      record {
+        answer = ha ∙ ap (λ (x : Moved). answerOut (x .answer)) moves;
+        words = hw ∙ ap (λ (x : Moved). wordsAfter x words i) moves;
+        store = hs ∙ ap (λ (x : Effect). x .store) (same store e v);
+      }
+
+  -- an event that stores nothing and looks at no value
+  pub done-quiet : (store : List ℕ) (e : Event) (m : Moved) (a : CetskobiAnswer) (words′ : List ℕ)
+      → effect higher who count i r store e [] ≡ record { moved = moved higher who count (length store) i r e []; store = store }
+      → m ≡ moved higher who count (length store) i r e []
+      → (a ≡ answerOut (m .answer)) × (words′ ≡ wordsAfter m words i) → Done (nodeOf me words store) words i e [] a words′ store
+  done-quiet store e m a words′ q hm h =
+      done store e [] m a words′ store (hm ∙ ap (λ (x : Effect). x .moved) (sym q), ap (λ (x : Effect). x .store) (sym q)) h
+
+take-length : (n : ℕ) (xs : List ℕ) → take (length (take n xs)) xs ≡ take n xs
+take-length zero xs = refl
+take-length (suc n) [] = refl
+take-length (suc n) (x ∷ xs) = ap (λ (l : List ℕ). x ∷ l) (take-length n xs)
+
+part-length : (k n : ℕ) (xs : List ℕ) → take (length (partOf k (take n xs))) xs ≡ partOf k (take n xs)
+part-length zero n xs = take-length n xs
+part-length (suc k) n xs = refl
+
+module _ (me : CetskobiReplica) (words : List ℕ) (i : ℕ) (who : Replica) (count : ℕ) (r : Record) (t : Taken me words i who count r) where
+  -- a read: its number and its part
+  pub read-done : (store : List ℕ) (a : Answer) (part : List ℕ) (p : CetskobiRead)
+      → a ≡ moved higher who count (length store) i r event.Read [] .answer → p .number ≡ numberOf a
+      → part ≡ readPart who count i r store → p .len ≡ length part → ReadDone (nodeOf me words store) i p
+  unfolding apply readPart
+  read-done store a part p ha hn hp hl =
+      let q = quiet higher who count i r store event.Read [] tt in
+      record {
+        number = hn ∙ ap numberOf (ha ∙ ap (λ (x : Effect). x .moved .answer) (sym q ∙ same me words i who count r t store event.Read []));
+        part = rw (hl, hp, part-length (refusal who count (length store) i r event.Read 0) (r .len) (drop (192 * i) store), t .identity, t .counted, t .found, length-table words);
+      }

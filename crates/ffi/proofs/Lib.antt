@@ -1,0 +1,4 @@
+pub mod Ends
+pub mod Lent
+pub mod RoundTrip
+pub mod Started

@@ -1,0 +1,30 @@
+-- What an exported event does: that of hermes's `apply` on the replica whose table the words hold.
+use Prim.Native.Nat.{ℕ, _*_}
+use mathlib.Core.Path.{_≡_}
+use mathlib.Core.List.{List, []}
+use lib.ListN.{take, drop}
+use Rattle.hermes.specs.declared.event.Event.{Event}
+use Rattle.hermes.specs.declared.event.Event.the-variants.{Read}
+use Rattle.hermes.specs.Order.{higher}
+use Rattle.hermes.specs.Event.{numberOf}
+use Rattle.hermes.specs.Node.{Node, lent, effectOf, apply, read}
+use Rattle.ffi.specs.declared.crossing.CetskobiReplica.{CetskobiReplica}
+use Rattle.ffi.specs.declared.crossing.CetskobiAnswer.{CetskobiAnswer}
+use Rattle.ffi.specs.declared.crossing.CetskobiRead.{CetskobiRead}
+use Rattle.ffi.specs.Crossing.{replicaOf, answerOut}
+use Rattle.ffi.specs.Words.{tableOf, wordsAfter}
+
+-- the replica with the memory that came from outside
+abbrev pub nodeOf : CetskobiReplica → List ℕ → List ℕ → Node
+nodeOf me words store = lent (replicaOf me) (tableOf words) store
+
+-- the answer, the words and the store after event e on record i, with the value v
+pub record Done (n : Node) (before : List ℕ) (i : ℕ) (e : Event) (v : List ℕ) (a : CetskobiAnswer) (words′ store′ : List ℕ) : Type 0 where
+  pub answer : a ≡ answerOut (apply higher n i e v .answer)
+  pub words : words′ ≡ wordsAfter (effectOf higher n i e v .moved) before i
+  pub store : store′ ≡ apply higher n i e v .node .store
+
+-- 01, Read: its number, and the value as that part of the store that begins at 192 times the record's number; of a refused read the empty part
+pub record ReadDone (n : Node) (i : ℕ) (p : CetskobiRead) : Type 0 where
+  pub number : p .number ≡ numberOf (apply higher n i Read [] .answer)
+  pub part : take (p .len) (drop (192 * i) (n .store)) ≡ read n i

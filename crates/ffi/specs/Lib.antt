@@ -1,0 +1,4 @@
+pub mod Crossing
+pub mod Events
+pub mod Membership
+pub mod Words

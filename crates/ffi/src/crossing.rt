@@ -1,0 +1,188 @@
+// How identities, messages and answers cross as numbers.
+ghost use mathlib.Core.Path.{_≡_};
+ghost use Rattle.ffi.specs.Crossing.{replicaOf, identityOf, messageOut, outgoingOut, answerOut, admissionOut, messageIn, receivedIn};
+ghost use Rattle.hermes.specs.Event.{numberOf};
+use hermes::Admission;
+use hermes::Answer;
+use hermes::Message;
+use hermes::Outgoing;
+use hermes::Received;
+use hermes::Replica;
+use hermes::Timestamp;
+
+// The identity of a replica.
+#[repr(C)]
+pub struct CetskobiReplica {
+    pub number: u8,
+    pub view: u16,
+    pub epoch: u32,
+}
+
+// An answer: 0 or the number of the question that said no; and the message that leaves, of kind 0 none, 1 INV, 2 ACK, 3 VAL.
+#[repr(C)]
+pub struct CetskobiAnswer {
+    pub number: u8,
+    pub kind: u8,
+    pub tie: u8,
+    pub version: u32,
+}
+
+// A message as it is delivered: of kind 1 INV, 2 ACK, 3 VAL.
+#[repr(C)]
+pub struct CetskobiMessage {
+    pub kind: u8,
+    pub sender: u8,
+    pub tie: u8,
+    pub epoch: u32,
+    pub version: u32,
+}
+
+// The answer to a read: 0 or the number of the question that said no, and how many bytes of the store are the value.
+#[repr(C)]
+pub struct CetskobiRead {
+    pub number: u8,
+    pub len: usize,
+}
+
+// The answer to a fresh start and to a view: 0 or the number of the question that said no, and the identity from then on.
+#[repr(C)]
+pub struct CetskobiAdmission {
+    pub number: u8,
+    pub replica: CetskobiReplica,
+}
+
+pub(crate) fn replica_of(me: CetskobiReplica) -> Replica
+    ensures { λ r. ⌜ r ≡ replicaOf me ⌝ }
+{
+    Replica {
+        number: me.number,
+        epoch: me.epoch,
+        view: me.view,
+    }
+}
+
+fn message_out(m: Message) -> CetskobiAnswer
+    ensures { λ a. ⌜ a ≡ messageOut m ⌝ }
+{
+    match m {
+        Message::Inv(t) => CetskobiAnswer {
+            number: 0,
+            kind: 1,
+            tie: t.tie,
+            version: t.version,
+        },
+        Message::Ack(t) => CetskobiAnswer {
+            number: 0,
+            kind: 2,
+            tie: t.tie,
+            version: t.version,
+        },
+        Message::Val(t) => CetskobiAnswer {
+            number: 0,
+            kind: 3,
+            tie: t.tie,
+            version: t.version,
+        },
+    }
+}
+
+fn outgoing_out(o: Outgoing) -> CetskobiAnswer
+    ensures { λ a. ⌜ a ≡ outgoingOut o ⌝ }
+{
+    match o {
+        Outgoing::None => CetskobiAnswer {
+            number: 0,
+            kind: 0,
+            tie: 0,
+            version: 0,
+        },
+        Outgoing::Sent(m, _) => message_out(m),
+    }
+}
+
+pub(crate) fn answer_out(a: Answer) -> CetskobiAnswer
+    ensures { λ r. ⌜ r ≡ answerOut a ⌝ }
+{
+    match a {
+        Answer::Accepted(o) => outgoing_out(o),
+        Answer::Refused(k) => CetskobiAnswer {
+            number: k,
+            kind: 0,
+            tie: 0,
+            version: 0,
+        },
+    }
+}
+
+pub(crate) fn identity_of(me: Replica) -> CetskobiReplica
+    ensures { λ r. ⌜ r ≡ identityOf me ⌝ }
+{
+    CetskobiReplica {
+        number: me.number,
+        view: me.view,
+        epoch: me.epoch,
+    }
+}
+
+pub(crate) fn admission_out(a: Admission, old: CetskobiReplica) -> CetskobiAdmission
+    ensures { λ r. ⌜ r ≡ admissionOut a old ⌝ }
+{
+    match a {
+        Admission::Admitted(me) => {
+            let next = identity_of(me);
+            CetskobiAdmission {
+                number: 0,
+                replica: next,
+            }
+        }
+        Admission::Refused(k) => CetskobiAdmission {
+            number: k,
+            replica: old,
+        },
+    }
+}
+
+// A message that came from outside. A kind that is none of the three becomes one that question 12 refuses.
+pub(crate) fn message_in(kind: u8, version: u32, tie: u8) -> Message
+    ensures { λ m. ⌜ m ≡ messageIn kind version tie ⌝ }
+{
+    let t = Timestamp {
+        version: version,
+        tie: tie,
+    };
+    if kind == 1 {
+        return Message::Inv(t);
+    }
+    if kind == 2 {
+        return Message::Ack(t);
+    }
+    if kind == 3 {
+        return Message::Val(t);
+    }
+    let beyond = Timestamp {
+        version: version,
+        tie: 255,
+    };
+    Message::Val(beyond)
+}
+
+pub(crate) fn received_in(m: CetskobiMessage) -> Received
+    ensures { λ r. ⌜ r ≡ receivedIn m ⌝ }
+{
+    let message = message_in(m.kind, m.version, m.tie);
+    Received {
+        sender: m.sender,
+        epoch: m.epoch,
+        message: message,
+    }
+}
+
+// The number of an answer.
+pub(crate) fn number_out(a: Answer) -> u8
+    ensures { λ k. ⌜ k ≡ numberOf a ⌝ }
+{
+    match a {
+        Answer::Accepted(_) => 0,
+        Answer::Refused(k) => k,
+    }
+}

@@ -1,0 +1,137 @@
+// The events on one record, for C and Rust. Each takes the identity, the table as words, eight for each record, and the store.
+ghost use mathlib.Core.Path.{_≡_};
+ghost use mathlib.Core.List.{[]};
+ghost use lib.ListN.{length, take, drop};
+ghost use Prim.Native.Nat.{_*_};
+ghost use Rattle.hermes.specs.declared.event.Event.the-variants.{Write, Replay, Deliver, Validate, Resend};
+ghost use Rattle.ffi.specs.Crossing.{answerOut, receivedIn};
+ghost use Rattle.ffi.specs.Words.{wordsAfter};
+ghost use Rattle.ffi.specs.Events.{nodeOf, Done, ReadDone};
+use crate::crossing;
+use crate::crossing::CetskobiAnswer;
+use crate::crossing::CetskobiMessage;
+use crate::crossing::CetskobiRead;
+use crate::crossing::CetskobiReplica;
+use crate::words;
+use hermes::Moved;
+
+// The end of an event on record i: its answer, and the words.
+fn finish(words: &mut [u32], i: usize, m: Moved) -> CetskobiAnswer
+    ensures { λ a. ⌜ (a ≡ answerOut (m .answer)) × (now (words .exit) ≡ wordsAfter m (now (words .entry)) i) ⌝ }
+{
+    words::settle(words, i, m);
+    let a = m.answer;
+    crossing::answer_out(a)
+}
+
+// Write of a value to record i.
+#[no_mangle]
+pub extern "C" fn cetskobi_write(
+    me: CetskobiReplica,
+    words: &mut [u32],
+    store: &mut [u8],
+    i: usize,
+    value: &[u8],
+) -> CetskobiAnswer
+    ensures { λ a. ⌜ Done (nodeOf me (now (words .entry)) (now (store .entry))) (now (words .entry)) i Write (now (value .entry)) a (now (words .exit)) (now (store .exit)) ⌝ }
+{
+    let r = words::record_at(words, i);
+    let count = words::count(words.len());
+    let m = replica::write(crossing::replica_of(me), count, i, r, store, value);
+    finish(words, i, m)
+}
+
+// Delivery of a message about record i, with the bytes that came with it.
+#[no_mangle]
+pub extern "C" fn cetskobi_deliver(
+    me: CetskobiReplica,
+    words: &mut [u32],
+    store: &mut [u8],
+    i: usize,
+    message: CetskobiMessage,
+    value: &[u8],
+) -> CetskobiAnswer
+    ensures { λ a. ⌜ Done (nodeOf me (now (words .entry)) (now (store .entry))) (now (words .entry)) i (Deliver (receivedIn message)) (now (value .entry)) a (now (words .exit)) (now (store .exit)) ⌝ }
+{
+    let r = words::record_at(words, i);
+    let count = words::count(words.len());
+    let m = replica::deliver(
+        crossing::replica_of(me),
+        count,
+        i,
+        r,
+        store,
+        crossing::received_in(message),
+        value,
+    );
+    finish(words, i, m)
+}
+
+// Replay of record i.
+#[no_mangle]
+pub extern "C" fn cetskobi_replay(
+    me: CetskobiReplica,
+    words: &mut [u32],
+    store: &[u8],
+    i: usize,
+) -> CetskobiAnswer
+    ensures { λ a. ⌜ Done (nodeOf me (now (words .entry)) (now (store .entry))) (now (words .entry)) i Replay [] a (now (words .exit)) (now (store .entry)) ⌝ }
+{
+    let r = words::record_at(words, i);
+    let count = words::count(words.len());
+    let m = replica::replay(crossing::replica_of(me), count, store.len(), i, r);
+    finish(words, i, m)
+}
+
+// Validation of record i.
+#[no_mangle]
+pub extern "C" fn cetskobi_validate(
+    me: CetskobiReplica,
+    words: &mut [u32],
+    store: &[u8],
+    i: usize,
+) -> CetskobiAnswer
+    ensures { λ a. ⌜ Done (nodeOf me (now (words .entry)) (now (store .entry))) (now (words .entry)) i Validate [] a (now (words .exit)) (now (store .entry)) ⌝ }
+{
+    let r = words::record_at(words, i);
+    let count = words::count(words.len());
+    let m = replica::validate(crossing::replica_of(me), count, store.len(), i, r);
+    finish(words, i, m)
+}
+
+// Resend of what record i last sent.
+#[no_mangle]
+pub extern "C" fn cetskobi_resend(
+    me: CetskobiReplica,
+    words: &mut [u32],
+    store: &[u8],
+    i: usize,
+) -> CetskobiAnswer
+    ensures { λ a. ⌜ Done (nodeOf me (now (words .entry)) (now (store .entry))) (now (words .entry)) i Resend [] a (now (words .exit)) (now (store .entry)) ⌝ }
+{
+    let r = words::record_at(words, i);
+    let count = words::count(words.len());
+    let m = replica::resend(crossing::replica_of(me), count, store.len(), i, r);
+    finish(words, i, m)
+}
+
+// Read of record i: its number, and the length of its part, which begins at 192 times i.
+#[no_mangle]
+pub extern "C" fn cetskobi_read(
+    me: CetskobiReplica,
+    words: &[u32],
+    store: &[u8],
+    i: usize,
+) -> CetskobiRead
+    ensures { λ p. ⌜ ReadDone (nodeOf me (now (words .entry)) (now (store .entry))) i p ⌝ }
+{
+    let r = words::record_at(words, i);
+    let count = words::count(words.len());
+    let who = crossing::replica_of(me);
+    let number = crossing::number_out(replica::read_number(who, count, store.len(), i, r));
+    let part = replica::read(who, count, i, r, store);
+    CetskobiRead {
+        number: number,
+        len: part.len(),
+    }
+}

@@ -1,0 +1,19 @@
+// The engine for C and Rust: exported functions over numbers, slices of numbers and structs of numbers.
+mod crossing;
+mod events;
+mod membership;
+mod words;
+
+pub use crossing::CetskobiAdmission;
+pub use crossing::CetskobiAnswer;
+pub use crossing::CetskobiMessage;
+pub use crossing::CetskobiRead;
+pub use crossing::CetskobiReplica;
+pub use events::cetskobi_deliver;
+pub use events::cetskobi_read;
+pub use events::cetskobi_replay;
+pub use events::cetskobi_resend;
+pub use events::cetskobi_validate;
+pub use events::cetskobi_write;
+pub use membership::cetskobi_start;
+pub use membership::cetskobi_view;

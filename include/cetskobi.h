@@ -1,0 +1,80 @@
+/* The replication engine for C. Link with the archive that `rt staticlib ffi` makes: cc -O2 main.c -Iinclude -Ltarget/staticlib -lffi
+ *
+ * The table is an array of words, eight for each record, so an array of struct cetskobi_record is one. The store is 192 bytes for each
+ * record, at 192 times its number. A slice is a pointer and a length in elements. Every function takes every input: a refused event
+ * gives the number of its question and changes nothing lent. */
+#ifndef CETSKOBI_H
+#define CETSKOBI_H
+
+#include <stddef.h>
+#include <stdint.h>
+
+/* One record, in the order of its words. Words that are no record are refused by question 5. */
+struct cetskobi_record {
+    uint32_t state; /* 0 valid, 1 invalid, 2 invalid-write, 3 write, 4 replay */
+    uint32_t version;
+    uint32_t tie;
+    uint32_t writer;          /* the last writer */
+    uint32_t written_version; /* the last-write stamp */
+    uint32_t written_tie;
+    uint32_t acks; /* the set of replicas whose acknowledgement has come */
+    uint32_t len;  /* of the value, in bytes */
+};
+
+enum { CETSKOBI_WORDS = 8, CETSKOBI_VALUE_MAX = 192, CETSKOBI_COUNT_MAX = 4096 };
+
+/* The identity of a replica. */
+struct cetskobi_replica {
+    uint8_t number;
+    uint16_t view;
+    uint32_t epoch;
+};
+
+enum { CETSKOBI_NONE = 0, CETSKOBI_INV = 1, CETSKOBI_ACK = 2, CETSKOBI_VAL = 3 };
+
+/* 0 or the number of the question that said no; and the message that leaves, with its stamp. */
+struct cetskobi_answer {
+    uint8_t number;
+    uint8_t kind;
+    uint8_t tie;
+    uint32_t version;
+};
+
+/* A message as it is delivered. */
+struct cetskobi_message {
+    uint8_t kind;
+    uint8_t sender;
+    uint8_t tie;
+    uint32_t epoch;
+    uint32_t version;
+};
+
+/* 0 or the number of the question that said no; and how many bytes at 192 times the record's number are its value. */
+struct cetskobi_read {
+    uint8_t number;
+    size_t len;
+};
+
+/* 0 or the number of the question that said no; and the identity from then on. */
+struct cetskobi_admission {
+    uint8_t number;
+    struct cetskobi_replica replica;
+};
+
+struct cetskobi_answer cetskobi_write(struct cetskobi_replica me, uint32_t *words, size_t words_len, uint8_t *store, size_t store_len,
+                                      size_t i, const uint8_t *value, size_t value_len);
+struct cetskobi_answer cetskobi_deliver(struct cetskobi_replica me, uint32_t *words, size_t words_len, uint8_t *store, size_t store_len,
+                                        size_t i, struct cetskobi_message message, const uint8_t *value, size_t value_len);
+struct cetskobi_answer cetskobi_replay(struct cetskobi_replica me, uint32_t *words, size_t words_len, const uint8_t *store,
+                                       size_t store_len, size_t i);
+struct cetskobi_answer cetskobi_validate(struct cetskobi_replica me, uint32_t *words, size_t words_len, const uint8_t *store,
+                                         size_t store_len, size_t i);
+struct cetskobi_answer cetskobi_resend(struct cetskobi_replica me, uint32_t *words, size_t words_len, const uint8_t *store,
+                                       size_t store_len, size_t i);
+struct cetskobi_read cetskobi_read(struct cetskobi_replica me, const uint32_t *words, size_t words_len, const uint8_t *store,
+                                   size_t store_len, size_t i);
+struct cetskobi_admission cetskobi_view(struct cetskobi_replica me, uint32_t epoch, uint16_t set);
+struct cetskobi_admission cetskobi_start(uint8_t number, uint16_t view, uint32_t *words, size_t words_len, uint8_t *store,
+                                         size_t store_len);
+
+#endif
