@@ -76,6 +76,7 @@ module _ (wins : ℕ → ℕ → Bool) where
   abbrev pub after : Group → List Entry → ℕ → Node
   after g entries k = run wins g entries .at k
 
+  -- demand 3, both halves in one claim
   pub record Agreement (member : ℕ → Bool) (count : ℕ) (g : Group) (entries : List Entry) : Type 0 where
     -- two replicas in each other's view, both showing the record valid, hold one timestamp and the same bytes
     pub alike : (i k m : ℕ) → i < count → member k ≡ true → member m ≡ true

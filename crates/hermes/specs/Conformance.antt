@@ -62,12 +62,14 @@ pub record StartFollows (k view : ℕ) (table : List Record) (store : List ℕ) 
       → HInit view (varsOf i (record { me = newcomer k view; table = start k view table store .table; store = start k view table store .store }))
 
 module _ (wins : ℕ → ℕ → Bool) where
+  -- demand 2, of one event: accepted exactly when permitted, and then the source's step
   pub record Follows (n : Node) (i : ℕ) (e : Event) (v : List ℕ) (own : List Question) (guard : Vars → Type 0) (action : Vars → Vars → Sending → Type 0) : Type 0 where
     pub accepted : (numberOf (apply wins n i e v .answer) ≡ 0) ↔ (AllYes own × guard (varsOf i n))
     pub does : numberOf (apply wins n i e v .answer) ≡ 0
         → action (varsOf i n) (varsOf i (apply wins n i e v .node)) (record { message = sentBy (apply wins n i e v .answer); body = body i (apply wins n i e v) })
     pub refused : numberOf (apply wins n i e v .answer) ≢ 0 → (apply wins n i e v .node ≡ n) × (sentBy (apply wins n i e v .answer) ≡ None)
 
+  -- demand 2, of every event; that a refused start changes nothing stands in `Frame`, StartFrame
   pub record Demand2By : Type 0 where
     pub start : (k view : ℕ) (table : List Record) (store : List ℕ) → StartFollows k view table store
     pub read : (n : Node) (i : ℕ) (v : List ℕ) → Follows n i Read v (fiveAnd n i []) HReadGuard HRead

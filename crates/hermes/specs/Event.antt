@@ -57,6 +57,7 @@ ofKind (Inv t) sender r = []
 ofKind (Ack t) sender r = question13 t sender r ∷ []
 ofKind (Val t) sender r = question14 t r ∷ []
 
+-- 01, the questions after the first five: Read 6; Write 7, 8 and 9; Deliver 10, 11, 12 and its kind's; Validate 15; Replay 16; Resend 17
 abbrev pub own : Replica → Record → Event → ℕ → List Question
 own me r Read n = question6 r ∷ []
 own me r Write n = question7 r ∷ question8 n ∷ question9 r ∷ []
@@ -125,10 +126,12 @@ resent me i state.InvalidWrite t = None
 resent me i state.Write t = send me i (Inv t)
 resent me i state.Replay t = send me i (Inv t)
 
+-- 01, Resend: the record is unchanged
 abbrev pub resendStep : Replica → ℕ → Record → Step
 resendStep me i r = record { after = r; stored = kept; sent = resent me i (r .state) (r .timestamp) }
 
 module _ (wins : ℕ → ℕ → Bool) where
+  -- 01, Deliver: the step of each kind of message
   abbrev pub deliverStep : Replica → ℕ → Record → ℕ → Message → List ℕ → Step
   deliverStep me i r sender (Inv t) v = invStep (later wins t (r .timestamp)) me i r t sender v
   deliverStep me i r sender (Ack t) v = ackStep r sender
@@ -159,6 +162,7 @@ abbrev pub sentBy : Answer → Outgoing
 sentBy (Accepted o) = o
 sentBy (Refused k) = None
 
+-- 01, "value stored": the store after a step
 abbrev pub storing : ℕ → Stored → List ℕ → List ℕ
 storing i kept store = store
 storing i (placed v) store = place i v store
@@ -168,6 +172,7 @@ abbrev pub movedBy : ℕ → Record → Step → Moved
 movedBy zero r s = record { answer = answerOf zero (s .sent); after = s .after }
 movedBy (suc k) r s = record { answer = answerOf (suc k) (s .sent); after = r }
 
+-- the store after an event whose first no has this number
 abbrev pub storedBy : ℕ → ℕ → List ℕ → Step → List ℕ
 storedBy zero i store s = storing i (s .stored) store
 storedBy (suc k) i store s = store
@@ -181,6 +186,7 @@ pub record Effect : Type 0 where
   pub moved : Moved
   pub store : List ℕ
 
+-- 01, "A "no" gives the number, ends the event": the effect, by the number of the first no
 abbrev pub decide : ℕ → ℕ → Record → List ℕ → Step → Effect
 decide k i r store s = record { moved = movedBy k r s; store = storedBy k i store s }
 

@@ -28,6 +28,7 @@ pub record AnswersAlike (i : ℕ) (o p : Outcome) : Type 0 where
   pub leaves : body i o ≡ body i p
   pub after : EqualAt i (o .node) (p .node)
 
+-- 01, "answer an event on that record alike", for every event and value
 abbrev pub Locality : (ℕ → ℕ → Bool) → Type 0
 Locality wins = (i : ℕ) (n m : Node) → EqualAt i n m → (e : Event) (v : List ℕ) → AnswersAlike i (apply wins n i e v) (apply wins m i e v)
 

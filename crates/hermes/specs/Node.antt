@@ -88,6 +88,7 @@ admissionNumber (Refused k) = k
 abbrev pub newcomer : ℕ → ℕ → Replica
 newcomer number view = record { number = number; epoch = 0; view = view }
 
+-- 01, fresh start: "asks questions 1, 2 and 3"
 abbrev pub startQuestions : Replica → ℕ → ℕ → List Question
 startQuestions me count bytes = question1 me ∷ question2 count bytes ∷ question3 me ∷ []
 
@@ -114,6 +115,7 @@ begin zero me table store = record {
 }
 begin (suc k) me table store = record { admission = admissionOf (suc k) me; table = table; store = store }
 
+-- 01, "A fresh start takes number, view and lent memory"
 unfoldable pub start : ℕ → ℕ → List Record → List ℕ → Start
 start number view table store =
     begin (firstNo (startQuestions (newcomer number view) (length table) (length store))) (newcomer number view) table store

@@ -52,11 +52,13 @@ pub data Found : Type 0 where
   missing : Found
   found : Logged → Found
 
+-- 01, "A delivered message left an earlier entry": the message with log number k
 abbrev pub find : List Logged → ℕ → Found
 find [] k = missing
 find (x ∷ xs) zero = found x
 find (x ∷ xs) (suc k) = find xs k
 
+-- 01, a delivered message "keeps the bytes it left with": its sender, epoch, kind and timestamp as they left
 abbrev pub received : Logged → Received
 received x = record { sender = x .header .sender; epoch = x .header .epoch; message = x .message }
 
@@ -66,6 +68,7 @@ module _ (wins : ℕ → ℕ → Bool) where
   delivery missing n = nothing
   delivery (found x) n = event (apply wins n (x .header .index) (Deliver (received x)) (x .body))
 
+  -- 01, an entry: its event on the replica as the last entry left it
   abbrev pub perform : Action → List Logged → Node → Result
   perform (read i) log n = event (apply wins n i Read [])
   perform (write i v) log n = event (apply wins n i Write v)
@@ -96,12 +99,14 @@ module _ (wins : ℕ → ℕ → Bool) where
   unfoldable pub result : Group → Entry → Result
   result g a = perform wins (a .what) (g .log) (g .at (a .who))
 
+  -- 01, one entry of the list: its replica moves, nobody else's does, and what left joins the log
   unfoldable pub advance : Group → Entry → Group
   advance g a = record {
     at = λ n. cond (eqb n (a .who)) (nodeAfter (result g a) (g .at n)) (g .at n);
     log = logAfter (result g a) (g .log);
   }
 
+  -- 01, a list of entries, in order
   abbrev pub run : Group → List Entry → Group
   run g [] = g
   run g (a ∷ rest) = run (advance g a) rest

@@ -20,6 +20,7 @@ receivedOf e = record { sender = e .header .sender; epoch = e .header .epoch; me
 
 -- ---- on one record: r is the record that the message is about
 
+-- 01, Deliver, by what the fetch answered; a broken packet gives its number and changes nothing
 abbrev pub arrivalOf : (ℕ → ℕ → Bool) → Replica → ℕ → Record → List ℕ → List ℕ → Fetched → Effect
 arrivalOf wins me count r store p (Found e at) = effect wins me count (e .header .index) r store (Deliver (receivedOf e)) (bodyOf p (Found e at))
 arrivalOf wins me count r store p (Refused k) = record { moved = record { answer = answer.Refused k; after = r }; store = store }
@@ -30,9 +31,11 @@ arrival wins me count r store p i = arrivalOf wins me count r store p (fetched p
 
 -- ---- on the lent table
 
+-- the same on the whole table
 abbrev pub receiptOf : (ℕ → ℕ → Bool) → Node → List ℕ → Fetched → Outcome
 receiptOf wins n p (Found e at) = apply wins n (e .header .index) (Deliver (receivedOf e)) (bodyOf p (Found e at))
 receiptOf wins n p (Refused k) = record { answer = answer.Refused k; node = n }
 
+-- message i of the packet p
 unfoldable pub receipt : (ℕ → ℕ → Bool) → Node → List ℕ → ℕ → Outcome
 receipt wins n p i = receiptOf wins n p (fetched p i)

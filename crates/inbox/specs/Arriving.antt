@@ -1,4 +1,5 @@
 -- A fetch as an event on a record of the lent table.
+-- No public contract names these.
 use Rattle.hermes.specs.declared.event.Event.the-variants.{Deliver, Read}
 use Rattle.hermes.specs.declared.event.Answer.{Answer}
 use Rattle.hermes.specs.declared.event.Answer.the-variants as answer

@@ -1,5 +1,4 @@
 -- Demand 2 of packets: a packet written reads back as the same messages, and an accepted packet is the one that the writer makes of its messages.
--- The two theorems stand at the end; each one's claim is the record above it.
 use mathlib.Core.Path.{_≡_, refl, sym, ap, _∙_}
 use mathlib.Core.Bool.{Bool, true, false, cond}
 use mathlib.Core.List.{List, _∷_, _++_}
@@ -16,6 +15,7 @@ use Rattle.packet.specs.Bytes.{be, window, Bytes}
 use Rattle.packet.specs.Entry.{fieldsOf, fieldsFor, noEntry, AllFit}
 use Rattle.packet.specs.Reading.{countOf, entryAt, messagesIn, bodiesIn, question20, question21, question22, question23, walk, fetchRefusal, fetchedAs, fetched, bodyOf}
 use Rattle.packet.specs.Writing.{summed, contents, totalOf, encode, allGood, written, outputOf}
+use Rattle.packet.specs.RoundTrip.{ReadsBack, WrittenReadsBack, Rewritten, AcceptedIsWritten}
 use Rattle.packet.proofs.Width.{num-be, window-drop, be-window}
 use Rattle.packet.proofs.Writing.{Accepts, accepts, accepted, total-yes}
 use Rattle.packet.proofs.Reading.{part-to-end, Header, header, header-yes, fetch-23, fetch-0}
@@ -77,12 +77,6 @@ drop-contents rule es bodies a =
     ∙ ap (drop a)
     (drop-header rule es bodies (16 * length es) ∙ drop-at (contents (entryAt (length es)) es) bodies (16 * length es) (length-contents es (entryAt (length es))))
 
--- A packet p reads back as the messages es with these bodies end to end: at every i below their number the message, with its body; past it a 23.
-pub record ReadsBack (p : List ℕ) (es : List Entry) (bodies : List ℕ) : Type 0 where
-  pub message : (i : ℕ) → i < length es → fetched p i ≡ Found (getD es i noEntry) (entryAt (length es) + summed (take i es))
-  pub body : (i : ℕ) → i < length es → bodyOf p (fetched p i) ≡ take (getD es i noEntry .len) (drop (summed (take i es)) bodies)
-  pub beyond : (i : ℕ) → length es ≤ i → fetched p i ≡ Refused 23
-
 encode-reads-back : (es : List Entry) (bodies : List ℕ) → Writable es bodies → AllFit es → ReadsBack (encode 1 es bodies) es bodies
 unfolding encode
 encode-reads-back es bodies w s =
@@ -112,10 +106,8 @@ encode-reads-back es bodies w s =
         ap fieldsOf (drop-header 1 es bodies (16 * i)) ∙ entry-at es i (entryAt (length es)) bodies s (w .good) (omega (arith, w .short, w .exact)) l in
         sym (fetch-0 p i yes20 yes21 yes22 l (fieldsFor e at) (sym (ap fieldsOf (part-to-end p (entryAt i)) ∙ f))) ∙ ap (λ (x : Entry). Found x at) (entry-back e at)
 
--- A packet written reads back as the same messages: whatever the writer accepts, the first n bytes of its output read back as what was handed to it.
-pub written-reads-back : (ms : List Entry) (count : ℕ) (bodies out : List ℕ) (n : ℕ) → count ≤ length ms → AllFit (take count ms)
-    → written ms count bodies (length out) ≡ Total n
-    → ReadsBack (take n (outputOf (Total n) (take count ms) bodies out)) (take count ms) bodies
+-- a packet written reads back as the same messages
+pub written-reads-back : WrittenReadsBack
 unfolding outputOf
 written-reads-back ms count bodies out n l s h =
     let es = take count ms in
@@ -197,16 +189,8 @@ module _ (p : List ℕ) (b : Bytes p) (r : Read p) where
         short = omega (arith, r .header .short, r .whole);
       }
 
--- The writer, handed the messages of the packet p as the first of ms, and their bodies, accepts them and makes exactly p;
--- and those messages are the ones that p reads as.
-pub record Rewritten (p : List ℕ) (ms : List Entry) (out : List ℕ) : Type 0 where
-  pub answer : written ms (countOf p) (bodiesIn p) (length out) ≡ Total (length p)
-  pub output : outputOf (Total (length p)) (take (countOf p) ms) (bodiesIn p) out ≡ p ++ drop (length p) out
-  pub reads : ReadsBack p (messagesIn p) (bodiesIn p)
-
--- An accepted packet is the one that the writer makes of its messages, wherever the output has room for it.
-pub accepted-is-written : (p : List ℕ) (i : ℕ) (e : Entry) (at : ℕ) (ms : List Entry) (out : List ℕ) → Bytes p → fetched p i ≡ Found e at
-    → take (countOf p) ms ≡ messagesIn p → length p ≤ length out → Rewritten p ms out
+-- an accepted packet is the one that the writer makes of its messages
+pub accepted-is-written : AcceptedIsWritten
 unfolding outputOf
 accepted-is-written p i e at ms out b h same l =
     let r = read p i e at h in

@@ -3,3 +3,4 @@ pub mod Bytes
 pub mod Entry
 pub mod Reading
 pub mod Writing
+pub mod RoundTrip

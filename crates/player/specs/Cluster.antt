@@ -1,4 +1,5 @@
 -- How the cluster that the code holds by value, with the lent bytes of the bodies, is read as a group of the run.
+-- No public contract names these.
 use Prim.Native.Nat.{ℕ, zero, suc, _+_, _-_, _*_, _^_, _≤_}
 use mathlib.Core.Path.{_≡_}
 use mathlib.Core.Bool.{cond}

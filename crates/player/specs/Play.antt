@@ -88,6 +88,7 @@ abbrev pub turnOf : ℕ → Group → List ℕ → Line → Turn
 turnOf n g s (line.Entry who c) = entryTurn n g (record { who = who; what = actionOf c (textOf s) })
 turnOf n g s line.Unknown = unknown
 
+-- 01, "Each later line prints one line": the line s, played on the group g
 unfoldable pub turn : ℕ → Group → List ℕ → Turn
 turn n g s = turnOf n g s (lineOf s)
 
@@ -127,8 +128,10 @@ printed input = opened (lines input)
 abbrev pub playable : List ℕ → ℕ → Bool
 playable input room = leb (length input) 65536 && leb (25 * length input + 2) room
 
+-- what `play` answers: how many bytes it printed, or a refusal where input or room are not as above
 unfoldable pub answerOf : List ℕ → ℕ → Played
 answerOf input room = cond (playable input room) (outcome.Printed (length (printed input))) outcome.Refused
 
+-- the output after it: what is printed, then the bytes that were there; refused, all as it was
 unfoldable pub outputOf : List ℕ → List ℕ → List ℕ
 outputOf input out = cond (playable input (length out)) (sets out 0 (printed input)) out

@@ -1,4 +1,5 @@
 -- What a question of the code answers.
+-- No public contract names these: they say what the crate's own questions answer.
 use Prim.Native.Nat.{ℕ}
 use mathlib.Core.Bool.{Bool, true, false}
 use mathlib.Core.List.{List, [], _∷_}

@@ -47,10 +47,12 @@ keywordOf w =
 
 -- ---- what stands behind the laptop
 
+-- 01, `deliver 1 0`: the log number
 abbrev pub deliverOf : Number → Operands
 deliverOf (Value k) = Given (command.Deliver k)
 deliverOf NotANumber = Wrong
 
+-- 01, `view 1 2 3`: the epoch and the set
 abbrev pub viewOf : Number → Number → Operands
 viewOf (Value epoch) (Value set) = Given (command.View epoch set)
 viewOf (Value epoch) NotANumber = Wrong
@@ -72,6 +74,7 @@ operandsOf Unknown s = Wrong
 
 -- ---- the whole line
 
+-- a laptop's number and what it does; an unknown line where either is wrong
 abbrev pub entryOf : Number → Operands → Line
 entryOf (Value laptop) (Given c) = line.Entry laptop c
 entryOf (Value laptop) Wrong = line.Unknown
@@ -89,6 +92,7 @@ argumentsOf Deliver s = longerOf Deliver s
 argumentsOf View s = longerOf View s
 argumentsOf Unknown s = line.Unknown
 
+-- 01, a line: a word, a laptop, and what the word asks for, one space between
 unfoldable pub lineOf : List ℕ → Line
 lineOf s = cond (spaced s) (argumentsOf (keywordOf (wordOf s)) (restOf s)) line.Unknown
 

@@ -1,4 +1,5 @@
 -- What an admission makes of the lent memory (01, fresh start).
+-- No public contract names these.
 use Prim.Native.Nat.{ℕ}
 use mathlib.Core.List.{List}
 use lib.ListN.{length, replicate}
