@@ -32,7 +32,7 @@ use Rattle.hermes.proofs.Refine.{Cell, clean-cell, setting, copy, copyO
 
 -- ---- lists of entries
 
-run-append : (wins : ℕ → ℕ → Bool) (g : Group) (xs ys : List Entry) → run wins g (xs ++ ys) ≡ run wins (run wins g xs) ys
+pub run-append : (wins : ℕ → ℕ → Bool) (g : Group) (xs ys : List Entry) → run wins g (xs ++ ys) ≡ run wins (run wins g xs) ys
 run-append wins g [] ys = refl
 run-append wins g (x ∷ xs) ys = run-append wins (advance wins g x) xs ys
 

@@ -15,7 +15,7 @@ use Rattle.hermes.specs.Event.{sentBy}
 use Rattle.hermes.specs.Node.{newcomer, Start, start}
 use Rattle.hermes.specs.Run.{Entry, Group, Result, nothing, event, result, run}
 use Rattle.hermes.specs.Agreement.{Started, AsIssued, Entries}
-use Rattle.hermes.proofs.Agreement.{agreement}
+use Rattle.hermes.proofs.Agreement.{run-append, agreement}
 use Rattle.script.specs.Command.{lineOf, textOf}
 use Rattle.script.specs.declared.command.Command.{Command}
 use Rattle.script.specs.declared.command.Command.the-variants.{Read, Write, Replay, Deliver, Validate, Resend, View}
@@ -26,14 +26,10 @@ use Rattle.player.specs.Agreed.{Issued, OfLine, OneViewEach, playedOn, P
 
 -- ---- the run
 
-run-append : (g : Group) (a b : List Entry) → run higher g (a ++ b) ≡ run higher (run higher g a) b
-run-append g [] b = refl
-run-append g (x ∷ a) b = run-append _ a b
-
 pub played-is-run : PlayedIsRun
 unfolding playedOn entriesOf
 played-is-run n g [] = refl
-played-is-run n g (s ∷ rest) = played-is-run n (after n g s) rest ∙ sym (run-append g (turn n g s .entries) (entriesOf n (after n g s) rest))
+played-is-run n g (s ∷ rest) = played-is-run n (after n g s) rest ∙ sym (run-append higher g (turn n g s .entries) (entriesOf n (after n g s) rest))
 
 -- ---- the entries
 

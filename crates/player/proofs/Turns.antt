@@ -26,7 +26,7 @@ use Rattle.hermes.specs.declared.event.Admission.{Admission}
 use Rattle.hermes.specs.declared.event.Admission.the-variants as admission
 use Rattle.hermes.specs.Order.{higher, later}
 use Rattle.hermes.specs.Event.{step, invStep, resent, deliverStep, refusal, movedBy, effect, answerOf, sentBy, leavingBody}
-use Rattle.hermes.specs.Node.{Outcome, apply, view, viewed, admissionOf, admissionNumber, identity}
+use Rattle.hermes.specs.Node.{indexOf, Outcome, apply, view, viewed, admissionOf, admissionNumber, identity}
 use Rattle.hermes.specs.Run.{Entry, Group, Result, nothing, event, Found, find, received, delivery, perform, logged, logAfter, nodeAfter, result, advance, run}
 use Rattle.player.specs.declared.cluster.Member.{Member}
 use Rattle.player.specs.declared.cluster.Envelope.{Envelope}
@@ -43,7 +43,7 @@ use Rattle.script.specs.declared.command.Line.the-variants as line
 use Rattle.player.specs.declared.print.Left.the-variants as left
 use Rattle.player.specs.Print.{Put, answerLine, unknownLine}
 use Rattle.player.specs.Play.{hasRoom, logNumber, played, reply, actionOf, entryTurn, turn, after, freshNode}
-use Rattle.player.specs.Cluster.{noMember, noEnvelope, nodeOf, loggedAt, logOf, groupOf, placed, pushed, envelopeOf, kept, resultOf, commit, indexOf, Sound, TurnIs}
+use Rattle.player.specs.Cluster.{noMember, noEnvelope, nodeOf, loggedAt, logOf, groupOf, placed, pushed, envelopeOf, kept, resultOf, commit, Sound, TurnIs}
 use Rattle.player.proofs.Clusters.{find-known, find-unknown, length-log, group-placed, group-pushed, placed-sound, pushed-sound}
 
 -- ---- what leaves an event on record 0 is about record 0

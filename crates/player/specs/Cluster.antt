@@ -106,11 +106,6 @@ commit g who (event o) =
     (record { at = λ k. cond (eqb k who) (o .node) (g .at k); log = logged (g .log) (o .node) (sentBy (o .answer)) })
     g
 
--- the record that what leaves is about
-abbrev pub indexOf : Outgoing → ℕ
-indexOf None = 0
-indexOf (Sent m h) = h .index
-
 -- every body in the log has its place
 abbrev pub Sized : List Envelope → Type 0
 Sized log = (k : ℕ) → getD log k noEnvelope .len ≤ 192

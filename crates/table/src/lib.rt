@@ -8,4 +8,5 @@ pub use events::apply;
 pub use leaving::body;
 pub use reading::read;
 pub use reading::read_number;
+pub use replica::view;
 pub use starting::start;

@@ -1,7 +1,7 @@
 -- `player::turn::apply` meets its contract.
 use Rattle.hermes.specs.declared.event.Moved.{Moved}
 use Rattle.hermes.specs.Event.{sentBy}
-use Rattle.player.specs.Cluster.{indexOf}
+use Rattle.hermes.specs.Node.{indexOf}
 use Rattle.player.proofs.Turns.{apply-is, effect-index}
 use borrow.Author.Needs.{needs}
 use mathlib.Core.Path.{_∙_, ap}

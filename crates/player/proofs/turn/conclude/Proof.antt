@@ -1,6 +1,6 @@
 -- `player::turn::conclude` meets its contract.
 use Rattle.player.proofs.Turns.{end-full, end-sent, end-settled, end-unknown}
-use Rattle.player.specs.Cluster.{indexOf}
+use Rattle.hermes.specs.Node.{indexOf}
 use Rattle.player.specs.Play.{unknown}
 use borrow.Author.Needs.{needs}
 use borrow.Author.Tests.{not-false, not-true}
