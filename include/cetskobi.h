@@ -55,6 +55,38 @@ struct cetskobi_read {
     size_t len;
 };
 
+/* 0 or the number of the question that said no; and message i of a packet: its bytes are the len bytes of the packet from at on. */
+struct cetskobi_fetched {
+    uint8_t number;
+    uint8_t kind;
+    uint8_t sender;
+    uint8_t tie;
+    uint32_t epoch;
+    uint32_t version;
+    size_t index; /* of the record */
+    size_t at;
+    size_t len;
+};
+
+/* A message that goes into a packet, in the order of its words. */
+struct cetskobi_entry {
+    uint32_t kind;
+    uint32_t sender;
+    uint32_t epoch;
+    uint32_t index; /* of the record */
+    uint32_t version;
+    uint32_t tie;
+    uint32_t len; /* of the bytes that it takes along */
+};
+
+enum { CETSKOBI_ENTRY_WORDS = 7, CETSKOBI_MESSAGES_MAX = 64, CETSKOBI_PACKET_MAX = 1400 };
+
+/* 0 or the number of the question that said no; and how many bytes were written. */
+struct cetskobi_written {
+    uint8_t number;
+    size_t len;
+};
+
 /* 0 or the number of the question that said no; and the identity from then on. */
 struct cetskobi_admission {
     uint8_t number;
@@ -76,5 +108,20 @@ struct cetskobi_read cetskobi_read(struct cetskobi_replica me, const uint32_t *w
 struct cetskobi_admission cetskobi_view(struct cetskobi_replica me, uint32_t epoch, uint16_t set);
 struct cetskobi_admission cetskobi_start(uint8_t number, uint16_t view, uint32_t *words, size_t words_len, uint8_t *store,
                                          size_t store_len);
+
+/* What leaves: how many bytes at 192 times i a message of this kind about record i takes along, right after the event that sent it. */
+size_t cetskobi_body(const uint32_t *words, size_t words_len, const uint8_t *store, size_t store_len, size_t i, uint8_t kind);
+/* Who gets a message of this kind: bit n for replica n. sender is that of the delivered message; only an ACK asks it. */
+uint16_t cetskobi_recipients(struct cetskobi_replica me, uint8_t kind, uint8_t sender);
+
+/* Packets: message i; several messages, with their bytes one after another, as one packet; the delivery of message i of a packet. */
+struct cetskobi_fetched cetskobi_fetch(const uint8_t *packet, size_t packet_len, size_t i);
+struct cetskobi_written cetskobi_pack(const uint32_t *messages, size_t messages_len, const uint8_t *bodies, size_t bodies_len, uint8_t *out,
+                                      size_t out_len);
+struct cetskobi_answer cetskobi_deliver_packet(struct cetskobi_replica me, uint32_t *words, size_t words_len, uint8_t *store,
+                                               size_t store_len, const uint8_t *packet, size_t packet_len, size_t i);
+
+/* The playing program on one script. */
+struct cetskobi_written cetskobi_play(const uint8_t *script, size_t script_len, uint8_t *out, size_t out_len);
 
 #endif

@@ -5,4 +5,4 @@ if ! command -v cargo >/dev/null 2>&1; then
     echo "no cargo: the Rust comparisons were not run"
     exit 0
 fi
-CARGO_TARGET_DIR=target/rust cargo test --quiet --offline --release --manifest-path rust/model/Cargo.toml
+CARGO_TARGET_DIR=target/rust cargo test --quiet --offline --release --manifest-path rust/Cargo.toml -p model

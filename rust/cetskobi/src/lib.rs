@@ -1,0 +1,3 @@
+//! The replication engine for Rust.
+
+pub mod sys;
