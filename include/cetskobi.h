@@ -9,6 +9,10 @@
 #include <stddef.h>
 #include <stdint.h>
 
+#ifdef __cplusplus
+extern "C" {
+#endif
+
 /* One record, in the order of its words. Words that are no record are refused by question 5. */
 struct cetskobi_record {
     uint32_t state; /* 0 valid, 1 invalid, 2 invalid-write, 3 write, 4 replay */
@@ -81,7 +85,7 @@ struct cetskobi_entry {
 
 enum { CETSKOBI_ENTRY_WORDS = 7, CETSKOBI_MESSAGES_MAX = 64, CETSKOBI_PACKET_MAX = 1400 };
 
-/* 0 or the number of the question that said no; and how many bytes were written. */
+/* 0 or the number of the question that said no, 255 for what the player has no room for; and how many bytes were written. */
 struct cetskobi_written {
     uint8_t number;
     size_t len;
@@ -121,7 +125,11 @@ struct cetskobi_written cetskobi_pack(const uint32_t *messages, size_t messages_
 struct cetskobi_answer cetskobi_deliver_packet(struct cetskobi_replica me, uint32_t *words, size_t words_len, uint8_t *store,
                                                size_t store_len, const uint8_t *packet, size_t packet_len, size_t i);
 
-/* The playing program on one script. */
+/* The playing program on one script of at most 65,536 bytes, with room for 25 bytes for each of them, and 2. */
 struct cetskobi_written cetskobi_play(const uint8_t *script, size_t script_len, uint8_t *out, size_t out_len);
+
+#ifdef __cplusplus
+}
+#endif
 
 #endif

@@ -27,9 +27,7 @@ pub fn play(script: &[u8]) -> Result<Vec<u8>, Refusal> {
     let (each, beside) = PRINTED_MAX;
     let mut out = vec![0; each * script.len().min(SCRIPT_MAX) + beside];
     let written = engine::play(script, &mut out);
-    if written.number != 0 {
-        return Err(Refusal::PlayerRoom);
-    }
+    Refusal::check(written.number)?;
     out.truncate(written.len);
     Ok(out)
 }
