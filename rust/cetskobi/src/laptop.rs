@@ -5,19 +5,17 @@ use std::fmt;
 use crate::sys::{Answer, WORDS};
 use crate::{engine, packet, Envelope, Members, Message, Record, Refusal, Replica, State};
 
-/// The words of one record in the table, as [`Record::to_words`] makes them.
-pub type Words = [u32; WORDS];
-
-/// A laptop on memory that the caller keeps: [`Laptop::lend`].
+/// A laptop on memory that the caller lends: [`Laptop::start_in`] and
+/// [`Laptop::from_parts`].
 pub type Lent<'a> = Laptop<&'a mut [u32], &'a mut [u8]>;
 
 /// One laptop of a group: its number, epoch and view, its records and their
 /// bytes.
 ///
 /// [`Laptop::start`] makes one that owns its memory. [`Laptop::start_in`] and
-/// [`Laptop::lend`] use memory of the caller's, for software that keeps the
-/// records itself: a table of words, eight for each record, and a store of 192
-/// bytes for each.
+/// [`Laptop::from_parts`] take the caller's, for software that keeps the records
+/// itself: a table of words, eight for each record ([`Record::to_words`]), and a
+/// store of 192 bytes for each.
 ///
 /// An event on record `i` gives `Ok` with the message that leaves, if one does,
 /// or `Err` with the question of document 01 that said no; then nothing has
@@ -44,13 +42,6 @@ impl Laptop {
         let words = vec![0; count * WORDS];
         let store = vec![0; count * Record::VALUE_MAX];
         Laptop::start_in(number, view, words, store)
-    }
-}
-
-impl<'a> Lent<'a> {
-    /// The laptop `me` on the caller's memory, as its last event left it.
-    pub fn lend(me: Replica, words: &'a mut [u32], store: &'a mut [u8]) -> Lent<'a> {
-        Laptop { me, words, store }
     }
 }
 
@@ -207,7 +198,29 @@ impl<W, S> Laptop<W, S> {
         ))
     }
 
-    /// Gives identity, words and store back.
+    /// The laptop `me` on its table and store, as its last event left the three.
+    ///
+    /// ```
+    /// use cetskobi::{Laptop, Refusal, State};
+    ///
+    /// # fn main() -> Result<(), Refusal> {
+    /// let mut words = [0; 8];
+    /// let mut store = [0; 192];
+    /// let mut laptop = Laptop::start_in(0, 0b11, &mut words, &mut store)?;
+    /// laptop.write(0, b"Wren")?;
+    /// let (me, _, _) = laptop.into_parts();
+    ///
+    /// // Between the events the memory is the caller's to keep, not to change.
+    /// let laptop = Laptop::from_parts(me, &mut words, &mut store);
+    /// assert_eq!(laptop.record(0).map(|r| r.state), Some(State::Write));
+    /// # Ok(())
+    /// # }
+    /// ```
+    pub fn from_parts(me: Replica, words: W, store: S) -> Self {
+        Laptop { me, words, store }
+    }
+
+    /// Gives identity, table and store back.
     pub fn into_parts(self) -> (Replica, W, S) {
         (self.me, self.words, self.store)
     }

@@ -56,7 +56,7 @@ mod record;
 mod refusal;
 pub mod sys;
 
-pub use laptop::{Laptop, Lent, Words};
+pub use laptop::{Laptop, Lent};
 pub use members::Members;
 pub use message::{Envelope, Message};
 pub use player::{play, SCRIPT_MAX};

@@ -191,7 +191,7 @@ fn lent_memory_keeps_what_an_event_left() {
     assert_eq!(words[8..], [3, 1, 2, 2, 1, 2, 0, 4]);
     assert_eq!(store[192..196], *b"wren");
 
-    let mut lent = Laptop::lend(me, &mut words, &mut store);
+    let mut lent = Laptop::from_parts(me, &mut words, &mut store);
     assert_eq!(lent.record(1).unwrap().state, State::Write);
     assert_eq!(lent.write(1, b"robin"), Err(Refusal::NotWritable));
     assert_eq!(
@@ -209,15 +209,15 @@ fn damaged_memory_is_refused() {
     };
     let (_, mut words, mut store) = laptop().into_parts();
     words[8] = 5; // no state
-    let mut lent = Laptop::lend(me, &mut words, &mut store);
+    let mut lent = Laptop::from_parts(me, &mut words, &mut store);
     assert_eq!(lent.record(1), None);
     assert_eq!(lent.write(1, b""), Err(Refusal::UnsoundRecord));
     assert!(lent.write(0, b"").is_ok());
 
-    let mut lent = Laptop::lend(me, &mut words[..23], &mut store);
+    let mut lent = Laptop::from_parts(me, &mut words[..23], &mut store);
     assert_eq!(lent.count(), 0);
     assert_eq!(lent.write(0, b""), Err(Refusal::LentMemory));
-    let mut lent = Laptop::lend(me, &mut words, &mut store[1..]);
+    let mut lent = Laptop::from_parts(me, &mut words, &mut store[1..]);
     assert_eq!(lent.write(0, b""), Err(Refusal::LentMemory));
 }
 
