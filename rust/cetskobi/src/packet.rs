@@ -2,6 +2,23 @@
 //!
 //! What [`pack`] writes reads back as the same messages, and a packet that
 //! [`fetch`] accepts is the one that [`pack`] makes of its messages.
+//!
+//! ```
+//! use cetskobi::{packet, Laptop, Refusal};
+//!
+//! # fn main() -> Result<(), Refusal> {
+//! let mut laptop = Laptop::start(2, 0b10_0110, 8)?;
+//! laptop.write(7, b"Wren")?;
+//!
+//! // What the radio brought: laptop 5 acknowledges.
+//! let received = [1, 1, 0, 20, 2, 5, 0, 0, 0, 0, 0, 7, 0, 0, 0, 1, 2, 0, 20, 0];
+//! for message in packet::messages(&received)? {
+//!     laptop.deliver(&message.envelope, message.body)?;
+//! }
+//! assert_eq!(laptop.record(7).map(|r| r.acks), Some(1 << 5));
+//! # Ok(())
+//! # }
+//! ```
 
 use std::iter::FusedIterator;
 

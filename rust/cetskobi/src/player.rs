@@ -16,7 +16,7 @@ const PRINTED_MAX: (usize, usize) = (25, 2);
 ///
 /// [`Refusal::PlayerRoom`] for a script of more than [`SCRIPT_MAX`] bytes.
 ///
-/// ```no_run
+/// ```
 /// # fn main() -> Result<(), cetskobi::Refusal> {
 /// let printed = cetskobi::play(b"group 2\nwrite 0 A1\ndeliver 1 0\n")?;
 /// assert_eq!(printed, b"0 W 1 0 0\n0 I 1 0 1\n");
