@@ -1,0 +1,212 @@
+//! One morning, tick by tick.
+
+use cetskobi::{Laptop, Members};
+
+use crate::group::Group;
+use crate::hut::{Done, Hut};
+use crate::link::Link;
+use crate::plan::Plan;
+use crate::report::{Cause, Failure, Report};
+use crate::ringer::Ringers;
+use crate::settings::Settings;
+use crate::settled::{self, Settled};
+use crate::Tick;
+
+/// After the link has healed all must be settled within so many ticks, or so
+/// many after the last view came.
+const GRACE: Tick = 2000;
+/// So often it is looked whether all is settled.
+const LOOK: Tick = 16;
+
+/// Plays one morning; `progress` is told each tick.
+///
+/// # Errors
+///
+/// The first check that failed.
+pub fn run(settings: &Settings, mut progress: impl FnMut(u32)) -> Result<Report, Box<Failure>> {
+    let mut morning = Morning::new(settings);
+    loop {
+        progress(morning.group.now);
+        let ended = morning.step();
+        match ended
+            .map_err(Cause::Disagreement)
+            .and_then(|()| morning.end())
+        {
+            Ok(None) => morning.group.now += 1,
+            Ok(Some(settled)) => return Ok(morning.report(settled)),
+            Err(cause) => return Err(Box::new(morning.failure(cause))),
+        }
+    }
+}
+
+struct Morning {
+    settings: Settings,
+    plan: Plan,
+    group: Group,
+    huts: Vec<Hut>,
+    link: Link,
+    ringers: Ringers,
+    /// Copies that reached a dead laptop.
+    to_the_dead: u64,
+}
+
+impl Morning {
+    fn new(settings: &Settings) -> Morning {
+        let plan = Plan::new(settings);
+        let hut = |n| Hut::new(n, settings.fault);
+        Morning {
+            settings: settings.clone(),
+            group: Group::start(settings).expect("settings that were checked start a group"),
+            huts: (0..settings.laptops).map(hut).collect(),
+            link: Link::new(settings),
+            ringers: Ringers::new(&plan.birds, settings.seed),
+            plan,
+            to_the_dead: 0,
+        }
+    }
+
+    /// All events of one tick.
+    fn step(&mut self) -> Done {
+        self.deaths();
+        self.views()?;
+        self.arrivals()?;
+        self.ringers()?;
+        if self.group.now == self.settings.ticks {
+            self.heal()?;
+        }
+        for hut in &mut self.huts {
+            hut.tick(&mut self.group)?;
+        }
+        self.send();
+        Ok(())
+    }
+
+    fn deaths(&mut self) {
+        for death in &self.plan.deaths {
+            if death.tick == self.group.now {
+                self.huts[usize::from(death.laptop)].close();
+            }
+        }
+    }
+
+    /// Views that reach a laptop now. When a late one has its view, the others
+    /// are told to send their VALs again.
+    fn views(&mut self) -> Done {
+        let now = self.group.now;
+        for issue in self.plan.issues.iter().filter(|i| i.tick == now) {
+            if self.plan.is_dead(issue.laptop, now) {
+                continue;
+            }
+            self.huts[usize::from(issue.laptop)].view_came(
+                &mut self.group,
+                issue.epoch,
+                issue.view,
+            )?;
+            if self.plan.late.contains(issue.laptop) {
+                for n in self.plan.living(&self.settings, now) {
+                    self.huts[usize::from(n)].remind(&mut self.group)?;
+                }
+            }
+        }
+        Ok(())
+    }
+
+    fn arrivals(&mut self) -> Done {
+        for heard in self.link.arrivals(self.group.now) {
+            if self.plan.is_dead(heard.to, self.group.now) {
+                self.to_the_dead += 1;
+                continue;
+            }
+            self.huts[usize::from(heard.to)].packet_came(&mut self.group, &heard.bytes)?;
+        }
+        Ok(())
+    }
+
+    fn ringers(&mut self) -> Done {
+        let (plan, now) = (&self.plan, self.group.now);
+        self.ringers
+            .tick(&mut self.group, &mut self.huts, |n| plan.is_dead(n, now))
+    }
+
+    /// The link heals: everybody goes over the records once.
+    fn heal(&mut self) -> Done {
+        self.link.heal();
+        for n in self.plan.living(&self.settings, self.group.now) {
+            self.huts[usize::from(n)].go_over(&mut self.group)?;
+        }
+        Ok(())
+    }
+
+    fn send(&mut self) {
+        let now = self.group.now;
+        for (n, hut) in (0..).zip(&mut self.huts) {
+            let weak = self.plan.is_weak(n, now);
+            for (to, bytes) in hut.packets() {
+                self.link.send(now, n, to, &bytes, weak);
+            }
+        }
+    }
+
+    /// Whether the morning is over: None as long as it goes on.
+    fn end(&self) -> Result<Option<Settled>, Cause> {
+        let now = self.group.now;
+        let last_view = self.plan.issues.last().map_or(0, |i| i.tick);
+        let healed = self.settings.ticks.max(last_view);
+        if now <= healed || now % LOOK != 0 || (!self.link.is_silent() && now < healed + GRACE) {
+            return Ok(None);
+        }
+        let living = self.plan.living(&self.settings, now);
+        let living: Vec<&Laptop> = living.into_iter().map(|n| self.group.laptop(n)).collect();
+        match settled::look(&self.group, &living) {
+            Err(Cause::Unsettled { .. }) if now < healed + GRACE => Ok(None),
+            Err(cause) => Err(cause),
+            // A bird waits for a record that can be opened: it will be saved.
+            Ok(s) if !self.ringers.waiting().iter().all(|r| s.hung.contains(r)) => Ok(None),
+            Ok(s) => Ok(Some(s)),
+        }
+    }
+
+    fn report(self, settled: Settled) -> Report {
+        Report {
+            settings: self.settings,
+            plan: self.plan,
+            events: self.group.counts,
+            link: self.link.counts,
+            to_the_dead: self.to_the_dead,
+            checks: self.group.agreement.checks,
+            saved: self.ringers.saved,
+            waiting: self.ringers.waiting().len(),
+            settled,
+            ticks: self.group.now,
+        }
+    }
+
+    fn failure(&self, cause: Cause) -> Failure {
+        Failure {
+            seed: self.settings.seed,
+            tick: self.group.now,
+            events: self.group.history.of(cause.record()),
+            cause,
+        }
+    }
+}
+
+impl Plan {
+    fn is_dead(&self, laptop: u8, now: Tick) -> bool {
+        self.deaths
+            .iter()
+            .any(|d| d.laptop == laptop && d.tick <= now)
+    }
+
+    fn is_weak(&self, laptop: u8, now: Tick) -> bool {
+        self.deaths
+            .iter()
+            .any(|d| d.laptop == laptop && d.weak <= now)
+    }
+
+    fn living(&self, settings: &Settings, now: Tick) -> Members {
+        (0..settings.laptops)
+            .filter(|n| !self.is_dead(*n, now))
+            .collect()
+    }
+}

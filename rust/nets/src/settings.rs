@@ -1,0 +1,109 @@
+//! What a morning is like.
+
+use cetskobi::Record;
+
+use crate::fault::Fault;
+use crate::Tick;
+
+/// Sizes of the group and of the morning, and the link's faults.
+#[derive(Clone, Debug, PartialEq, Eq)]
+pub struct Settings {
+    /// The beginning of all random numbers.
+    pub seed: u64,
+    /// Laptops in the group at the start.
+    pub laptops: u8,
+    /// Records of each laptop.
+    pub records: usize,
+    /// Birds ringed: saves to records that were empty.
+    pub rings: usize,
+    /// Birds met again: saves over a record that was read.
+    pub recaptures: usize,
+    /// Laptops that die and are struck off.
+    pub deaths: u8,
+    /// Laptops that get a new view late.
+    pub late: u8,
+    /// How much later they get it.
+    pub lateness: Tick,
+    /// Until when birds come; then the link heals.
+    pub ticks: Tick,
+    /// Copies of packets that the link loses, of 100.
+    pub loss: u8,
+    /// Copies that it repeats, of 100.
+    pub repeat: u8,
+    /// The most ticks that a packet usually takes; a few take far longer.
+    pub delay: Tick,
+    /// What is deliberately broken, to see the checks at work.
+    pub fault: Option<Fault>,
+}
+
+impl Default for Settings {
+    fn default() -> Settings {
+        Settings {
+            seed: 1,
+            laptops: 11,
+            records: Record::COUNT_MAX,
+            rings: 600,
+            recaptures: 40,
+            deaths: 1,
+            late: 2,
+            lateness: 300,
+            ticks: 2000,
+            loss: 30,
+            repeat: 10,
+            delay: 6,
+            fault: None,
+        }
+    }
+}
+
+impl Settings {
+    /// Whether such a morning can be played.
+    ///
+    /// # Errors
+    ///
+    /// What is wrong, in plain words.
+    pub fn check(&self) -> Result<(), String> {
+        let fits: [(bool, &str); 9] = [
+            (
+                (2..=16).contains(&self.laptops),
+                "a group has 2 to 16 laptops",
+            ),
+            (
+                (1..=Record::COUNT_MAX).contains(&self.records),
+                "a laptop has 1 to 4096 records",
+            ),
+            (
+                self.rings <= self.records,
+                "each ring needs a record of its own",
+            ),
+            (
+                self.recaptures == 0 || self.rings > 0,
+                "a recapture needs a bird that was ringed",
+            ),
+            (
+                self.deaths.saturating_add(2) <= self.laptops,
+                "two laptops must stay in the view",
+            ),
+            (
+                self.deaths.saturating_add(self.late) <= self.laptops,
+                "no more laptops can be late than live",
+            ),
+            (
+                (100..=1_000_000).contains(&self.ticks),
+                "a morning has 100 to 1000000 ticks",
+            ),
+            (
+                self.loss <= 90 && self.repeat <= 90,
+                "at most 90 of 100 packets can be lost, or repeated",
+            ),
+            (
+                (1..=1000).contains(&self.delay) && self.lateness <= 1_000_000,
+                "a packet takes 1 to 1000 ticks, a view at most 1000000",
+            ),
+        ];
+        match fits.iter().find(|(holds, _)| !holds) {
+            Some((_, rule)) => Err((*rule).to_owned()),
+            None => Ok(()),
+        }
+    }
+}
