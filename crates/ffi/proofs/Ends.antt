@@ -18,9 +18,9 @@ use Rattle.ffi.specs.declared.crossing.CetskobiReplica.{CetskobiReplica}
 use Rattle.ffi.specs.declared.crossing.CetskobiAnswer.{CetskobiAnswer}
 use Rattle.ffi.specs.declared.crossing.CetskobiRead.{CetskobiRead}
 use Rattle.ffi.specs.Crossing.{replicaOf, answerOut}
-use Rattle.ffi.specs.Words.{countOf, tableOf, wordsAfter}
+use Rattle.words.specs.Words.{countOf, tableOf, wordsAfter}
 use Rattle.ffi.specs.Events.{nodeOf, Done, ReadDone}
-use Rattle.ffi.proofs.Lent.{length-table}
+use Rattle.words.proofs.Lent.{length-table}
 
 -- what the code takes out of the words and hands to the engine
 pub record Taken (me : CetskobiReplica) (words : List ℕ) (i : ℕ) (who : Replica) (count : ℕ) (r : Record) : Type 0 where

@@ -12,7 +12,7 @@ use Rattle.ffi.specs.declared.crossing.CetskobiReplica.{CetskobiReplica}
 use Rattle.ffi.specs.declared.crossing.CetskobiAnswer.{CetskobiAnswer}
 use Rattle.ffi.specs.declared.crossing.CetskobiRead.{CetskobiRead}
 use Rattle.ffi.specs.Crossing.{replicaOf, answerOut}
-use Rattle.ffi.specs.Words.{tableOf, wordsAfter}
+use Rattle.words.specs.Words.{tableOf, wordsAfter}
 
 -- the replica with the memory that came from outside
 abbrev pub nodeOf : CetskobiReplica → List ℕ → List ℕ → Node

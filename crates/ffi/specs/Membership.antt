@@ -8,7 +8,7 @@ use Rattle.hermes.specs.declared.event.Admission.the-variants.{Admitted, Refuse
 use Rattle.hermes.specs.Node.{newcomer, firstRecord, start}
 use Rattle.ffi.specs.declared.crossing.CetskobiAdmission.{CetskobiAdmission}
 use Rattle.ffi.specs.Crossing.{identityOf, admissionOut}
-use Rattle.ffi.specs.Words.{countOf, tableOf, fill}
+use Rattle.words.specs.Words.{countOf, tableOf, fill}
 
 -- the words after an admission: every record the first one; after a refusal as they were
 abbrev pub filledBy : Admission → List ℕ → ℕ → List ℕ

@@ -5,14 +5,13 @@ ghost use lib.ListN.{length, take, drop};
 ghost use Prim.Native.Nat.{_*_};
 ghost use Rattle.hermes.specs.declared.event.Event.the-variants.{Write, Replay, Deliver, Validate, Resend};
 ghost use Rattle.ffi.specs.Crossing.{answerOut, receivedIn};
-ghost use Rattle.ffi.specs.Words.{wordsAfter};
+ghost use Rattle.words.specs.Words.{wordsAfter};
 ghost use Rattle.ffi.specs.Events.{nodeOf, Done, ReadDone};
 use crate::crossing;
 use crate::crossing::CetskobiAnswer;
 use crate::crossing::CetskobiMessage;
 use crate::crossing::CetskobiRead;
 use crate::crossing::CetskobiReplica;
-use crate::words;
 use hermes::Moved;
 
 // The end of an event on record i: its answer, and the words.

@@ -2,7 +2,6 @@
 mod crossing;
 mod events;
 mod membership;
-mod words;
 
 pub use crossing::CetskobiAdmission;
 pub use crossing::CetskobiAnswer;

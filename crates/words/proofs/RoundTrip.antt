@@ -7,7 +7,7 @@ use Rattle.hermes.specs.declared.record.Record.{Record}
 use Rattle.hermes.specs.declared.record.State.{State}
 use Rattle.hermes.specs.declared.record.State.the-variants.{Valid, Invalid, InvalidWrite, Write, Replay}
 use Rattle.hermes.specs.Record.{code}
-use Rattle.ffi.specs.Words.{stateOf, decode}
+use Rattle.words.specs.Words.{stateOf, decode}
 
 -- the widths of the fields
 pub record Fits (r : Record) : Type 0 where

@@ -1,12 +1,12 @@
--- `ffi::words::put_record` meets its contract.
+-- `words::putting::put_record` meets its contract.
 use Rattle.hermes.specs.Record.{code}
 use Prim.Native.Nat.{_*_}
 use native.Mathlib.Omega.{arith}
 use lib.ListN.{length-set}
-use Rattle.ffi.proofs.Lent.{stores}
+use Rattle.words.proofs.Lent.{stores}
 use borrow.Author.Needs.{needs}
-use Rattle.ffi.proofs.words.put_record.Statement.{statement}
-use Rattle.ffi.proofs.words.put_record.Tie as tie
+use Rattle.words.proofs.putting.put_record.Statement.{statement}
+use Rattle.words.proofs.putting.put_record.Tie as tie
 
 mul-at : tie.Need-mul-at
 mul-at c = search needs

@@ -1,9 +1,9 @@
--- `ffi::words::settle` meets its contract.
-use Rattle.ffi.proofs.Lent.{inside, settled-in, settled-out}
+-- `words::putting::settle` meets its contract.
+use Rattle.words.proofs.Lent.{inside, settled-in, settled-out}
 use mathlib.Core.Path.{sym, _∙_}
 use borrow.Author.Needs.{needs}
-use Rattle.ffi.proofs.words.settle.Statement.{statement}
-use Rattle.ffi.proofs.words.settle.Tie as tie
+use Rattle.words.proofs.putting.settle.Statement.{statement}
+use Rattle.words.proofs.putting.settle.Tie as tie
 
 enum-told : tie.Need-enum-told
 enum-told c = search needs

@@ -1,0 +1,3 @@
+-- Laws of records as words.
+pub mod Lent
+pub mod RoundTrip
