@@ -120,11 +120,6 @@ unfoldable pub start : ℕ → ℕ → List Record → List ℕ → Start
 start number view table store =
     begin (firstNo (startQuestions (newcomer number view) (length table) (length store))) (newcomer number view) table store
 
--- the store after an admission: zero, or as found
-abbrev pub zeroedBy : Admission → List ℕ → List ℕ
-zeroedBy (Admitted me) store = replicate (length store) 0
-zeroedBy (Refused k) store = store
-
 -- 01, "A view event asks only 1 and 3 of these", then 18 and 19
 abbrev pub viewQuestions : Replica → ℕ → ℕ → List Question
 viewQuestions me epoch view = question1 me ∷ question3 me ∷ question18 me epoch ∷ question19 me view ∷ []

@@ -1,8 +1,8 @@
 // The fresh start of a replica on the lent table and store.
 ghost use mathlib.Core.Path.{_≡_};
 ghost use lib.ListN.{length, replicate};
-ghost use Rattle.hermes.specs.Node.{admit, firstRecord, start, zeroedBy};
-ghost use Rattle.table.specs.Filling.{filledBy};
+ghost use Rattle.hermes.specs.Node.{admit, firstRecord, start};
+ghost use Rattle.table.specs.Filling.{filledBy, zeroedBy};
 use hermes::Admission;
 use hermes::Record;
 use replica::admit;

@@ -2,7 +2,7 @@
 ghost use mathlib.Core.Path.{_≡_};
 ghost use lib.ListN.{length};
 ghost use Rattle.hermes.specs.Record.{code};
-ghost use Rattle.words.specs.Words.{wordsAfter, put};
+ghost use Rattle.words.specs.Words.{Fits, tableOf, put, wordsAfter, tableAfter};
 ghost use Prim.Native.Nat.{_+_, _*_, _≤_};
 use crate::reading::WORDS;
 use crate::reading::count;
@@ -26,7 +26,7 @@ fn code_of(s: State) -> u32
 // Record i's eight words are replaced.
 pub(crate) fn put_record(words: &mut [u32], i: usize, r: Record)
     requires { ⌜ 8 * i + 8 ≤ length (now words) ⌝ }
-    ensures { λ _. ⌜ now (words .exit) ≡ put (now (words .entry)) i r ⌝ }
+    ensures { λ _. ⌜ (now (words .exit) ≡ put (now (words .entry)) i r) × Fits r ⌝ }
 {
     let at = WORDS * i;
     let s = r.state;
@@ -42,7 +42,8 @@ pub(crate) fn put_record(words: &mut [u32], i: usize, r: Record)
 
 // An event's end: an accepted one puts its record back, a refused one leaves every word.
 pub fn settle(words: &mut [u32], i: usize, m: Moved)
-    ensures { λ _. ⌜ now (words .exit) ≡ wordsAfter m (now (words .entry)) i ⌝ }
+    ensures { λ _. ⌜ (now (words .exit) ≡ wordsAfter m (now (words .entry)) i)
+        × (tableOf (now (words .exit)) ≡ tableAfter m (tableOf (now (words .entry))) i) ⌝ }
 {
     let a = m.answer;
     let after = m.after;

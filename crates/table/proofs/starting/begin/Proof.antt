@@ -1,7 +1,6 @@
 use mathlib.Core.Path.{sym, ap, _∙_}
 use Rattle.hermes.specs.declared.event.Admission.{Admission}
-use Rattle.hermes.specs.Node.{zeroedBy}
-use Rattle.table.specs.Filling.{filledBy}
+use Rattle.table.specs.Filling.{filledBy, zeroedBy}
 use borrow.Author.Needs.{needs}
 use Rattle.table.proofs.starting.begin.Statement.{statement}
 use Rattle.table.proofs.starting.begin.Tie as tie
