@@ -1,4 +1,2 @@
 pub mod Ends
-pub mod Lent
-pub mod RoundTrip
 pub mod Started

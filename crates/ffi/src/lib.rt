@@ -4,7 +4,6 @@ mod events;
 mod membership;
 mod packets;
 mod playing;
-mod words;
 
 pub use crossing::CetskobiAdmission;
 pub use crossing::CetskobiAnswer;

@@ -1,7 +1,7 @@
--- `ffi::words::count` meets its contract.
+-- `words::reading::count` meets its contract.
 use borrow.Author.Tests.{eq-eqb, ne-eqb}
-use Rattle.ffi.proofs.words.count.Statement.{statement}
-use Rattle.ffi.proofs.words.count.Tie as tie
+use Rattle.words.proofs.reading.count.Statement.{statement}
+use Rattle.words.proofs.reading.count.Tie as tie
 
 returns : tie.Need-returns
 returns c = simp (eq-eqb _ _ (c .if1 .taken))

@@ -1,10 +1,10 @@
 -- A record as eight words, and the lent table as words: state, version, tie-breaker, last writer, last-write version, last-write tie-breaker,
 -- acknowledgements, value length.
-use Prim.Native.Nat.{ℕ, zero, suc, _+_, _*_, _/_, _%_}
+use Prim.Native.Nat.{ℕ, zero, suc, _+_, _*_, _/_, _%_, _≤_}
 use mathlib.Core.Bool.{Bool, true, false, cond}
 use mathlib.Core.List.{List, [], _∷_}
 use lib.Dec.{ltb, eqb}
-use lib.ListN.{length, getD}
+use lib.ListN.{length, getD, set}
 use lib.Seq.{sets}
 use Rattle.hermes.specs.declared.record.Record.{Record}
 use Rattle.hermes.specs.declared.record.State.{State}
@@ -56,6 +56,14 @@ abbrev pub encode : Record → List ℕ
 encode r =
     code (r .state) ∷ r .timestamp .version ∷ r .timestamp .tie ∷ r .writer ∷ r .written .version ∷ r .written .tie ∷ r .acks ∷ r .len ∷ []
 
+-- a record whose fields have the widths of their types
+pub record Fits (r : Record) : Type 0 where
+  pub tie : r .timestamp .tie ≤ 255
+  pub writer : r .writer ≤ 255
+  pub ownTie : r .written .tie ≤ 255
+  pub acks : r .acks ≤ 65535
+  pub len : r .len ≤ 255
+
 -- ---- the table
 
 -- how many records words hold; words that are not eight for each hold none, so that question 2 refuses them
@@ -94,3 +102,11 @@ wordsBy (Refused k) words i r = words
 
 abbrev pub wordsAfter : Moved → List ℕ → ℕ → List ℕ
 wordsAfter m words i = wordsBy (m .answer) words i (m .after)
+
+-- the table that they hold then
+abbrev pub tableBy : Answer → List Record → ℕ → Record → List Record
+tableBy (Accepted o) table i r = set table i r
+tableBy (Refused k) table i r = table
+
+abbrev pub tableAfter : Moved → List Record → ℕ → List Record
+tableAfter m table i = tableBy (m .answer) table i (m .after)

@@ -1,9 +1,9 @@
--- `ffi::words::decoded` meets its contract.
-use Rattle.ffi.specs.Words.{decode}
+-- `words::decoding::decoded` meets its contract.
+use Rattle.words.specs.Words.{decode}
 use borrow.Author.Tests.{lt-ltb, le-ltb}
 use borrow.Author.Needs.{needs}
-use Rattle.ffi.proofs.words.decoded.Statement.{statement}
-use Rattle.ffi.proofs.words.decoded.Tie as tie
+use Rattle.words.proofs.decoding.decoded.Statement.{statement}
+use Rattle.words.proofs.decoding.decoded.Tie as tie
 
 none-requires : tie.Need-none-requires
 none-requires c κs = search needs

@@ -14,7 +14,7 @@ use Rattle.hermes.specs.declared.event.Moved.{Moved}
 use Rattle.hermes.specs.declared.event.Answer.the-variants.{Accepted}
 use Rattle.hermes.specs.Record.{freshRecord}
 use Rattle.hermes.specs.Node.{recordAt}
-use Rattle.ffi.specs.Words.{countOf, decodeAt, records, tableOf, put, wordsAfter}
+use Rattle.words.specs.Words.{countOf, decodeAt, records, tableOf, put, wordsAfter}
 
 length-records : (n at : ℕ) (words : List ℕ) → length (records n at words) ≡ n
 length-records zero at words = refl

@@ -5,12 +5,12 @@ use native.Mathlib.Numerals.{add-one}
 use native.Mathlib.Omega.{arith}
 use borrow.Author.Needs.{needs}
 use lib.ListN.{length, length-set}
-use Rattle.ffi.proofs.Started.{zeros, zeros-suc, zeros-all}
-use Rattle.ffi.proofs.membership.zero.Statement.{statement}
-use Rattle.ffi.proofs.membership.zero.Tie as tie
+use Rattle.hermes.proofs.Filling.{filled, filled-suc, filled-all}
+use Rattle.words.proofs.filling.zero.Statement.{statement}
+use Rattle.words.proofs.filling.zero.Tie as tie
 
 abbrev Inv-loop : tie.InvT-loop
-Inv-loop store₀ k₀ store k = (k ≤ length store₀) × ((store ≡ zeros store₀ k) × (length store ≡ length store₀))
+Inv-loop store₀ k₀ store k = (k ≤ length store₀) × ((store ≡ filled 0 store₀ k) × (length store ≡ length store₀))
 
 abbrev μ-loop : tie.MeasureT-loop
 μ-loop store₀ k₀ store k = length store₀ - k
@@ -31,7 +31,7 @@ loop-again : tie.Need-loop-again Inv-loop μ-loop
 loop-again c =
     let l = c .before .loop in let a = c .before .before .args in
     let here : l .k < length (a .store .now) = omega arith in
-    (omega arith, (rw (l .inv .1 .0, zeros-suc (a .store .now) (l .k) here, add-one (l .k)), simp length-set (l .inv .1 .1)))
+    (omega arith, (rw (l .inv .1 .0, filled-suc 0 (a .store .now) (l .k) here, add-one (l .k)), simp length-set (l .inv .1 .1)))
 
 same-length : tie.Need-same-length Inv-loop μ-loop
 same-length c = search needs
@@ -40,7 +40,7 @@ returns : tie.Need-returns Inv-loop μ-loop
 returns c =
     let l = c .before .loop in let a = c .before .before .args in
     let e : l .k ≡ length (a .store .now) = omega arith in
-    l .inv .1 .0 ∙ ap (zeros (a .store .now)) e ∙ zeros-all (a .store .now)
+    l .inv .1 .0 ∙ ap (filled 0 (a .store .now)) e ∙ filled-all 0 (a .store .now)
 
 pub zero-spec : {M : Type 1} → statement M
 zero-spec =

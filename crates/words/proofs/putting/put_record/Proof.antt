@@ -1,12 +1,12 @@
--- `ffi::words::put_record` meets its contract.
+-- `words::putting::put_record` meets its contract.
 use Rattle.hermes.specs.Record.{code}
 use Prim.Native.Nat.{_*_}
 use native.Mathlib.Omega.{arith}
 use lib.ListN.{length-set}
-use Rattle.ffi.proofs.Lent.{stores}
+use Rattle.words.proofs.Lent.{stores}
 use borrow.Author.Needs.{needs}
-use Rattle.ffi.proofs.words.put_record.Statement.{statement}
-use Rattle.ffi.proofs.words.put_record.Tie as tie
+use Rattle.words.proofs.putting.put_record.Statement.{statement}
+use Rattle.words.proofs.putting.put_record.Tie as tie
 
 mul-at : tie.Need-mul-at
 mul-at c = search needs
@@ -102,7 +102,17 @@ same-length : tie.Need-same-length
 same-length c = simp length-set
 
 returns : tie.Need-returns
-returns c = let v = c .before .before .before .before .before .before .before .args in rw (c .before .before .before .before .before .code-of .ensures) (stores (v .words .now) (8 * v .i) (code (v .r .state)) (v .r .timestamp .version) (v .r .timestamp .tie) (v .r .writer) (v .r .written .version) (v .r .written .tie) (v .r .acks) (v .r .len))
+returns c = let v = c .before .before .before .before .before .before .before .args in
+    let k = c .struct-known5 .given in (
+      rw (c .before .before .before .before .before .code-of .ensures) (stores (v .words .now) (8 * v .i) (code (v .r .state)) (v .r .timestamp .version) (v .r .timestamp .tie) (v .r .writer) (v .r .written .version) (v .r .written .tie) (v .r .acks) (v .r .len)),
+      record {
+        tie = omega (arith, k);
+        writer = omega (arith, k);
+        ownTie = omega (arith, k);
+        acks = omega (arith, k);
+        len = omega (arith, k);
+      },
+    )
 
 pub put-record-spec : {M : Type 1} → statement M
 put-record-spec =

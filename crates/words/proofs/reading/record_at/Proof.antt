@@ -1,9 +1,9 @@
--- `ffi::words::record_at` meets its contract.
-use Rattle.ffi.proofs.Lent.{record-in, record-out, inside}
+-- `words::reading::record_at` meets its contract.
+use Rattle.words.proofs.Lent.{record-in, record-out, inside}
 use mathlib.Core.Path.{sym, _∙_}
 use borrow.Author.Needs.{needs}
-use Rattle.ffi.proofs.words.record_at.Statement.{statement}
-use Rattle.ffi.proofs.words.record_at.Tie as tie
+use Rattle.words.proofs.reading.record_at.Statement.{statement}
+use Rattle.words.proofs.reading.record_at.Tie as tie
 
 count-requires : tie.Need-count-requires
 count-requires c κs = search needs

@@ -1,7 +1,7 @@
--- `ffi::words::state_of` meets its contract.
+-- `words::decoding::state_of` meets its contract.
 use borrow.Author.Tests.{eq-eqb, ne-eqb}
-use Rattle.ffi.proofs.words.state_of.Statement.{statement}
-use Rattle.ffi.proofs.words.state_of.Tie as tie
+use Rattle.words.proofs.decoding.state_of.Statement.{statement}
+use Rattle.words.proofs.decoding.state_of.Tie as tie
 
 returns : tie.Need-returns
 returns c = simp (eq-eqb _ _ (c .if1 .taken))
