@@ -1,3 +1,4 @@
 pub mod Crossing
+pub mod Leaving
 pub mod Events
 pub mod Membership

@@ -1,6 +1,7 @@
 // The engine for C and Rust: exported functions over numbers, slices of numbers and structs of numbers.
 mod crossing;
 mod events;
+mod leaving;
 mod membership;
 
 pub use crossing::CetskobiAdmission;
@@ -14,5 +15,7 @@ pub use events::cetskobi_replay;
 pub use events::cetskobi_resend;
 pub use events::cetskobi_validate;
 pub use events::cetskobi_write;
+pub use leaving::cetskobi_body;
+pub use leaving::cetskobi_recipients;
 pub use membership::cetskobi_start;
 pub use membership::cetskobi_view;
