@@ -156,3 +156,94 @@ impl Screen<'_> {
         self.timestamp == other.timestamp && self.len == other.len && self.bytes == other.bytes
     }
 }
+
+#[cfg(test)]
+mod tests {
+    use super::*;
+    use cetskobi::Replica;
+
+    const OLD: Timestamp = Timestamp { version: 1, tie: 0 };
+    const NEW: Timestamp = Timestamp { version: 2, tie: 1 };
+
+    /// A laptop with one record of one byte, as no event need have left it.
+    fn laptop(number: u8, view: u16, state: State, timestamp: Timestamp, byte: u8) -> Laptop {
+        let r = Record {
+            state,
+            timestamp,
+            writer: 0,
+            written: timestamp,
+            acks: 0,
+            len: 1,
+        };
+        let mut store = vec![0; Record::VALUE_MAX];
+        store[0] = byte;
+        let me = Replica {
+            number,
+            view,
+            epoch: 0,
+        };
+        Laptop::from_parts(me, r.to_words().to_vec(), store)
+    }
+
+    fn check(laptops: &[Laptop]) -> Result<(), Disagreement> {
+        Agreement::new(1).check(laptops, 0)
+    }
+
+    #[test]
+    fn two_screens_in_each_others_view() {
+        let valid = |n, view, t, byte| laptop(n, view, State::Valid, t, byte);
+        let differ = Err(Disagreement::TwoScreens {
+            record: 0,
+            laptops: (0, 1),
+        });
+        assert_eq!(
+            check(&[valid(0, 0b11, OLD, 7), valid(1, 0b11, OLD, 7)]),
+            Ok(())
+        );
+        assert_eq!(
+            check(&[valid(0, 0b11, OLD, 7), valid(1, 0b11, OLD, 8)]),
+            differ
+        );
+        assert_eq!(
+            check(&[valid(0, 0b11, OLD, 7), valid(1, 0b11, NEW, 7)]),
+            differ
+        );
+        // One who is not in the other's view is not compared with it.
+        assert_eq!(
+            check(&[valid(0, 0b11, OLD, 7), valid(1, 0b110, NEW, 8)]),
+            Ok(())
+        );
+        // Nor is a record that is not shown.
+        let hidden = laptop(1, 0b11, State::Invalid, NEW, 8);
+        assert_eq!(check(&[valid(0, 0b11, OLD, 7), hidden]), Ok(()));
+    }
+
+    #[test]
+    fn bytes_behind_the_text_count_too() {
+        let one = laptop(0, 0b11, State::Valid, OLD, 7);
+        let (me, words, mut store) = laptop(1, 0b11, State::Valid, OLD, 7).into_parts();
+        store[Record::VALUE_MAX - 1] = 1;
+        assert!(check(&[one, Laptop::from_parts(me, words, store)]).is_err());
+    }
+
+    #[test]
+    fn finished_saves_last() {
+        let mut agreement = Agreement::new(1);
+        agreement.finished(&laptop(1, 0b11, State::Valid, NEW, 8), 0);
+        // The finisher writes again, so its screen is dark; the other's is old.
+        let busy = laptop(1, 0b11, State::Write, NEW, 8);
+        let old = laptop(0, 0b11, State::Valid, OLD, 7);
+        let older = Disagreement::OlderText {
+            record: 0,
+            laptop: 0,
+            validated: NEW,
+        };
+        assert_eq!(agreement.check(&[old, busy], 0), Err(older));
+        // One outside the finisher's view may be older.
+        let outside = laptop(2, 0b111, State::Valid, OLD, 7);
+        assert_eq!(agreement.check(&[outside], 0), Ok(()));
+        // The validated timestamp, or a later one, is right.
+        let same = laptop(0, 0b11, State::Valid, NEW, 8);
+        assert_eq!(agreement.check(&[same], 0), Ok(()));
+    }
+}

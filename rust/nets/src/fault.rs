@@ -14,6 +14,8 @@ pub enum Fault {
     Epoch,
     /// The link alters who acknowledged.
     Sender,
+    /// Hut software drops validations.
+    Val,
 }
 
 impl Fault {
@@ -27,7 +29,8 @@ impl Fault {
             "text" => Ok(Fault::Text),
             "epoch" => Ok(Fault::Epoch),
             "sender" => Ok(Fault::Sender),
-            _ => Err("--fault: text, epoch or sender".to_owned()),
+            "val" => Ok(Fault::Val),
+            _ => Err("--fault: text, epoch, sender or val".to_owned()),
         }
     }
 }
@@ -37,7 +40,8 @@ const ALTERED: usize = 20;
 
 /// The packet as a faulty link hands it on.
 pub(crate) fn in_flight(fault: Fault, bytes: &[u8], laptops: u8, rng: &mut Rng) -> Option<Vec<u8>> {
-    if fault == Fault::Epoch || !rng.chance(1, ALTERED) {
+    let alters = matches!(fault, Fault::Text | Fault::Sender);
+    if !alters || !rng.chance(1, ALTERED) {
         return None;
     }
     let came: Vec<(Envelope, Vec<u8>)> = packet::messages(bytes)

@@ -1,7 +1,7 @@
 //! The laptops of the group. Every event goes through here: it is counted,
 //! remembered, and agreement is checked after it.
 
-use cetskobi::{Envelope, Laptop, Members, Record, Refusal, Timestamp};
+use cetskobi::{Envelope, Laptop, Members, Record, Refusal, State, Timestamp};
 use std::collections::BTreeMap;
 
 use crate::agreement::{Agreement, Disagreement};
@@ -13,7 +13,11 @@ use crate::Tick;
 #[derive(Clone, Debug, Default, PartialEq, Eq)]
 pub(crate) struct EventCounts {
     pub events: [u64; Kind::ALL.len()],
+    pub accepted: [u64; Kind::ALL.len()],
+    /// By the number of the question.
     pub refused: BTreeMap<u8, u64>,
+    /// Saves overtaken by another laptop's: from write to invalid-write.
+    pub overtaken: u64,
     /// INV, ACK, VAL.
     pub messages: [u64; 3],
 }
@@ -98,13 +102,25 @@ impl Group {
         k: usize,
         came: Envelope,
     ) -> Watched {
+        let before = self.record(number, came.record);
         let answer = crate::stand_in::deliver_packet(self.laptop_mut(number), packet, k);
+        let after = self.record(number, came.record);
+        let state = |r: Option<Record>| r.map(|r| r.state);
+        if (state(before), state(after)) == (Some(State::Write), Some(State::InvalidWrite)) {
+            self.counts.overtaken += 1;
+        }
         self.watched(number, came.record, Kind::Deliver, Some(came), answer)
     }
 
-    /// A message by itself, for software that tampers with it first.
-    pub fn deliver(&mut self, number: u8, came: Envelope, body: &[u8]) -> Watched {
-        let answer = self.laptop_mut(number).deliver(&came, body);
+    /// A message that came, handed over as another.
+    pub fn deliver_as(
+        &mut self,
+        number: u8,
+        came: Envelope,
+        handed: Envelope,
+        body: &[u8],
+    ) -> Watched {
+        let answer = self.laptop_mut(number).deliver(&handed, body);
         self.watched(number, came.record, Kind::Deliver, Some(came), answer)
     }
 
@@ -161,10 +177,16 @@ impl Group {
 
     fn count(&mut self, kind: Kind, answer: Answer) {
         self.counts.events[kind as usize] += 1;
-        match answer {
-            Ok(Some(left)) => self.counts.messages[kind_of(left.message)] += 1,
-            Ok(None) => {}
-            Err(refusal) => *self.counts.refused.entry(refusal.number()).or_default() += 1,
+        let left = match answer {
+            Ok(left) => left,
+            Err(refusal) => {
+                *self.counts.refused.entry(refusal.number()).or_default() += 1;
+                return;
+            }
+        };
+        self.counts.accepted[kind as usize] += 1;
+        if let Some(envelope) = left {
+            self.counts.messages[kind_of(envelope.message)] += 1;
         }
     }
 

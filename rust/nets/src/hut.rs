@@ -63,6 +63,9 @@ impl Hut {
             return Ok(());
         };
         for (k, m) in messages.enumerate() {
+            if self.fault == Some(Fault::Val) && matches!(m.envelope.message, Message::Val(_)) {
+                continue;
+            }
             let Ok(left) = self.take(group, bytes, k, m)? else {
                 continue;
             };
@@ -86,12 +89,16 @@ impl Hut {
         Ok(())
     }
 
-    /// The warden's view comes. If it is taken, all records are gone over.
+    /// The warden's view comes. If it is taken, all records are gone over; a
+    /// laptop that is struck off is put away.
     pub fn view_came(&mut self, group: &mut Group, epoch: u32, view: Members) -> Done {
-        match group.change_view(self.number, epoch, view)? {
-            Ok(_) => self.go_over(group),
-            Err(_) => Ok(()),
+        let taken = group.change_view(self.number, epoch, view)?.is_ok();
+        if taken && !view.contains(self.number) {
+            self.timers.clear();
+        } else if taken {
+            self.go_over(group)?;
         }
+        Ok(())
     }
 
     /// Once over the records: whatever may help is tried on those that wait,
@@ -150,24 +157,15 @@ impl Hut {
         self.outbox.packets()
     }
 
-    /// The laptop is dead.
-    pub fn close(&mut self) {
-        self.outbox.clear();
-        self.timers.clear();
-    }
-
     /// Takes message `k` of a packet in.
     fn take(&mut self, group: &mut Group, bytes: &[u8], k: usize, m: Fetched) -> Watched {
         if self.fault == Some(Fault::Epoch) {
             let epoch = group.laptop(self.number).epoch();
-            return group.deliver(
-                self.number,
-                Envelope {
-                    epoch,
-                    ..m.envelope
-                },
-                m.body,
-            );
+            let handed = Envelope {
+                epoch,
+                ..m.envelope
+            };
+            return group.deliver_as(self.number, m.envelope, handed, m.body);
         }
         group.deliver_packet(self.number, bytes, k, m.envelope)
     }
@@ -206,9 +204,8 @@ impl Hut {
     fn send(&mut self, group: &Group, left: Option<Envelope>, inv_sender: u8) {
         let Some(envelope) = left else { return };
         let laptop = group.laptop(self.number);
-        let to = crate::stand_in::recipients(laptop, &envelope, inv_sender);
-        self.outbox
-            .put(to, envelope, crate::stand_in::body(laptop, &envelope));
+        let to = laptop.recipients(&envelope, inv_sender);
+        self.outbox.put(to, envelope, laptop.body(&envelope));
     }
 
     fn wait(&mut self, now: Tick, i: usize, wait: Tick) {

@@ -149,3 +149,39 @@ impl Link {
         broken.map_or_else(|| bytes.clone(), Rc::from)
     }
 }
+
+#[cfg(test)]
+mod tests {
+    use super::*;
+
+    /// A thousand packets for three listeners, and how many copies were heard.
+    fn sent(link: &mut Link, weak: bool) -> usize {
+        for n in 0..1000 {
+            link.send(n, 0, Members::from(0b1110), &[1, 2, 3], weak);
+        }
+        (0..2000).map(|tick| link.arrivals(tick).len()).sum()
+    }
+
+    #[test]
+    fn it_loses_repeats_and_reorders() {
+        let mut link = Link::new(&Settings::default());
+        let heard = sent(&mut link, false) as u64;
+        let c = link.counts;
+        assert_eq!((c.packets, c.bytes, c.copies), (1000, 3000, 3000));
+        assert_eq!(heard, c.copies - c.lost + c.repeated);
+        assert!((800..1000).contains(&c.lost) && (170..250).contains(&c.repeated) && c.late > 500);
+        assert!(link.is_silent());
+    }
+
+    #[test]
+    fn a_weak_radio_is_heard_by_few() {
+        assert!(sent(&mut Link::new(&Settings::default()), true) < 700);
+    }
+
+    #[test]
+    fn healed_it_loses_nothing() {
+        let mut link = Link::new(&Settings::default());
+        link.heal();
+        assert_eq!(sent(&mut link, false), 3000);
+    }
+}

@@ -12,9 +12,10 @@ use crate::settings::Settings;
 use crate::settled::{self, Settled};
 use crate::Tick;
 
-/// After the link has healed all must be settled within so many ticks, or so
-/// many after the last view came.
-const GRACE: Tick = 2000;
+/// Once the link has healed and the last view has come, all must be settled
+/// within so many ticks, and so many times the link's delay.
+const GRACE: Tick = 1000;
+const GRACE_DELAYS: Tick = 50;
 /// So often it is looked whether all is settled.
 const LOOK: Tick = 16;
 
@@ -67,43 +68,32 @@ impl Morning {
 
     /// All events of one tick.
     fn step(&mut self) -> Done {
-        self.deaths();
         self.views()?;
         self.arrivals()?;
         self.ringers()?;
         if self.group.now == self.settings.ticks {
             self.heal()?;
         }
-        for hut in &mut self.huts {
-            hut.tick(&mut self.group)?;
+        for n in self.plan.awake(self.group.now) {
+            self.huts[usize::from(n)].tick(&mut self.group)?;
         }
         self.send();
         Ok(())
-    }
-
-    fn deaths(&mut self) {
-        for death in &self.plan.deaths {
-            if death.tick == self.group.now {
-                self.huts[usize::from(death.laptop)].close();
-            }
-        }
     }
 
     /// Views that reach a laptop now. When a late one has its view, the others
     /// are told to send their VALs again.
     fn views(&mut self) -> Done {
         let now = self.group.now;
+        let awake = self.plan.awake(now);
         for issue in self.plan.issues.iter().filter(|i| i.tick == now) {
-            if self.plan.is_dead(issue.laptop, now) {
+            if !awake.contains(issue.laptop) {
                 continue;
             }
-            self.huts[usize::from(issue.laptop)].view_came(
-                &mut self.group,
-                issue.epoch,
-                issue.view,
-            )?;
+            let hut = &mut self.huts[usize::from(issue.laptop)];
+            hut.view_came(&mut self.group, issue.epoch, issue.view)?;
             if self.plan.late.contains(issue.laptop) {
-                for n in self.plan.living(&self.settings, now) {
+                for n in awake {
                     self.huts[usize::from(n)].remind(&mut self.group)?;
                 }
             }
@@ -112,8 +102,9 @@ impl Morning {
     }
 
     fn arrivals(&mut self) -> Done {
+        let awake = self.plan.awake(self.group.now);
         for heard in self.link.arrivals(self.group.now) {
-            if self.plan.is_dead(heard.to, self.group.now) {
+            if !awake.contains(heard.to) {
                 self.to_the_dead += 1;
                 continue;
             }
@@ -122,16 +113,20 @@ impl Morning {
         Ok(())
     }
 
+    /// Ringers use the laptops that run and have not been told that they are
+    /// struck off.
     fn ringers(&mut self) -> Done {
-        let (plan, now) = (&self.plan, self.group.now);
-        self.ringers
-            .tick(&mut self.group, &mut self.huts, |n| plan.is_dead(n, now))
+        let awake = self.plan.awake(self.group.now);
+        let told = |n: &u8| !self.group.laptop(*n).members().contains(*n);
+        let usable: Members = awake.into_iter().filter(|n| !told(n)).collect();
+        let (group, huts) = (&mut self.group, &mut self.huts);
+        self.ringers.tick(group, huts, usable)
     }
 
     /// The link heals: everybody goes over the records once.
     fn heal(&mut self) -> Done {
         self.link.heal();
-        for n in self.plan.living(&self.settings, self.group.now) {
+        for n in self.plan.awake(self.group.now) {
             self.huts[usize::from(n)].go_over(&mut self.group)?;
         }
         Ok(())
@@ -139,9 +134,9 @@ impl Morning {
 
     fn send(&mut self) {
         let now = self.group.now;
-        for (n, hut) in (0..).zip(&mut self.huts) {
+        for n in self.plan.awake(now) {
             let weak = self.plan.is_weak(n, now);
-            for (to, bytes) in hut.packets() {
+            for (to, bytes) in self.huts[usize::from(n)].packets() {
                 self.link.send(now, n, to, &bytes, weak);
             }
         }
@@ -152,13 +147,15 @@ impl Morning {
         let now = self.group.now;
         let last_view = self.plan.issues.last().map_or(0, |i| i.tick);
         let healed = self.settings.ticks.max(last_view);
-        if now <= healed || now % LOOK != 0 || (!self.link.is_silent() && now < healed + GRACE) {
+        let over = now >= healed + GRACE + GRACE_DELAYS * self.settings.delay;
+        let quiet = now > healed && self.link.is_silent() && now.is_multiple_of(LOOK);
+        if !quiet && !over {
             return Ok(None);
         }
-        let living = self.plan.living(&self.settings, now);
-        let living: Vec<&Laptop> = living.into_iter().map(|n| self.group.laptop(n)).collect();
-        match settled::look(&self.group, &living) {
-            Err(Cause::Unsettled { .. }) if now < healed + GRACE => Ok(None),
+        let members = self.plan.members.into_iter();
+        let members: Vec<&Laptop> = members.map(|n| self.group.laptop(n)).collect();
+        match settled::look(&self.group, &members) {
+            Err(Cause::Unsettled { .. }) if !over => Ok(None),
             Err(cause) => Err(cause),
             // A bird waits for a record that can be opened: it will be saved.
             Ok(s) if !self.ringers.waiting().iter().all(|r| s.hung.contains(r)) => Ok(None),
@@ -188,25 +185,5 @@ impl Morning {
             events: self.group.history.of(cause.record()),
             cause,
         }
-    }
-}
-
-impl Plan {
-    fn is_dead(&self, laptop: u8, now: Tick) -> bool {
-        self.deaths
-            .iter()
-            .any(|d| d.laptop == laptop && d.tick <= now)
-    }
-
-    fn is_weak(&self, laptop: u8, now: Tick) -> bool {
-        self.deaths
-            .iter()
-            .any(|d| d.laptop == laptop && d.weak <= now)
-    }
-
-    fn living(&self, settings: &Settings, now: Tick) -> Members {
-        (0..settings.laptops)
-            .filter(|n| !self.is_dead(*n, now))
-            .collect()
     }
 }

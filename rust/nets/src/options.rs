@@ -18,6 +18,7 @@ wrong options.
   --rings N        birds ringed                           (600)
   --recaptures N   birds met again                        (40)
   --deaths N       laptops that die and are struck off    (1)
+  --sleepers N     of those: only slept, wake unaware     (0)
   --late N         laptops that get a new view late       (2)
   --lateness T     how many ticks late                    (300)
   --ticks T        how long birds come                    (2000)
@@ -25,8 +26,8 @@ wrong options.
   --repeat P       packets repeated of 100, at most 90    (10)
   --delay T        the most ticks a packet usually takes  (6)
   --fault F        break something and see it reported: text (the link alters
-                   texts), epoch (late laptops take messages of other epochs),
-                   sender (the link alters who acknowledged)
+                   texts), sender (the link alters who acknowledged), epoch
+                   (huts take messages of other epochs), val (huts drop VALs)
   --help           this page
 ";
 
@@ -68,6 +69,7 @@ impl Command {
                 "--rings" => settings.rings = number(&word, value)?,
                 "--recaptures" => settings.recaptures = number(&word, value)?,
                 "--deaths" => settings.deaths = number(&word, value)?,
+                "--sleepers" => settings.sleepers = number(&word, value)?,
                 "--late" => settings.late = number(&word, value)?,
                 "--lateness" => settings.lateness = number(&word, value)?,
                 "--ticks" => settings.ticks = number(&word, value)?,

@@ -22,10 +22,6 @@ impl Outbox {
         }
     }
 
-    pub fn clear(&mut self) {
-        self.waiting.clear();
-    }
-
     /// All of it as packets: as many messages in each as fit.
     pub fn packets(&mut self) -> Vec<(Members, Vec<u8>)> {
         let waiting = std::mem::take(&mut self.waiting);
@@ -63,4 +59,50 @@ fn packed(load: &[Parcel]) -> Vec<u8> {
     let len = packet::pack(&messages, &mut bytes).expect("a load fits into a packet");
     bytes.truncate(len);
     bytes
+}
+
+#[cfg(test)]
+mod tests {
+    use super::*;
+    use cetskobi::{Message, Timestamp};
+
+    fn inv(record: usize) -> Envelope {
+        let message = Message::Inv(Timestamp { version: 1, tie: 0 });
+        Envelope {
+            sender: 0,
+            epoch: 0,
+            record,
+            message,
+        }
+    }
+
+    /// The records of the messages in each packet.
+    fn sent(count: usize, len: usize) -> Vec<Vec<usize>> {
+        let mut outbox = Outbox::default();
+        for i in 0..count {
+            outbox.put(Members::from(0b110), inv(i), &vec![b'x'; len]);
+            outbox.put(Members::from(0b110), inv(i), &vec![b'x'; len]);
+        }
+        let packets = outbox.packets();
+        assert!(outbox.packets().is_empty());
+        packets
+            .iter()
+            .map(|(to, bytes)| {
+                assert_eq!(to.bits(), 0b110);
+                let messages = packet::messages(bytes).expect("a packet");
+                messages.map(|m| m.envelope.record).collect()
+            })
+            .collect()
+    }
+
+    #[test]
+    fn as_many_messages_as_fit_share_a_packet() {
+        assert_eq!(sent(0, 0), Vec::<Vec<usize>>::new());
+        assert_eq!(sent(1, 192), [vec![0]]);
+        let sizes = |packets: Vec<Vec<usize>>| packets.iter().map(Vec::len).collect::<Vec<usize>>();
+        assert_eq!(sizes(sent(130, 0)), [64, 64, 2]);
+        assert_eq!(sizes(sent(13, 192)), [6, 6, 1]);
+        let all: Vec<usize> = sent(200, 31).concat();
+        assert_eq!(all, (0..200).collect::<Vec<usize>>());
+    }
 }

@@ -22,6 +22,15 @@ pub(crate) struct Death {
     pub laptop: u8,
     pub weak: Tick,
     pub tick: Tick,
+    /// If it only slept: when it wakes, struck off without knowing.
+    pub wakes: Option<Tick>,
+}
+
+impl Death {
+    /// From the given tick on, unless and until it wakes.
+    fn since(&self, tick: Tick, now: Tick) -> bool {
+        tick <= now && self.wakes.is_none_or(|wakes| now < wakes)
+    }
 }
 
 /// A view on its way from the warden to one laptop.
@@ -41,6 +50,9 @@ pub(crate) struct Plan {
     pub deaths: Vec<Death>,
     pub late: Members,
     pub issues: Vec<Issue>,
+    /// All laptops, and those that are never struck off.
+    pub all: Members,
+    pub members: Members,
 }
 
 impl Plan {
@@ -50,7 +62,10 @@ impl Plan {
         let pairs = recaptures(settings, &mut rng, &mut birds);
         birds.sort_by_key(|b| (b.tick, b.record, b.laptop));
         let deaths = deaths(settings, &mut rng, &pairs);
-        let late = late(settings, &mut rng, &deaths);
+        let all: Members = (0..settings.laptops).collect();
+        let dies = |n: &u8| deaths.iter().any(|d| d.laptop == *n);
+        let members = all.into_iter().filter(|n| !dies(n)).collect();
+        let late = late(settings, &mut rng, members);
         let issues = issues(settings, &mut rng, &deaths, late);
         Plan {
             birds,
@@ -58,7 +73,26 @@ impl Plan {
             deaths,
             late,
             issues,
+            all,
+            members,
         }
+    }
+
+    /// The laptops that run, struck off or not.
+    pub fn awake(&self, now: Tick) -> Members {
+        let off = |n: &u8| {
+            self.deaths
+                .iter()
+                .any(|d| d.laptop == *n && d.since(d.tick, now))
+        };
+        self.all.into_iter().filter(|n| !off(n)).collect()
+    }
+
+    /// Whether the laptop's radio is weak.
+    pub fn is_weak(&self, laptop: u8, now: Tick) -> bool {
+        self.deaths
+            .iter()
+            .any(|d| d.laptop == laptop && d.since(d.weak, now))
     }
 }
 
@@ -123,10 +157,12 @@ fn deaths(settings: &Settings, rng: &mut Rng, pairs: &[(Bird, Bird)]) -> Vec<Dea
         };
         if deaths.iter().all(|d| d.laptop != laptop) {
             let tick = saves + 1 + below(rng, 12);
+            let sleeps = deaths.len() < usize::from(settings.sleepers);
             deaths.push(Death {
                 laptop,
                 weak: saves,
                 tick,
+                wakes: sleeps.then(|| tick + 50 + below(rng, 100)),
             });
         }
     }
@@ -134,17 +170,15 @@ fn deaths(settings: &Settings, rng: &mut Rng, pairs: &[(Bird, Bird)]) -> Vec<Dea
     deaths
 }
 
-fn late(settings: &Settings, rng: &mut Rng, deaths: &[Death]) -> Members {
-    let mut alive: Vec<u8> = (0..settings.laptops)
-        .filter(|n| deaths.iter().all(|d| d.laptop != *n))
-        .collect();
-    (0..settings.late.min(alive.len() as u8))
-        .map(|_| alive.swap_remove(rng.below(alive.len())))
+fn late(settings: &Settings, rng: &mut Rng, members: Members) -> Members {
+    let mut rest: Vec<u8> = members.into_iter().collect();
+    (0..settings.late.min(rest.len() as u8))
+        .map(|_| rest.swap_remove(rng.below(rest.len())))
         .collect()
 }
 
 /// The warden notices a death after a while and issues the next view, which
-/// some get late.
+/// some get late. One who only slept is told later still.
 fn issues(settings: &Settings, rng: &mut Rng, deaths: &[Death], late: Members) -> Vec<Issue> {
     let mut view: Members = (0..settings.laptops).collect();
     let mut noticed = 0;
@@ -152,20 +186,24 @@ fn issues(settings: &Settings, rng: &mut Rng, deaths: &[Death], late: Members) -
     for (epoch, death) in (1..).zip(deaths) {
         view = view.into_iter().filter(|n| *n != death.laptop).collect();
         noticed = noticed.max(death.tick + 20 + below(rng, 40));
-        for laptop in view {
-            let on_the_way = 1 + below(rng, 10);
-            let held = if late.contains(laptop) {
-                settings.lateness
-            } else {
-                0
-            };
-            let tick = noticed + on_the_way + held;
+        let mut issue = |laptop: u8, tick: Tick| {
             issues.push(Issue {
                 tick,
                 laptop,
                 epoch,
                 view,
             });
+        };
+        for laptop in view {
+            let on_the_way = 1 + below(rng, 10);
+            let held = match late.contains(laptop) {
+                true => settings.lateness,
+                false => 0,
+            };
+            issue(laptop, noticed + on_the_way + held);
+        }
+        if let Some(wakes) = death.wakes {
+            issue(death.laptop, wakes.max(noticed) + settings.lateness);
         }
     }
     issues.sort_by_key(|i| (i.tick, i.epoch, i.laptop));

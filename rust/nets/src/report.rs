@@ -8,7 +8,7 @@ use crate::agreement::Disagreement;
 use crate::group::EventCounts;
 use crate::history::Kind;
 use crate::link::LinkCounts;
-use crate::plan::Plan;
+use crate::plan::{Death, Plan};
 use crate::settings::Settings;
 use crate::settled::Settled;
 use crate::Tick;
@@ -58,9 +58,19 @@ impl Report {
         self.saved
     }
 
-    /// Replays that were tried.
+    /// Rings and recaptures whose ringer waits for a record that hangs.
+    pub fn waiting(&self) -> usize {
+        self.waiting
+    }
+
+    /// Replays that were accepted.
     pub fn replays(&self) -> u64 {
-        self.events.events[Kind::Replay as usize]
+        self.events.accepted[Kind::Replay as usize]
+    }
+
+    /// Saves overtaken by another laptop's, so that invalid-write came about.
+    pub fn overtaken(&self) -> u64 {
+        self.events.overtaken
     }
 
     /// The whole in one line.
@@ -95,11 +105,12 @@ impl Report {
             s.rings, s.recaptures
         )?;
         for (epoch, death) in (1..).zip(&self.plan.deaths) {
-            writeln!(
-                f,
-                "  laptop {} died at tick {} and was struck off: epoch {epoch}",
-                death.laptop, death.tick
-            )?;
+            let Death { laptop, tick, .. } = death;
+            match death.wakes {
+                None => write!(f, "  laptop {laptop} died at tick {tick}")?,
+                Some(wakes) => write!(f, "  laptop {laptop} slept from tick {tick} to {wakes}")?,
+            }
+            writeln!(f, " and was struck off: epoch {epoch}")?;
         }
         if !self.plan.late.is_empty() && !self.plan.deaths.is_empty() {
             writeln!(
@@ -112,11 +123,13 @@ impl Report {
     }
 
     fn traffic(&self, f: &mut fmt::Formatter<'_>) -> fmt::Result {
-        let names: Vec<String> = Kind::ALL
-            .iter()
-            .map(|k| format!("{} {}", k.name(), grouped(self.events.events[*k as usize])))
-            .collect();
-        line(f, "events", self.events(), &names.join(", "))?;
+        line(f, "events", self.events(), "")?;
+        for kind in Kind::ALL {
+            let accepted = self.events.accepted[kind as usize];
+            let name = format!("  {}", kind.name());
+            let remark = format!("{} accepted", grouped(accepted));
+            line(f, &name, self.events.events[kind as usize], &remark)?;
+        }
         let [inv, ack, val] = self.events.messages.map(grouped);
         line(
             f,

@@ -1,5 +1,6 @@
 //! The ringers: each bird's record is opened, and saved once it was read.
 
+use cetskobi::Members;
 use model::rng::Rng;
 
 use crate::agreement::Disagreement;
@@ -46,16 +47,11 @@ impl Ringers {
         self.visits.iter().map(|v| v.bird.record).collect()
     }
 
-    /// All whose time has come. A ringer whose laptop is dead goes to the next.
-    pub fn tick(
-        &mut self,
-        group: &mut Group,
-        huts: &mut [Hut],
-        is_dead: impl Fn(u8) -> bool,
-    ) -> Done {
+    /// All whose time has come. A ringer who cannot use a laptop goes to the next.
+    pub fn tick(&mut self, group: &mut Group, huts: &mut [Hut], usable: Members) -> Done {
         let mut left = Vec::with_capacity(self.visits.len());
         for mut visit in std::mem::take(&mut self.visits) {
-            while is_dead(visit.bird.laptop) {
+            while !usable.contains(visit.bird.laptop) {
                 visit.bird.laptop = (visit.bird.laptop + 1) % huts.len() as u8;
                 visit.opened = false;
             }

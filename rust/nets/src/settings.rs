@@ -20,6 +20,9 @@ pub struct Settings {
     pub recaptures: usize,
     /// Laptops that die and are struck off.
     pub deaths: u8,
+    /// How many of those only slept: they wake without knowing that they are
+    /// struck off, and are told late.
+    pub sleepers: u8,
     /// Laptops that get a new view late.
     pub late: u8,
     /// How much later they get it.
@@ -45,6 +48,7 @@ impl Default for Settings {
             rings: 600,
             recaptures: 40,
             deaths: 1,
+            sleepers: 0,
             late: 2,
             lateness: 300,
             ticks: 2000,
@@ -63,47 +67,54 @@ impl Settings {
     ///
     /// What is wrong, in plain words.
     pub fn check(&self) -> Result<(), String> {
-        let fits: [(bool, &str); 9] = [
-            (
-                (2..=16).contains(&self.laptops),
-                "a group has 2 to 16 laptops",
-            ),
-            (
-                (1..=Record::COUNT_MAX).contains(&self.records),
-                "a laptop has 1 to 4096 records",
-            ),
-            (
-                self.rings <= self.records,
-                "each ring needs a record of its own",
-            ),
-            (
-                self.recaptures == 0 || self.rings > 0,
-                "a recapture needs a bird that was ringed",
-            ),
-            (
-                self.deaths.saturating_add(2) <= self.laptops,
-                "two laptops must stay in the view",
-            ),
-            (
-                self.deaths.saturating_add(self.late) <= self.laptops,
-                "no more laptops can be late than live",
-            ),
-            (
-                (100..=1_000_000).contains(&self.ticks),
-                "a morning has 100 to 1000000 ticks",
-            ),
-            (
-                self.loss <= 90 && self.repeat <= 90,
-                "at most 90 of 100 packets can be lost, or repeated",
-            ),
-            (
-                (1..=1000).contains(&self.delay) && self.lateness <= 1_000_000,
-                "a packet takes 1 to 1000 ticks, a view at most 1000000",
-            ),
-        ];
-        match fits.iter().find(|(holds, _)| !holds) {
-            Some((_, rule)) => Err((*rule).to_owned()),
-            None => Ok(()),
-        }
+        let most = Record::COUNT_MAX;
+        let stay = self.laptops.saturating_sub(self.deaths);
+        ask(
+            (2..=16).contains(&self.laptops),
+            "a group has 2 to 16 laptops",
+        )?;
+        ask(
+            (1..=most).contains(&self.records),
+            "a laptop has 1 to 4096 records",
+        )?;
+        ask(
+            self.rings <= self.records,
+            "each ring needs a record of its own",
+        )?;
+        ask(
+            self.recaptures == 0 || self.rings > 0,
+            "who is met again was ringed before",
+        )?;
+        ask(
+            self.recaptures <= 100_000,
+            "at most 100000 birds are met again",
+        )?;
+        ask(stay >= 2, "two laptops must stay in the view")?;
+        ask(
+            self.sleepers <= self.deaths,
+            "only laptops that are struck off sleep",
+        )?;
+        ask(self.late <= stay, "no more laptops can be late than stay")?;
+        ask(
+            self.lateness <= 100_000,
+            "a view is at most 100000 ticks late",
+        )?;
+        ask(
+            (100..=100_000).contains(&self.ticks),
+            "a morning has 100 to 100000 ticks",
+        )?;
+        ask(self.loss <= 90, "at most 90 of 100 packets are lost")?;
+        ask(self.repeat <= 90, "at most 90 of 100 packets are repeated")?;
+        ask(
+            (1..=1000).contains(&self.delay),
+            "a packet takes 1 to 1000 ticks",
+        )
+    }
+}
+
+fn ask(holds: bool, rule: &str) -> Result<(), String> {
+    match holds {
+        true => Ok(()),
+        false => Err(rule.to_owned()),
     }
 }
