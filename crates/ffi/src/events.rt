@@ -14,7 +14,7 @@ use crate::crossing::CetskobiReplica;
 use hermes::Moved;
 
 // The end of an event on record i: its answer, and the words.
-fn finish(words: &mut [u32], i: usize, m: Moved) -> CetskobiAnswer
+pub(crate) fn finish(words: &mut [u32], i: usize, m: Moved) -> CetskobiAnswer
     ensures { λ a. ⌜ Finished (now (words .entry)) i m a (now (words .exit)) ⌝ }
 {
     words::settle(words, i, m);
