@@ -103,7 +103,7 @@ impl Group {
         came: Envelope,
     ) -> Watched {
         let before = self.record(number, came.record);
-        let answer = crate::stand_in::deliver_packet(self.laptop_mut(number), packet, k);
+        let answer = self.laptop_mut(number).deliver_packet(packet, k);
         let after = self.record(number, came.record);
         let state = |r: Option<Record>| r.map(|r| r.state);
         if (state(before), state(after)) == (Some(State::Write), Some(State::InvalidWrite)) {

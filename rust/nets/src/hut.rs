@@ -76,14 +76,10 @@ impl Hut {
                 ..
             } = m.envelope;
             self.send(group, left, sender);
-            match message {
-                // The last one missing, perhaps.
-                Message::Ack(_) => {
-                    let answer = group.validate(self.number, record);
-                    self.act(group, record, answer)?;
-                }
-                // What comes of it is its sender's to see to.
-                Message::Inv(_) | Message::Val(_) => {}
+            if let Message::Ack(_) = message {
+                // The last one that was missing, perhaps.
+                let answer = group.validate(self.number, record);
+                self.act(group, record, answer)?;
             }
         }
         Ok(())
@@ -101,28 +97,20 @@ impl Hut {
         Ok(())
     }
 
-    /// Once over the records: whatever may help is tried on those that wait,
-    /// and the VALs of own saves leave again.
+    /// Once over the records: the VALs of own saves leave again, and whatever
+    /// may help is tried on the records that wait.
     pub fn go_over(&mut self, group: &mut Group) -> Done {
-        for i in 0..group.laptop(self.number).count() {
-            match group.record(self.number, i) {
-                Some(r) if r.state != State::Valid => self.help(group, i)?,
-                Some(r) if self.is_own(&r) => self.again(group, i, RETRY)?,
-                _ => {}
-            }
+        self.remind(group)?;
+        for i in self.those(group, |r| r.state != State::Valid) {
+            self.help(group, i)?;
         }
         Ok(())
     }
 
-    /// Somebody has missed VALs: those of own saves leave again.
+    /// Somebody may have missed VALs: those of own saves leave again.
     pub fn remind(&mut self, group: &mut Group) -> Done {
-        for i in 0..group.laptop(self.number).count() {
-            match group.record(self.number, i) {
-                Some(r) if r.state == State::Valid && self.is_own(&r) => {
-                    self.again(group, i, RETRY)?
-                }
-                _ => {}
-            }
+        for i in self.those(group, |r| r.state == State::Valid && self.is_own(r)) {
+            self.again(group, i, RETRY)?;
         }
         Ok(())
     }
@@ -216,6 +204,14 @@ impl Hut {
                 wait,
             },
         );
+    }
+
+    /// This laptop's records of a kind.
+    fn those(&self, group: &Group, wanted: impl Fn(&Record) -> bool) -> Vec<usize> {
+        let is_wanted = |i: &usize| group.record(self.number, *i).as_ref().is_some_and(&wanted);
+        (0..group.laptop(self.number).count())
+            .filter(is_wanted)
+            .collect()
     }
 
     /// A record that this laptop wrote last; nobody misses the VAL of a fresh one.

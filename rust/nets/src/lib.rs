@@ -22,7 +22,6 @@ mod report;
 mod ringer;
 mod settings;
 mod settled;
-mod stand_in;
 mod text;
 
 pub use agreement::Disagreement;

@@ -12,8 +12,8 @@ use crate::settings::Settings;
 use crate::settled::{self, Settled};
 use crate::Tick;
 
-/// Once the link has healed and the last view has come, all must be settled
-/// within so many ticks, and so many times the link's delay.
+/// Once the link has healed, and the last view and the last save are made, all
+/// must be settled within so many ticks and so many times the link's delay.
 const GRACE: Tick = 1000;
 const GRACE_DELAYS: Tick = 50;
 /// So often it is looked whether all is settled.
@@ -147,7 +147,8 @@ impl Morning {
         let now = self.group.now;
         let last_view = self.plan.issues.last().map_or(0, |i| i.tick);
         let healed = self.settings.ticks.max(last_view);
-        let over = now >= healed + GRACE + GRACE_DELAYS * self.settings.delay;
+        let grace = GRACE + GRACE_DELAYS * self.settings.delay;
+        let over = now >= healed.max(self.ringers.last_save) + grace;
         let quiet = now > healed && self.link.is_silent() && now.is_multiple_of(LOOK);
         if !quiet && !over {
             return Ok(None);

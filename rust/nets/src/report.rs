@@ -158,7 +158,7 @@ impl Report {
             l.late,
             "heard after a packet that was sent later",
         )?;
-        line(f, "  to the dead", self.to_the_dead, "")
+        line(f, "  to a dead one", self.to_the_dead, "")
     }
 
     fn refusals(&self, f: &mut fmt::Formatter<'_>) -> fmt::Result {
@@ -195,12 +195,13 @@ impl Report {
             self.settled.settled as u64,
             "records valid with one text on every laptop of the view",
         )?;
-        line(
-            f,
-            "hung",
-            self.hung() as u64,
-            "records in invalid-write whose last writer was struck off",
-        )?;
+        let which: Vec<String> = self.settled.hung.iter().map(usize::to_string).collect();
+        let which = match which.is_empty() {
+            true => String::new(),
+            false => format!(": {}", which.join(", ")),
+        };
+        let remark = format!("records in invalid-write whose last writer was struck off{which}");
+        line(f, "hung", self.hung() as u64, &remark)?;
         line(f, "ticks", self.ticks.into(), "")
     }
 }

@@ -23,6 +23,7 @@ pub(crate) struct Ringers {
     visits: Vec<Visit>,
     rng: Rng,
     pub saved: usize,
+    pub last_save: Tick,
 }
 
 /// Ticks until a refused ringer tries again.
@@ -39,6 +40,7 @@ impl Ringers {
             visits: birds.iter().map(visit).collect(),
             rng: Rng::new(seed.rotate_left(32)),
             saved: 0,
+            last_save: 0,
         }
     }
 
@@ -83,6 +85,7 @@ impl Ringers {
         let saved = hut.save(group, record, &text)?;
         if saved {
             self.saved += 1;
+            self.last_save = group.now;
         } else {
             visit.opened = false;
             visit.due += PATIENCE;

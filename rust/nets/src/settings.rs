@@ -42,7 +42,7 @@ pub struct Settings {
 impl Default for Settings {
     fn default() -> Settings {
         Settings {
-            seed: 1,
+            seed: 6,
             laptops: 11,
             records: Record::COUNT_MAX,
             rings: 600,

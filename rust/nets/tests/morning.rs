@@ -163,3 +163,13 @@ fn the_same_seed_gives_the_same_report() {
     assert_eq!(printed(&settings), printed(&settings));
     assert_ne!(printed(&settings), printed(&other));
 }
+
+#[test]
+fn the_readme_shows_the_default_morning() {
+    let shown = agreed(&Settings::default()).to_string();
+    let readme = include_str!("../README.md").replace("\n    ", "\n");
+    assert!(
+        readme.contains(&shown),
+        "rust/nets/README.md lacks this report:\n{shown}"
+    );
+}
