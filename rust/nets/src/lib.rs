@@ -9,6 +9,7 @@
 #![warn(missing_docs)]
 
 mod agreement;
+mod failure;
 mod fault;
 mod group;
 mod history;
@@ -25,10 +26,11 @@ mod settled;
 mod text;
 
 pub use agreement::Disagreement;
+pub use failure::{Cause, Failure};
 pub use fault::Fault;
 pub use morning::run;
 pub use options::{Command, HELP};
-pub use report::{Cause, Failure, Report};
+pub use report::Report;
 pub use settings::Settings;
 
 /// The simulation's clock. A tick is what the reader likes: ten seconds, say.

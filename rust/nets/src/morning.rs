@@ -2,11 +2,12 @@
 
 use cetskobi::{Laptop, Members};
 
+use crate::failure::{Cause, Failure};
 use crate::group::Group;
 use crate::hut::{Done, Hut};
 use crate::link::Link;
 use crate::plan::Plan;
-use crate::report::{Cause, Failure, Report};
+use crate::report::Report;
 use crate::ringer::Ringers;
 use crate::settings::Settings;
 use crate::settled::{self, Settled};
@@ -24,15 +25,16 @@ const LOOK: Tick = 16;
 /// # Errors
 ///
 /// The first check that failed.
+///
+/// # Panics
+///
+/// If no group has these settings: see [`Settings::check`].
 pub fn run(settings: &Settings, mut progress: impl FnMut(u32)) -> Result<Report, Box<Failure>> {
     let mut morning = Morning::new(settings);
     loop {
         progress(morning.group.now);
-        let ended = morning.step();
-        match ended
-            .map_err(Cause::Disagreement)
-            .and_then(|()| morning.end())
-        {
+        let done = morning.step().map_err(Cause::Disagreement);
+        match done.and_then(|()| morning.end()) {
             Ok(None) => morning.group.now += 1,
             Ok(Some(settled)) => return Ok(morning.report(settled)),
             Err(cause) => return Err(Box::new(morning.failure(cause))),

@@ -2,8 +2,8 @@
 
 use cetskobi::{Laptop, Record, State};
 
+use crate::failure::Cause;
 use crate::group::Group;
-use crate::report::Cause;
 
 /// The records as the laptops of the newest view hold them.
 #[derive(Clone, Debug, Default, PartialEq, Eq)]
