@@ -8,7 +8,7 @@ use cetskobi::Members;
 use model::rng::Rng;
 
 use crate::fault;
-use crate::settings::Settings;
+use crate::settings::{Part, Settings};
 use crate::Tick;
 
 /// A packet as one listener hears it.
@@ -56,8 +56,7 @@ impl Link {
     pub fn new(settings: &Settings) -> Link {
         Link {
             settings: settings.clone(),
-            // another row of numbers than the plan's
-            rng: Rng::new(!settings.seed),
+            rng: settings.rng(Part::Link),
             air: BTreeMap::new(),
             healed: false,
             serial: 0,

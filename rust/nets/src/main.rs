@@ -6,61 +6,63 @@ use std::time::Instant;
 
 use nets::{run, Command, Failure, Report, Settings, HELP};
 
+/// Wrong options, or nobody who reads what is printed.
+const TROUBLE: u8 = 2;
+
 fn main() -> ExitCode {
-    match Command::parse(std::env::args().skip(1)) {
-        Ok(Command::Help) => {
-            print!("{HELP}");
-            ExitCode::SUCCESS
-        }
-        Ok(Command::Run {
-            settings,
-            seeds: None,
-        }) => one(&settings),
-        Ok(Command::Run {
-            settings,
-            seeds: Some(seeds),
-        }) => many(&settings, seeds),
+    let done = match Command::parse(std::env::args().skip(1)) {
+        Ok(Command::Help) => say(HELP).map(|()| ExitCode::SUCCESS),
+        Ok(Command::Run { settings, seeds }) => match seeds {
+            None => one(&settings),
+            Some(seeds) => many(&settings, seeds),
+        },
         Err(wrong) => {
             eprintln!("{wrong}; --help lists the options");
-            ExitCode::from(2)
+            Ok(ExitCode::from(TROUBLE))
         }
-    }
+    };
+    done.unwrap_or(ExitCode::from(TROUBLE))
 }
 
-fn one(settings: &Settings) -> ExitCode {
+fn one(settings: &Settings) -> io::Result<ExitCode> {
     let begun = Instant::now();
     match played(settings) {
         Ok(report) => {
-            print!("{report}");
-            println!("wall time      {:>8.2} s", begun.elapsed().as_secs_f64());
-            ExitCode::SUCCESS
+            let seconds = begun.elapsed().as_secs_f64();
+            say(&format!("{report}wall time      {seconds:>8.2} s\n"))?;
+            Ok(ExitCode::SUCCESS)
         }
         Err(failure) => failed(&failure),
     }
 }
 
-fn many(settings: &Settings, seeds: u64) -> ExitCode {
+fn many(settings: &Settings, seeds: u64) -> io::Result<ExitCode> {
     let begun = Instant::now();
     for n in 0..seeds {
         let seed = settings.seed.wrapping_add(n);
-        match played(&Settings {
+        let settings = Settings {
             seed,
             ..settings.clone()
-        }) {
-            Ok(report) => println!("{}", report.line()),
+        };
+        match played(&settings) {
+            Ok(report) => say(&format!("{}\n", report.line()))?,
             Err(failure) => return failed(&failure),
         }
     }
-    println!(
-        "{seeds} mornings, agreement held throughout; {:.2} s",
-        begun.elapsed().as_secs_f64()
-    );
-    ExitCode::SUCCESS
+    let seconds = begun.elapsed().as_secs_f64();
+    say(&format!(
+        "{seeds} mornings, agreement held throughout; {seconds:.2} s\n"
+    ))?;
+    Ok(ExitCode::SUCCESS)
 }
 
-fn failed(failure: &Failure) -> ExitCode {
-    print!("{failure}");
-    ExitCode::FAILURE
+fn failed(failure: &Failure) -> io::Result<ExitCode> {
+    say(&failure.to_string())?;
+    Ok(ExitCode::FAILURE)
+}
+
+fn say(text: &str) -> io::Result<()> {
+    io::stdout().write_all(text.as_bytes())
 }
 
 /// One morning, with its ticks on a terminal.

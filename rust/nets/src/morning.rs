@@ -9,7 +9,7 @@ use crate::link::Link;
 use crate::plan::Plan;
 use crate::report::Report;
 use crate::ringer::Ringers;
-use crate::settings::Settings;
+use crate::settings::{Part, Settings};
 use crate::settled::{self, Settled};
 use crate::Tick;
 
@@ -62,7 +62,7 @@ impl Morning {
             group: Group::start(settings).expect("settings that were checked start a group"),
             huts: (0..settings.laptops).map(hut).collect(),
             link: Link::new(settings),
-            ringers: Ringers::new(&plan.birds, settings.seed),
+            ringers: Ringers::new(&plan.birds, settings.rng(Part::Texts)),
             plan,
             to_the_dead: 0,
         }

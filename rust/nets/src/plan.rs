@@ -4,7 +4,7 @@
 use cetskobi::Members;
 use model::rng::Rng;
 
-use crate::settings::Settings;
+use crate::settings::{Part, Settings};
 use crate::Tick;
 
 /// A bird in the hand: at this laptop, from this tick on.
@@ -57,7 +57,7 @@ pub(crate) struct Plan {
 
 impl Plan {
     pub fn new(settings: &Settings) -> Plan {
-        let mut rng = Rng::new(settings.seed);
+        let mut rng = settings.rng(Part::Plan);
         let mut birds = rings(settings, &mut rng);
         let pairs = recaptures(settings, &mut rng, &mut birds);
         birds.sort_by_key(|b| (b.tick, b.record, b.laptop));

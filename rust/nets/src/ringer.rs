@@ -30,7 +30,7 @@ pub(crate) struct Ringers {
 const PATIENCE: Tick = 5;
 
 impl Ringers {
-    pub fn new(birds: &[Bird], seed: u64) -> Ringers {
+    pub fn new(birds: &[Bird], rng: Rng) -> Ringers {
         let visit = |bird: &Bird| Visit {
             bird: *bird,
             due: bird.tick,
@@ -38,7 +38,7 @@ impl Ringers {
         };
         Ringers {
             visits: birds.iter().map(visit).collect(),
-            rng: Rng::new(seed.rotate_left(32)),
+            rng,
             saved: 0,
             last_save: 0,
         }

@@ -1,6 +1,7 @@
 //! What a morning is like.
 
 use cetskobi::Record;
+use model::rng::Rng;
 
 use crate::fault::Fault;
 use crate::Tick;
@@ -42,7 +43,7 @@ pub struct Settings {
 impl Default for Settings {
     fn default() -> Settings {
         Settings {
-            seed: 6,
+            seed: 10,
             laptops: 11,
             records: Record::COUNT_MAX,
             rings: 600,
@@ -60,7 +61,25 @@ impl Default for Settings {
     }
 }
 
+/// The parts of the simulation that take random numbers.
+#[derive(Clone, Copy, Debug)]
+pub(crate) enum Part {
+    Plan,
+    Link,
+    Texts,
+}
+
 impl Settings {
+    /// The random numbers of one part: how many one takes does not change
+    /// another's.
+    pub(crate) fn rng(&self, part: Part) -> Rng {
+        let mut seeds = Rng::new(self.seed);
+        for _ in 0..part as usize {
+            seeds.next_u64();
+        }
+        Rng::new(seeds.next_u64())
+    }
+
     /// Whether such a morning can be played.
     ///
     /// # Errors

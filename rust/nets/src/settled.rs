@@ -16,19 +16,22 @@ pub(crate) struct Settled {
     pub lost: usize,
 }
 
-/// All records at the laptops of the newest view. Each record is
-/// settled or hung; anything else is a failure.
+/// All records at the laptops of the newest view. Each is settled or hung;
+/// anything else is a failure.
 pub(crate) fn look(group: &Group, members: &[&Laptop]) -> Result<Settled, Cause> {
     let mut found = Settled::default();
     for i in 0..members[0].count() {
-        let records: Vec<Record> = members.iter().filter_map(|l| l.record(i)).collect();
+        let records = members.iter().map(|l| l.record(i));
+        let records: Option<Vec<Record>> = records.collect();
+        let unsettled = Cause::Unsettled { record: i };
+        let records = records.ok_or(unsettled)?;
         if records.iter().all(|r| r.state == State::Valid) {
             same_text(group, members, i)?;
             found.settled += 1;
         } else if members.iter().zip(&records).any(|(l, r)| is_hung(l, r)) {
             found.hung.push(i);
         } else {
-            return Err(Cause::Unsettled { record: i });
+            return Err(unsettled);
         }
     }
     found.lost = lost(group, members);
