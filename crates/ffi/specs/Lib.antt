@@ -1,4 +1,6 @@
 pub mod Crossing
+pub mod Leaving
 pub mod Events
 pub mod Membership
-pub mod Words
+pub mod Packets
+pub mod Playing

@@ -1,8 +1,10 @@
 // The engine for C and Rust: exported functions over numbers, slices of numbers and structs of numbers.
 mod crossing;
 mod events;
+mod leaving;
 mod membership;
-mod words;
+mod packets;
+mod playing;
 
 pub use crossing::CetskobiAdmission;
 pub use crossing::CetskobiAnswer;
@@ -15,5 +17,13 @@ pub use events::cetskobi_replay;
 pub use events::cetskobi_resend;
 pub use events::cetskobi_validate;
 pub use events::cetskobi_write;
+pub use leaving::cetskobi_body;
+pub use leaving::cetskobi_recipients;
 pub use membership::cetskobi_start;
 pub use membership::cetskobi_view;
+pub use packets::CetskobiFetched;
+pub use packets::CetskobiWritten;
+pub use packets::cetskobi_deliver_packet;
+pub use packets::cetskobi_fetch;
+pub use packets::cetskobi_pack;
+pub use playing::cetskobi_play;
