@@ -1,1 +1,9 @@
-//! The engine against the model.
+//! The engine's exported functions against the model, on worked, random and
+//! damaged input. README.md says how to run it.
+
+pub mod engine;
+pub mod memory;
+pub mod settings;
+pub mod shrink;
+pub mod single;
+pub mod words;
