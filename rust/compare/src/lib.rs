@@ -1,6 +1,7 @@
 //! The engine's exported functions against the model, on worked, random and
 //! damaged input. README.md says how to run it.
 
+pub mod bytes;
 pub mod engine;
 pub mod memory;
 pub mod settings;

@@ -1,7 +1,7 @@
 //! A difference is shown by a small case: parts are dropped and numbers made
 //! less for as long as the difference stays.
 
-use std::fmt::Debug;
+use std::fmt::{self, Debug};
 
 pub trait Smaller: Clone + Debug + PartialEq {
     /// Cases that are less in some part and greater in none, boldest first.
@@ -14,6 +14,14 @@ pub struct Found<C> {
     pub first: C,
     pub shrunk: C,
     pub what: String,
+}
+
+impl<C: Debug> fmt::Display for Found<C> {
+    fn fmt(&self, f: &mut fmt::Formatter<'_>) -> fmt::Result {
+        writeln!(f, "differs: {}", self.what)?;
+        writeln!(f, "shrunk: {:?}", self.shrunk)?;
+        writeln!(f, "found as: {:?}", self.first)
+    }
 }
 
 /// Shrinks a case that differs as `what`.
@@ -62,10 +70,11 @@ pub fn plainer(bytes: &[u8]) -> impl Iterator<Item = Vec<u8>> + '_ {
 
 /// Lesser numbers, boldest first.
 pub fn less(number: u64) -> impl Iterator<Item = u64> {
-    let before = number.saturating_sub(1);
-    // The last but one is the set without its lowest number.
-    let all = [0, 1, number / 2, number & before, before];
-    all.into_iter().filter(move |&other| other < number)
+    let all = [0, 1, number / 2, number.saturating_sub(1)];
+    // The same as a set: without one of its members.
+    let sets = (0..u64::BITS).map(move |bit| number & !(1 << bit));
+    let all = all.into_iter().chain(sets);
+    all.filter(move |&other| other < number)
 }
 
 /// A number of a case, to be made less.

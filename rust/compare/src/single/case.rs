@@ -1,6 +1,7 @@
 use cetskobi::sys::{Message, Replica, WORDS};
 use model::engine::Record;
 
+use crate::bytes::Bytes;
 use crate::shrink::{drops, less, plainer, Number, Smaller};
 use crate::words::Words;
 
@@ -10,9 +11,9 @@ pub enum Event {
     Start,
     View { epoch: u32, set: u16 },
     Read,
-    Write { value: Vec<u8> },
+    Write { value: Bytes },
     Replay,
-    Deliver { message: Message, value: Vec<u8> },
+    Deliver { message: Message, value: Bytes },
     Validate,
     Resend,
 }
@@ -79,11 +80,25 @@ pub struct Case {
     /// The named record, its words and its 192 bytes, if it is there.
     pub i: usize,
     pub record: Words,
-    pub slot: Vec<u8>,
+    pub slot: Bytes,
     pub event: Event,
 }
 
 impl Case {
+    /// An event on memory that is laid out elsewhere.
+    pub fn on(me: Replica, i: usize, event: Event) -> Case {
+        Case {
+            me,
+            words: 0,
+            store: 0,
+            part: 0,
+            i,
+            record: [0; WORDS],
+            slot: Bytes::default(),
+            event,
+        }
+    }
+
     pub fn kind(&self) -> Kind {
         match &self.event {
             Event::Start => Kind::Start,
@@ -109,7 +124,7 @@ impl Case {
     }
 
     /// The value that comes with the event.
-    pub fn value(&mut self) -> Option<&mut Vec<u8>> {
+    pub fn value(&mut self) -> Option<&mut Bytes> {
         match &mut self.event {
             Event::Write { value } | Event::Deliver { value, .. } => Some(value),
             _ => None,
@@ -120,6 +135,26 @@ impl Case {
         let mut case = self.clone();
         change(&mut case);
         case
+    }
+
+    /// The least replica, in a view with the next.
+    fn renumber(&mut self) {
+        let away = self.me.number;
+        (self.me.number, self.me.view) = (0, 3);
+        self.record[6] &= !(1 | 1u32.checked_shl(away.into()).unwrap_or(0));
+        if let Event::Deliver { message, .. } = &mut self.event {
+            message.sender = 1;
+        }
+    }
+
+    fn sum(&self) -> u128 {
+        let numbers = self
+            .clone()
+            .numbers()
+            .iter()
+            .map(Number::get)
+            .collect::<Vec<_>>();
+        numbers.into_iter().map(u128::from).sum()
     }
 
     /// Every number of the case by itself.
@@ -161,36 +196,40 @@ impl Smaller for Case {
                 case.i = 0;
                 case.lend(2);
             }),
-            self.with(|case| {
-                case.me.epoch = 0;
-                if let Event::Deliver { message, .. } = &mut case.event {
-                    message.epoch = 0;
-                }
-            }),
+            self.with(Case::renumber),
         ];
-        let whole = whole.into_iter().filter(|case| {
-            (case.words, case.store, case.i) < (self.words, self.store, self.i)
-                || case.me.epoch < self.me.epoch
-        });
+        let whole = whole.into_iter().filter(|case| case.sum() < self.sum());
 
-        let value = self.clone().value().cloned().unwrap_or_default();
+        let value = self.clone().value().cloned().unwrap_or_default().0;
         let values: Vec<Vec<u8>> = drops(&value).chain(plainer(&value)).collect();
         let values = values.into_iter().filter(move |other| *other != value);
         let values = values.map(|other| {
             self.with(|case| {
                 if let Some(value) = case.value() {
-                    *value = other;
+                    value.0 = other;
                 }
             })
         });
 
-        let slots = plainer(&self.slot).filter(|slot| *slot != self.slot);
-        let slots = slots.map(|slot| self.with(|case| case.slot = slot));
+        let slots = plainer(&self.slot).filter(|slot| *slot != *self.slot);
+        let slots = slots.map(|slot| self.with(|case| case.slot.0 = slot));
 
         let numbers: Vec<u64> = self.clone().numbers().iter().map(Number::get).collect();
-        let numbers = numbers.into_iter().enumerate();
-        let lesser = numbers.flat_map(|(k, number)| less(number).map(move |other| (k, other)));
-        let numbers = lesser.map(|(k, other)| self.with(|case| case.numbers()[k].set(other)));
+        let all = numbers.len();
+        let pairs = (0..all).flat_map(move |k| (k..all).map(move |l| (k, l)));
+        // Each number alone, and two that are equal together.
+        let equal = pairs.filter(move |&(k, l)| numbers[k] == numbers[l]);
+        let lesser = equal.flat_map(|(k, l)| {
+            let number = self.clone().numbers()[k].get();
+            less(number).map(move |other| (k, l, other))
+        });
+        let numbers = lesser.map(|(k, l, other)| {
+            self.with(|case| {
+                let mut numbers = case.numbers();
+                numbers[k].set(other);
+                numbers[l].set(other);
+            })
+        });
 
         Box::new(whole.chain(numbers).chain(values).chain(slots))
     }

@@ -85,7 +85,8 @@ pub fn by_model(case: &Case, memory: &mut Memory) -> Outcome {
     outcome
 }
 
-fn on_table(case: &Case, table: &mut [Record], store: &mut [u8]) -> Outcome {
+/// The model's event on its own table.
+pub fn on_table(case: &Case, table: &mut [Record], store: &mut [u8]) -> Outcome {
     let Replica {
         number: own,
         view,

@@ -6,6 +6,7 @@ use model::engine::{bit, has, Record};
 use model::rng::Rng;
 
 use super::{Case, Event, Kind};
+use crate::bytes::Bytes;
 use crate::memory::Pool;
 use crate::words::Words;
 
@@ -54,13 +55,13 @@ pub fn some_set(rng: &mut Rng) -> u16 {
     }
 }
 
-pub fn some_bytes(rng: &mut Rng, len: usize) -> Vec<u8> {
+pub fn some_bytes(rng: &mut Rng, len: usize) -> Bytes {
     let mut bytes = vec![0; len];
     for chunk in bytes.chunks_mut(8) {
         let word = rng.next_u64().to_le_bytes();
         chunk.copy_from_slice(&word[..chunk.len()]);
     }
-    bytes
+    Bytes(bytes)
 }
 
 fn some_len(rng: &mut Rng) -> usize {
