@@ -3,6 +3,7 @@
 
 pub mod bytes;
 pub mod engine;
+pub mod group;
 pub mod memory;
 pub mod settings;
 pub mod shrink;

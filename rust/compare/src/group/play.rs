@@ -1,0 +1,270 @@
+use std::collections::BTreeMap;
+
+use cetskobi::sys::{Answer, Message, Replica, WORDS};
+use model::engine::{has, Record};
+
+use super::{Entry, Run, Tally, What};
+use crate::bytes::Bytes;
+use crate::engine;
+use crate::memory::Memory;
+use crate::single::{by_engine, on_table, Case, Event, Kind, Outcome};
+use crate::words::{words_of, Words};
+
+/// A message that left, with the bytes it left with, and whom it is for.
+#[derive(Clone, Debug)]
+pub struct Post {
+    pub message: Message,
+    pub i: usize,
+    pub value: Bytes,
+    pub to: u16,
+}
+
+/// How a message comes to a laptop of the engine.
+pub type Carry = fn(&Post, Replica, &mut [u32], &mut [u8]) -> Answer;
+
+/// The delivery by itself.
+pub fn by_hand(post: &Post, me: Replica, words: &mut [u32], store: &mut [u8]) -> Answer {
+    engine::deliver(me, words, store, post.i, post.message, &post.value)
+}
+
+/// An event of the model on its own table and store.
+pub type OnTable = fn(&Case, &mut [Record], &mut [u8]) -> Outcome;
+
+/// A stamp as it is ordered.
+type Stamp = (u32, u32);
+
+/// A laptop, in the engine's memory and in the model's.
+pub struct Member {
+    pub me: Replica,
+    pub memory: Memory,
+    table: Vec<Record>,
+    store: Vec<u8>,
+    /// By record: the greatest validated stamp with this laptop in the
+    /// finisher's view.
+    floor: Vec<Stamp>,
+}
+
+pub struct Group {
+    pub members: Vec<Member>,
+    /// By the id of the entry that the message left.
+    pub posts: BTreeMap<usize, Post>,
+    carry: Carry,
+    other: OnTable,
+    since: usize,
+}
+
+impl Group {
+    /// All members have just started fresh, in memory that was not clean.
+    pub fn start(run: &Run, carry: Carry, other: OnTable) -> Group {
+        let member = |&number: &u8| {
+            let mut memory = Memory::default();
+            memory.lay(
+                &vec![77; WORDS * run.records],
+                &vec![0xee; Record::VALUE_LIMIT * run.records],
+            );
+            let me = Replica {
+                number,
+                view: run.view,
+                epoch: 0,
+            };
+            let case = Case::on(me, 0, Event::Start);
+            let mut table = vec![Record::fresh(9); run.records];
+            let mut store = memory.store().to_vec();
+            let outcome = by_engine(&case, &mut memory);
+            assert_eq!(outcome, on_table(&case, &mut table, &mut store));
+            assert_eq!(outcome.number, 0, "a fresh start");
+            Member {
+                me: outcome.me,
+                memory,
+                table,
+                store,
+                floor: vec![(0, 0); run.records],
+            }
+        };
+        Group {
+            members: run.numbers.iter().map(member).collect(),
+            posts: BTreeMap::new(),
+            carry,
+            other,
+            since: 0,
+        }
+    }
+
+    pub fn records(&self) -> usize {
+        self.members[0].table.len()
+    }
+
+    /// Plays one entry by both, and compares what it can have touched. The
+    /// whole memory is compared now and then.
+    pub fn play(&mut self, entry: &Entry, tally: &mut Tally) -> Result<(), String> {
+        let Some(member) = self.members.get_mut(entry.at) else {
+            return Ok(());
+        };
+        let (case, outcome) = match &entry.what {
+            What::Own { i, event } => {
+                let case = Case::on(member.me, *i, event.clone());
+                let outcome = by_engine(&case, &mut member.memory);
+                (case, outcome)
+            }
+            What::Deliver { of } => {
+                let Some(post) = self.posts.get(of) else {
+                    return Ok(());
+                };
+                let event = Event::Deliver {
+                    message: post.message,
+                    value: post.value.clone(),
+                };
+                let case = Case::on(member.me, post.i, event);
+                let (words, store) = member.memory.lend();
+                let answer = (self.carry)(post, member.me, words, store);
+                let outcome = Outcome {
+                    number: answer.number,
+                    sent: (answer.kind, answer.tie, answer.version),
+                    part: (0, 0),
+                    me: member.me,
+                };
+                (case, outcome)
+            }
+        };
+        let before = member.table.get(case.i).map(|record| record.state);
+        let expected = (self.other)(&case, &mut member.table, &mut member.store);
+        if outcome != expected {
+            let (id, at) = (entry.id, entry.at);
+            return Err(format!(
+                "entry {id} at {at}: engine {outcome:?}, other {expected:?}"
+            ));
+        }
+        member.me = outcome.me;
+        for i in [case.i.wrapping_sub(1), case.i, case.i.wrapping_add(1)] {
+            member
+                .same(i)
+                .map_err(|what| format!("entry {} at {}: {what}", entry.id, entry.at))?;
+        }
+        let label = match (outcome.number, before) {
+            (0, Some(state)) if case.kind() != Kind::View => {
+                format!("{:?} at {state:?}", case.kind())
+            }
+            (number, _) => format!("{:?} answers {number}", case.kind()),
+        };
+        *tally.entry(label).or_default() += 1;
+
+        if outcome.number == 0 {
+            self.leave(entry.id, entry.at, &case, &outcome);
+            let pairs = self.agreement(case.i)?;
+            *tally.entry("valid pairs".to_owned()).or_default() += pairs;
+        }
+        self.since += 1;
+        if self.since >= 64.max(self.records() / 2) {
+            self.since = 0;
+            self.check_all()?;
+        }
+        Ok(())
+    }
+
+    /// A message that leaves joins the posts. A validation sets a floor for
+    /// each laptop in the finisher's view.
+    fn leave(&mut self, id: usize, at: usize, case: &Case, outcome: &Outcome) {
+        let member = &self.members[at];
+        let (kind, tie, version) = outcome.sent;
+        if kind == 0 {
+            return;
+        }
+        let (me, i) = (member.me, case.i);
+        let to = match &case.event {
+            Event::Deliver { message, .. } => 1 << message.sender,
+            _ => me.view & !(1 << me.number),
+        };
+        let value = match (kind, member.memory.record(i), member.memory.slot(i)) {
+            (1, Some(record), Some(slot)) => slot[..record[7] as usize].to_vec(),
+            _ => Vec::new(),
+        };
+        let message = Message {
+            kind,
+            sender: me.number,
+            tie,
+            epoch: me.epoch,
+            version,
+        };
+        let value = Bytes(value);
+        let post = Post {
+            message,
+            i,
+            value,
+            to,
+        };
+        self.posts.insert(id, post);
+        if case.event == Event::Validate {
+            for other in &mut self.members {
+                if has(me.view, other.me.number) {
+                    other.floor[i] = other.floor[i].max((version, tie.into()));
+                }
+            }
+        }
+    }
+
+    /// Demand 3 for this record, of the engine's memory. Gives the count of
+    /// pairs that both show it valid.
+    fn agreement(&self, i: usize) -> Result<u64, String> {
+        let mut pairs = 0;
+        for (k, a) in self.members.iter().enumerate() {
+            let Some(x) = a.shown(i) else {
+                continue;
+            };
+            if (x[1], x[2]) < a.floor[i] {
+                let (me, floor) = (a.me, a.floor[i]);
+                return Err(format!("{me:?} shows {x:?} of {i}, {floor:?} is validated"));
+            }
+            for b in &self.members[k + 1..] {
+                let mutual = has(a.me.view, b.me.number) && has(b.me.view, a.me.number);
+                let Some(y) = b.shown(i).filter(|_| mutual) else {
+                    continue;
+                };
+                pairs += 1;
+                let same = (x[1], x[2], x[7]) == (y[1], y[2], y[7]);
+                if !same || a.memory.slot(i) != b.memory.slot(i) {
+                    let (a, b) = (a.me, b.me);
+                    return Err(format!("{a:?} shows {x:?} of {i}, {b:?} {y:?}"));
+                }
+            }
+        }
+        Ok(pairs)
+    }
+
+    /// Every byte of every member, guards included, and demand 3 for every
+    /// record.
+    pub fn check_all(&self) -> Result<(), String> {
+        let mut expected = Memory::default();
+        for (at, member) in self.members.iter().enumerate() {
+            let words: Vec<Words> = member.table.iter().map(words_of).collect();
+            expected.lay(words.as_flattened(), &member.store);
+            if let Some(what) = member.memory.difference(&expected) {
+                return Err(format!("member {at}: {what} (engine, other)"));
+            }
+        }
+        for i in 0..self.records() {
+            self.agreement(i)?;
+        }
+        Ok(())
+    }
+}
+
+impl Member {
+    /// Is record `i` the same by both?
+    fn same(&self, i: usize) -> Result<(), String> {
+        let words = self.table.get(i).map(words_of);
+        let record = self.memory.record(i);
+        if record != words.as_ref() {
+            return Err(format!("record {i}: engine {record:?}, other {words:?}"));
+        }
+        let slots = self.store.as_chunks::<{ Record::VALUE_LIMIT }>().0;
+        if self.memory.slot(i) != slots.get(i) {
+            return Err(format!("the bytes of record {i}"));
+        }
+        Ok(())
+    }
+
+    /// The record's words, if the engine shows it valid.
+    fn shown(&self, i: usize) -> Option<&Words> {
+        self.memory.record(i).filter(|record| record[0] == 0)
+    }
+}
