@@ -1,4 +1,6 @@
 pub mod Crossing
 pub mod Events
 pub mod Membership
+pub mod Packets
+pub mod Playing
 pub mod Words

@@ -2,6 +2,8 @@
 mod crossing;
 mod events;
 mod membership;
+mod packets;
+mod playing;
 mod words;
 
 pub use crossing::CetskobiAdmission;
@@ -17,3 +19,7 @@ pub use events::cetskobi_validate;
 pub use events::cetskobi_write;
 pub use membership::cetskobi_start;
 pub use membership::cetskobi_view;
+pub use packets::CetskobiFetched;
+pub use packets::CetskobiWritten;
+pub use packets::cetskobi_fetch;
+pub use playing::cetskobi_play;
