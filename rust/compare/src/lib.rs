@@ -5,6 +5,7 @@ pub mod bytes;
 pub mod engine;
 pub mod group;
 pub mod memory;
+pub mod packet;
 pub mod settings;
 pub mod shrink;
 pub mod single;

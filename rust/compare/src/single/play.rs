@@ -73,9 +73,17 @@ fn admitted(admission: Admission) -> Outcome {
 }
 
 pub fn by_model(case: &Case, memory: &mut Memory) -> Outcome {
+    on_words(memory, |table, store| on_table(case, table, store))
+}
+
+/// Lets the model move the table of these words.
+pub fn on_words(
+    memory: &mut Memory,
+    event: impl FnOnce(&mut [Record], &mut [u8]) -> Outcome,
+) -> Outcome {
     let before = table_of(memory.words());
     let mut table = before.clone();
-    let outcome = on_table(case, &mut table, memory.lend().1);
+    let outcome = event(&mut table, memory.lend().1);
     // A record that stayed keeps its words, also where they are no record.
     for (k, (before, after)) in before.iter().zip(&table).enumerate() {
         if before != after {
@@ -88,15 +96,9 @@ pub fn by_model(case: &Case, memory: &mut Memory) -> Outcome {
 /// The model's event on its own table.
 pub fn on_table(case: &Case, table: &mut [Record], store: &mut [u8]) -> Outcome {
     let Replica {
-        number: own,
-        view,
-        epoch,
+        number: own, view, ..
     } = case.me;
-    let mut replica = model::engine::Replica {
-        number: own,
-        epoch,
-        view,
-    };
+    let mut replica = replica_of(case.me);
     let mut part = (0, 0);
     let i = case.i;
     let answer = match &case.event {
@@ -142,7 +144,15 @@ pub fn on_table(case: &Case, table: &mut [Record], store: &mut [u8]) -> Outcome 
     }
 }
 
-pub fn identity(replica: &model::engine::Replica) -> Replica {
+pub fn replica_of(me: Replica) -> model::engine::Replica {
+    model::engine::Replica {
+        number: me.number,
+        epoch: me.epoch,
+        view: me.view,
+    }
+}
+
+fn identity(replica: &model::engine::Replica) -> Replica {
     Replica {
         number: replica.number,
         view: replica.view,
@@ -169,6 +179,17 @@ impl Bench {
     /// Plays the case by the engine and by the other: their outcome, or how
     /// they differ.
     pub fn difference(&mut self, case: &Case, other: Play) -> Result<Outcome, String> {
+        let engine = |memory: &mut Memory| by_engine(case, memory);
+        self.compare(case, engine, |memory| other(case, memory))
+    }
+
+    /// The same for any two events on the memory that the case lends.
+    pub fn compare(
+        &mut self,
+        case: &Case,
+        engine: impl FnOnce(&mut Memory) -> Outcome,
+        other: impl FnOnce(&mut Memory) -> Outcome,
+    ) -> Result<Outcome, String> {
         self.pool
             .lay(case.part, case.words, case.store, &mut self.engine);
         self.engine.put_record(case.i, &case.record);
@@ -176,10 +197,7 @@ impl Bench {
             self.engine.put_slot(case.i, slot);
         }
         self.other.clone_from(&self.engine);
-        let (a, b) = (
-            by_engine(case, &mut self.engine),
-            other(case, &mut self.other),
-        );
+        let (a, b) = (engine(&mut self.engine), other(&mut self.other));
         if a != b {
             return Err(format!("engine {a:?}, other {b:?}"));
         }
