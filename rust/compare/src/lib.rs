@@ -6,6 +6,7 @@ pub mod engine;
 pub mod group;
 pub mod memory;
 pub mod packet;
+pub mod script;
 pub mod settings;
 pub mod shrink;
 pub mod single;
