@@ -10,7 +10,8 @@ use lib.Seq.{append-snoc, set-at, take-at, take-length}
 use borrow.Author.Tests.{leb-true}
 use Rattle.packet.specs.declared.entry.Entry.{Entry}
 use Rattle.packet.specs.Entry.{fieldsFor, good}
-use Rattle.packet.specs.Writing.{writeRefusal, written}
+use Rattle.packet.specs.declared.answer.Written.{Written}
+use Rattle.packet.specs.Writing.{writeRefusal, written, outputOf}
 use Rattle.entries.specs.Words.{unfit, entryAt, countIn, entriesFrom, messagesIn, arrayIn}
 
 -- question 24, "fields as in 22", says no to what stands for no message
@@ -71,16 +72,24 @@ filled-all words = rw (length-entries (countIn (length words)) 0 words)
 
 -- ---- the writer on it
 
-pub length-messages : (words : List ℕ) → length (messagesIn words) ≡ countIn (length words)
+length-messages : (words : List ℕ) → length (messagesIn words) ≡ countIn (length words)
 unfolding messagesIn
 length-messages words = length-entries (countIn (length words)) 0 words
 
-pub front : (words : List ℕ) → take (countIn (length words)) (arrayIn words) ≡ messagesIn words
+front : (words : List ℕ) → take (countIn (length words)) (arrayIn words) ≡ messagesIn words
 unfolding arrayIn
 front words = take-at (messagesIn words) _ (countIn (length words)) (length-messages words)
 
--- what it answers to the array and the count is what it answers to the messages
-pub same-written : (words bodies : List ℕ) (room : ℕ)
+same-written : (words bodies : List ℕ) (room : ℕ)
     → written (arrayIn words) (countIn (length words)) bodies room ≡ written (messagesIn words) (length (messagesIn words)) bodies room
 unfolding written writeRefusal
 same-written words bodies room = rw (front words, take-length (messagesIn words), length-messages words)
+
+-- what it does with the array and the count is what it does with the messages
+pub packs : (words bodies out : List ℕ) (count : ℕ) (array : List Entry) (w : Written) (out′ : List ℕ) → count ≡ countIn (length words) → array ≡ arrayIn words
+    → w ≡ written array count bodies (length out) → out′ ≡ outputOf w (take count array) bodies out
+    → (w ≡ written (messagesIn words) (length (messagesIn words)) bodies (length out))
+    × (out′ ≡ outputOf (written (messagesIn words) (length (messagesIn words)) bodies (length out)) (messagesIn words) bodies out)
+packs words bodies out count array w out′ hc ha hw ho =
+    let e : w ≡ written (messagesIn words) (length (messagesIn words)) bodies (length out) = hw ∙ rw (ha, hc) (same-written words bodies (length out)) in
+    (e, ho ∙ rw (e, ha, hc, front words))
