@@ -4,6 +4,7 @@
 pub mod bytes;
 pub mod engine;
 pub mod group;
+pub mod leaving;
 pub mod memory;
 pub mod packet;
 pub mod script;

@@ -8,6 +8,9 @@ pub trait Smaller: Clone + Debug + PartialEq {
     fn smaller(&self) -> Box<dyn Iterator<Item = Self> + '_>;
 }
 
+/// How much is shown of a case as it was found.
+const SHOWN: usize = 2000;
+
 /// A case of a difference, as found and shrunk, and what differs in the latter.
 #[derive(Clone, Debug)]
 pub struct Found<C> {
@@ -20,7 +23,10 @@ impl<C: Debug> fmt::Display for Found<C> {
     fn fmt(&self, f: &mut fmt::Formatter<'_>) -> fmt::Result {
         writeln!(f, "differs: {}", self.what)?;
         writeln!(f, "shrunk: {:?}", self.shrunk)?;
-        writeln!(f, "found as: {:?}", self.first)
+        let first = format!("{:?}", self.first);
+        let shown: String = first.chars().take(SHOWN).collect();
+        let more = if shown.len() < first.len() { " .." } else { "" };
+        writeln!(f, "found as: {shown}{more}")
     }
 }
 

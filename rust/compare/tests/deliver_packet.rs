@@ -1,8 +1,6 @@
 //! Deliveries out of packets, on memory of any kind, and in whole groups.
 
-use cetskobi::sys::{Answer, Replica};
-use compare::engine;
-use compare::group::{self, Post};
+use compare::group::{self, by_packet};
 use compare::memory::Memory;
 use compare::packet::deliver::{by_model, compare, Case};
 use compare::settings::Settings;
@@ -21,25 +19,6 @@ fn random_deliveries() {
         }
         Err(found) => panic!("CETSKOBI_SEED={}\n{found}", settings.seed),
     }
-}
-
-/// The message goes by packet.
-fn by_packet(post: &Post, me: Replica, words: &mut [u32], store: &mut [u8]) -> Answer {
-    let message = post.message;
-    let ack = [2, 0, 0, 0, 0, 0, 0];
-    let entry = [
-        message.kind.into(),
-        message.sender.into(),
-        message.epoch,
-        post.i as u32,
-        message.version,
-        message.tie.into(),
-        post.value.len() as u32,
-    ];
-    let mut packet = [0; 1400];
-    let written = engine::pack(&[ack, entry].concat(), &post.value, &mut packet);
-    assert_eq!(written.number, 0);
-    engine::deliver_packet(me, words, store, &packet[..written.len], 1)
 }
 
 #[test]

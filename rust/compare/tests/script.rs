@@ -111,7 +111,7 @@ fn wrong_players() {
     }
     for (wrong, lines) in [
         (logs as fn(&[u8], &mut [u8]) -> Written, 12),
-        (states, 4),
+        (states, 8),
         (text, 2),
     ] {
         let found = compare(&Settings::USUAL, wrong).expect_err("a difference");

@@ -5,7 +5,7 @@ mod play;
 mod run;
 mod schedule;
 
-pub use play::{by_hand, Carry, Group, OnTable, Post};
+pub use play::{by_hand, by_packet, Carry, Group, OnTable, Post};
 pub use run::{Entry, Run, What};
 pub use schedule::Schedule;
 

@@ -27,6 +27,25 @@ pub fn by_hand(post: &Post, me: Replica, words: &mut [u32], store: &mut [u8]) ->
     engine::deliver(me, words, store, post.i, post.message, &post.value)
 }
 
+/// The delivery out of a packet, where it is the second message.
+pub fn by_packet(post: &Post, me: Replica, words: &mut [u32], store: &mut [u8]) -> Answer {
+    let message = post.message;
+    let ack = [2, 0, 0, 0, 0, 0, 0];
+    let entry = [
+        message.kind.into(),
+        message.sender.into(),
+        message.epoch,
+        post.i as u32,
+        message.version,
+        message.tie.into(),
+        post.value.len() as u32,
+    ];
+    let mut packet = [0; 1400];
+    let written = engine::pack(&[ack, entry].concat(), &post.value, &mut packet);
+    assert_eq!(written.number, 0);
+    engine::deliver_packet(me, words, store, &packet[..written.len], 1)
+}
+
 /// An event of the model on its own table and store.
 pub type OnTable = fn(&Case, &mut [Record], &mut [u8]) -> Outcome;
 

@@ -5,6 +5,7 @@ mod some;
 pub use some::some_script;
 
 use std::collections::BTreeMap;
+use std::fmt;
 
 use cetskobi::sys::Written;
 use model::player::{self, INPUT_LIMIT};
@@ -22,7 +23,7 @@ pub const BEYOND: u8 = 255;
 const OLD: u8 = 0xa5;
 
 /// A script by its lines, without their line feeds.
-#[derive(Clone, Debug, PartialEq)]
+#[derive(Clone, PartialEq)]
 pub struct Script {
     pub lines: Vec<Bytes>,
     /// Does the last line end with a line feed?
@@ -44,6 +45,17 @@ impl Script {
     /// The output's bytes: 25 for each of the script's, and 2.
     fn out(&self, bytes: &[u8]) -> usize {
         (25 * bytes.len() + 2).saturating_add_signed(self.room)
+    }
+}
+
+impl fmt::Debug for Script {
+    fn fmt(&self, f: &mut fmt::Formatter<'_>) -> fmt::Result {
+        let text = self.bytes();
+        write!(f, "\"{}\"", text.escape_ascii())?;
+        match self.room {
+            0 => Ok(()),
+            room => write!(f, " with {room} more bytes of output"),
+        }
     }
 }
 
@@ -130,7 +142,7 @@ impl Tally {
 }
 
 /// Random scripts of the usual count.
-const SCRIPTS: usize = 30_000;
+const SCRIPTS: usize = 25_000;
 
 pub fn compare(settings: &Settings, other: Play) -> Result<Tally, Box<Found<Script>>> {
     let mut rng = settings.rng("script");

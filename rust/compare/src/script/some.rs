@@ -1,5 +1,6 @@
 //! Random scripts: mostly lines that are known, of a group at work.
 
+use model::player;
 use model::rng::Rng;
 
 use super::Script;
@@ -9,8 +10,8 @@ use crate::single::{some_bytes, some_word};
 pub fn some_script(rng: &mut Rng) -> Script {
     let size = 2 + rng.below(3);
     let count = match rng.below(60) {
-        0 => 900 + rng.below(600),
-        1..8 => 100 + rng.below(300),
+        0 => 600 + rng.below(300),
+        1..6 => 100 + rng.below(200),
         _ => 1 + rng.below(60),
     };
     let mut lines = vec![line_one(rng, size)];
@@ -19,7 +20,6 @@ pub fn some_script(rng: &mut Rng) -> Script {
         logged: 0,
         epoch: 0,
         wrong: [0, 10, 60, 400][rng.below(4)],
-        hasty: rng.chance(1, 3),
     };
     while lines.len() < count {
         writer.some_lines(rng, &mut lines);
@@ -64,8 +64,6 @@ struct Writer {
     epoch: u32,
     /// One number in so many is wrong; 0 for none.
     wrong: usize,
-    /// Writes and resends much, so that the log fills.
-    hasty: bool,
 }
 
 impl Writer {
@@ -88,28 +86,42 @@ impl Writer {
         [young, young, rng.below(self.logged + 2)][rng.below(3)].to_string()
     }
 
-    /// One line, or the lines of a whole write.
+    /// One line, or the lines of a scene.
     fn some_lines(&mut self, rng: &mut Rng, lines: &mut Vec<Bytes>) {
-        let line = match rng.below(if self.hasty { 60 } else { 100 }) {
-            0..8 => format!("read {}", self.laptop(rng)),
-            8..14 => format!("validate {}", self.laptop(rng)),
-            14..20 => format!("replay {}", self.laptop(rng)),
-            20..30 => {
-                self.logged += usize::from(rng.chance(1, 2));
-                format!("resend {}", self.laptop(rng))
+        let line = match rng.below(100) {
+            0..6 => format!("read {}", self.laptop(rng)),
+            6..14 => format!("validate {}", self.laptop(rng)),
+            14..18 => format!("replay {}", self.laptop(rng)),
+            18..23 => format!("resend {}", self.laptop(rng)),
+            23..26 => self.view(rng),
+            26..30 => return self.whole_write(rng, lines),
+            30..32 => return self.dead_writer(rng, lines),
+            32 => {
+                // The log fills.
+                let line = format!("resend {}", self.laptop(rng));
+                let line = Bytes(line.into_bytes());
+                let times = [rng.below(20), rng.below(20), rng.below(300)];
+                return lines.extend(vec![line; times[rng.below(3)]]);
             }
-            30..33 => self.view(rng),
-            33..36 => return self.whole_write(rng, lines),
-            36..50 => {
-                self.logged += usize::from(rng.chance(1, 2));
-                return lines.push(self.write(rng));
-            }
+            33..40 => return lines.push(self.write(rng)),
             _ => {
-                self.logged += usize::from(rng.chance(1, 3));
+                if rng.chance(1, 15) {
+                    self.look(lines);
+                }
                 format!("deliver {} {}", self.laptop(rng), self.log(rng))
             }
         };
         lines.push(Bytes(line.into_bytes()));
+    }
+
+    /// How many messages are logged, and the greatest epoch, after these lines.
+    fn look(&mut self, lines: &[Bytes]) {
+        let lines: Vec<&[u8]> = lines.iter().map(|line| &line[..]).collect();
+        let printed = player::play(&lines.join(&b'\n'));
+        let printed = String::from_utf8_lossy(&printed);
+        let logs = printed.lines().filter_map(|line| line.split(' ').nth(4));
+        let last = logs.filter_map(|log| log.parse::<usize>().ok()).next_back();
+        self.logged = last.map_or(0, |log| log + 1);
     }
 
     fn view(&mut self, rng: &mut Rng) -> String {
@@ -145,6 +157,7 @@ impl Writer {
     /// A write that reaches everyone, its acknowledgements and its end; some of
     /// it may get lost.
     fn whole_write(&mut self, rng: &mut Rng, lines: &mut Vec<Bytes>) {
+        self.look(lines);
         let writer = rng.below(self.size);
         let inv = self.logged;
         let mut say = |line: String| {
@@ -165,6 +178,37 @@ impl Writer {
             say(format!("deliver {other} {}", inv + others.len() + 1));
         }
         self.logged += others.len() + 2;
+    }
+
+    /// A writer dies after its message has reached one other, which replays it
+    /// in the view without the writer.
+    fn dead_writer(&mut self, rng: &mut Rng, lines: &mut Vec<Bytes>) {
+        self.look(lines);
+        let writer = rng.below(self.size);
+        let other = (writer + 1 + rng.below(self.size - 1)) % self.size;
+        let inv = self.logged;
+        self.epoch += 1;
+        let (epoch, set) = (self.epoch, ((1 << self.size) - 1) & !(1 << writer));
+        let mut say = |line: String| {
+            if !rng.chance(1, 20) {
+                lines.push(Bytes(line.into_bytes()));
+            }
+        };
+        say(format!("write {writer} text {inv}"));
+        say(format!("deliver {other} {inv}"));
+        say(format!("view {other} {epoch} {set}"));
+        say(format!("replay {other}"));
+        let replay = inv + 2;
+        for (k, third) in (0..self.size)
+            .filter(|&n| n != writer && n != other)
+            .enumerate()
+        {
+            say(format!("view {third} {epoch} {set}"));
+            say(format!("deliver {third} {replay}"));
+            say(format!("deliver {other} {}", replay + 1 + k));
+        }
+        say(format!("validate {other}"));
+        self.logged += 4;
     }
 }
 

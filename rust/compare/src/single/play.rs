@@ -176,6 +176,17 @@ impl Bench {
         }
     }
 
+    /// Lays out what the case lends, for the engine.
+    pub fn lay(&mut self, case: &Case) -> &mut Memory {
+        let memory = &mut self.engine;
+        self.pool.lay(case.part, case.words, case.store, memory);
+        memory.put_record(case.i, &case.record);
+        if let Ok(slot) = case.slot[..].try_into() {
+            memory.put_slot(case.i, slot);
+        }
+        memory
+    }
+
     /// Plays the case by the engine and by the other: their outcome, or how
     /// they differ.
     pub fn difference(&mut self, case: &Case, other: Play) -> Result<Outcome, String> {
@@ -190,12 +201,7 @@ impl Bench {
         engine: impl FnOnce(&mut Memory) -> Outcome,
         other: impl FnOnce(&mut Memory) -> Outcome,
     ) -> Result<Outcome, String> {
-        self.pool
-            .lay(case.part, case.words, case.store, &mut self.engine);
-        self.engine.put_record(case.i, &case.record);
-        if let Ok(slot) = case.slot[..].try_into() {
-            self.engine.put_slot(case.i, slot);
-        }
+        self.lay(case);
         self.other.clone_from(&self.engine);
         let (a, b) = (engine(&mut self.engine), other(&mut self.other));
         if a != b {
