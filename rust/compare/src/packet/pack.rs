@@ -231,20 +231,23 @@ impl Smaller for Case {
             words: [entries.as_flattened(), rest].concat(),
             ..self.clone()
         });
-        // A message, with its bytes.
-        let letters = (0..entries.len()).filter_map(move |k| {
-            let len = |entry: &EntryWords| entry[6] as usize;
-            let at: usize = entries[..k].iter().map(len).sum();
-            let behind = self.bodies.get(at.checked_add(len(&entries[k]))?..)?;
-            Some(Case {
-                words: [
-                    entries[..k].as_flattened(),
-                    entries[k + 1..].as_flattened(),
-                    rest,
-                ]
-                .concat(),
-                bodies: Bytes([&self.bodies[..at], behind].concat()),
-                out: self.out,
+        // A message, or its length alone, with as many bytes of the bodies.
+        let letters = (0..entries.len()).flat_map(move |k| {
+            let len = entries[k][6] as usize;
+            let left = self.bodies.len().checked_sub(len);
+            let bodies = left.map(|left| Bytes(self.bodies[..left].to_vec()));
+            let mut empty = entries[k];
+            empty[6] = 0;
+            let (before, after) = (&entries[..k], &entries[k + 1..]);
+            let fewer = [before.to_vec(), [before, &[empty]].concat()];
+            let fewer = fewer.map(|fewer| [&fewer, after].concat());
+            let fewer = fewer.into_iter().filter(move |fewer| *fewer != entries);
+            fewer.filter_map(move |fewer| {
+                Some(Case {
+                    words: [fewer.as_flattened(), rest].concat(),
+                    bodies: bodies.clone()?,
+                    out: self.out,
+                })
             })
         });
         let bodies = drops(&self.bodies).chain(plainer(&self.bodies));
