@@ -49,6 +49,9 @@ pub fn by_packet(post: &Post, me: Replica, words: &mut [u32], store: &mut [u8]) 
 /// An event of the model on its own table and store.
 pub type OnTable = fn(&Case, &mut [Record], &mut [u8]) -> Outcome;
 
+/// All memory of so many records is compared after each entry.
+const SMALL: usize = 100;
+
 /// A stamp as it is ordered.
 type Stamp = (u32, u32);
 
@@ -58,6 +61,9 @@ pub struct Member {
     pub memory: Memory,
     table: Vec<Record>,
     store: Vec<u8>,
+    /// The engine's memory as it was, but for the records that were named: in
+    /// those it is as the model has them.
+    copy: Memory,
     /// By record: the greatest validated stamp with this laptop in the
     /// finisher's view.
     floor: Vec<Stamp>,
@@ -94,6 +100,7 @@ impl Group {
             assert_eq!(outcome.number, 0, "a fresh start");
             Member {
                 me: outcome.me,
+                copy: memory.clone(),
                 memory,
                 table,
                 store,
@@ -154,11 +161,9 @@ impl Group {
             ));
         }
         member.me = outcome.me;
-        for i in [case.i.wrapping_sub(1), case.i, case.i.wrapping_add(1)] {
-            member
-                .same(i)
-                .map_err(|what| format!("entry {} at {}: {what}", entry.id, entry.at))?;
-        }
+        member
+            .same(case.i)
+            .map_err(|what| format!("entry {} at {}: {what}", entry.id, entry.at))?;
         let label = match (outcome.number, before) {
             (0, Some(state)) if case.kind() != Kind::View => {
                 format!("{:?} at {state:?}", case.kind())
@@ -254,6 +259,7 @@ impl Group {
     pub fn check_all(&self) -> Result<(), String> {
         let mut expected = Memory::default();
         for (at, member) in self.members.iter().enumerate() {
+            member.moved()?;
             let words: Vec<Words> = member.table.iter().map(words_of).collect();
             expected.lay(words.as_flattened(), &member.store);
             if let Some(what) = member.memory.difference(&expected) {
@@ -268,18 +274,33 @@ impl Group {
 }
 
 impl Member {
-    /// Is record `i` the same by both?
-    fn same(&self, i: usize) -> Result<(), String> {
-        let words = self.table.get(i).map(words_of);
-        let record = self.memory.record(i);
-        if record != words.as_ref() {
-            return Err(format!("record {i}: engine {record:?}, other {words:?}"));
-        }
+    /// Is record `i`, which was named, as the model has it? Nothing else may
+    /// have moved: of a small memory everything is looked at, else what lies
+    /// beside.
+    fn same(&mut self, i: usize) -> Result<(), String> {
         let slots = self.store.as_chunks::<{ Record::VALUE_LIMIT }>().0;
-        if self.memory.slot(i) != slots.get(i) {
-            return Err(format!("the bytes of record {i}"));
+        if let (Some(record), Some(slot)) = (self.table.get(i), slots.get(i)) {
+            self.copy.put_record(i, &words_of(record));
+            self.copy.put_slot(i, slot);
         }
-        Ok(())
+        if self.table.len() <= SMALL {
+            return self.moved();
+        }
+        let beside = [i.wrapping_sub(1), i, i.wrapping_add(1)];
+        let part =
+            |memory: &Memory| beside.map(|i| (memory.record(i).copied(), memory.slot(i).copied()));
+        if part(&self.memory) == part(&self.copy) {
+            return Ok(());
+        }
+        self.moved()
+    }
+
+    /// Is the engine's memory as its copy, guards included?
+    fn moved(&self) -> Result<(), String> {
+        match self.memory.difference(&self.copy) {
+            None => Ok(()),
+            Some(what) => Err(format!("{what} (engine, other)")),
+        }
     }
 
     /// The record's words, if the engine shows it valid.

@@ -82,13 +82,35 @@ type Differs = Result<(), Box<Found<Case>>>;
 impl Bench {
     /// Every message of the packet, and the places past the last.
     fn packet(&mut self, packet: &[u8]) -> Differs {
-        self.tally.packets += 1;
-        let first = by_engine(packet, 0);
         let count = packet.get(1).map_or(0, |&count| usize::from(count));
-        let within = if first.number == 0 { count } else { 1 };
+        let within = if by_engine(packet, 0).number == 0 {
+            count
+        } else {
+            1
+        };
         for i in 0..within {
             self.fetch(packet, i)?;
         }
+        self.ends(packet)
+    }
+
+    /// The same, but of a packet of many messages some, each in its turn.
+    fn some_of(&mut self, packet: &[u8]) -> Differs {
+        let count = packet.get(1).map_or(0, |&count| usize::from(count));
+        if count <= FEW {
+            return self.packet(packet);
+        }
+        let turn = self.tally.packets as usize % count;
+        for i in [0, turn, count - 1] {
+            self.fetch(packet, i)?;
+        }
+        self.ends(packet)
+    }
+
+    /// The last message, and the places past it.
+    fn ends(&mut self, packet: &[u8]) -> Differs {
+        self.tally.packets += 1;
+        let count = packet.get(1).map_or(0, |&count| usize::from(count));
         for i in [count.wrapping_sub(1), count, count + 1, usize::MAX] {
             self.fetch(packet, i)?;
         }
@@ -115,7 +137,7 @@ impl Bench {
         for at in 0..whole.len() {
             for value in 0..=255 {
                 packet[at] = value;
-                self.packet(&packet)?;
+                self.some_of(&packet)?;
             }
             packet[at] = whole[at];
         }
@@ -138,6 +160,9 @@ impl Bench {
         Ok(())
     }
 }
+
+/// A packet of more messages than this has many.
+const FEW: usize = 8;
 
 /// Random damaged packets of the usual count.
 const DAMAGED: usize = 500_000;

@@ -1,5 +1,7 @@
 use std::fmt;
 
+use cetskobi::sys::WORDS;
+
 use super::{Case, Event, Kind, Outcome};
 
 /// How often each kind of event gave each answer.
@@ -10,12 +12,42 @@ pub struct Tally {
     accepted: [[u64; 5]; Kind::ALL.len()],
     /// Accepted INVs that were not greater, by the state.
     older: [u64; 5],
+    /// Refused by question 2, by what is wrong with the memory.
+    sizes: [u64; SIZES.len()],
+    /// Refused by question 5, by the word that is too great for its field.
+    no_record: [u64; WORDS],
 }
+
+/// What may be wrong with lent memory, and the test of it.
+const SIZES: [(&str, fn(&Case) -> bool); 6] = [
+    ("no records", |case| case.words == 0),
+    ("4,097 records", |case| case.words == 4097 * WORDS),
+    ("words that are no table", |case| case.words % WORDS != 0),
+    ("no store", |case| case.store == 0 && case.words > 0),
+    ("a short store", |case| case.store < 24 * case.words),
+    ("a long store", |case| case.store > 24 * case.words),
+];
+
+/// The greatest number of each word that its field holds, but of the state.
+const FIELDS: [u32; WORDS] = [4, u32::MAX, 255, 255, u32::MAX, 255, 65_535, 255];
 
 impl Tally {
     pub fn count(&mut self, case: &Case, outcome: &Outcome) {
         let kind = case.kind();
         self.answers[kind as usize][usize::from(outcome.number)] += 1;
+        match outcome.number {
+            2 => {
+                for (count, (_, wrong)) in self.sizes.iter_mut().zip(SIZES) {
+                    *count += u64::from(wrong(case));
+                }
+            }
+            5 => {
+                for (k, count) in self.no_record.iter_mut().enumerate() {
+                    *count += u64::from(case.record[k] > FIELDS[k]);
+                }
+            }
+            _ => {}
+        }
         let state = case.record[0] as usize;
         if outcome.number != 0 || state >= 5 {
             return;
@@ -34,8 +66,8 @@ impl Tally {
         }
     }
 
-    /// The least of all counts that can be: every answer of every kind, and
-    /// every acceptance at every state that allows it.
+    /// The least of all counts that can be: every answer of every kind, every
+    /// acceptance at every state that allows it, everything that can be wrong.
     pub fn least(&self) -> u64 {
         let answers = Kind::ALL.iter().flat_map(|&kind| {
             let counts = &self.answers[kind as usize];
@@ -45,7 +77,10 @@ impl Tally {
             let counts = &self.accepted[kind as usize];
             states(kind).iter().map(|&state| counts[state])
         });
-        let all = answers.chain(accepted).chain(self.older);
+        let fields = (0..WORDS).filter(|&k| FIELDS[k] < u32::MAX);
+        let fields = fields.map(|k| self.no_record[k]);
+        let wrong = self.sizes.into_iter().chain(fields);
+        let all = answers.chain(accepted).chain(self.older).chain(wrong);
         all.min().unwrap_or(0)
     }
 
@@ -107,7 +142,11 @@ impl fmt::Display for Tally {
         for (state, count) in self.older.iter().enumerate() {
             write!(f, " {}:{count}", letter(state))?;
         }
-        writeln!(f)
+        writeln!(f)?;
+        for (count, (name, _)) in self.sizes.iter().zip(SIZES) {
+            writeln!(f, "          {count} with {name}")?;
+        }
+        writeln!(f, "          words too great: {:?}", self.no_record)
     }
 }
 
