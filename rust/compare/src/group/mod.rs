@@ -1,10 +1,12 @@
 //! Whole groups at work: every laptop's memory by the engine and by the model,
 //! compared after every event; and demand 3 of what the engine holds.
 
+mod member;
 mod play;
 mod run;
 mod schedule;
 
+pub use member::Member;
 pub use play::{by_hand, by_packet, Carry, Group, OnTable, Post};
 pub use run::{Entry, Run, What};
 pub use schedule::Schedule;

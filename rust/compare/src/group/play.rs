@@ -1,14 +1,13 @@
 use std::collections::BTreeMap;
 
-use cetskobi::sys::{Answer, Message, Replica, WORDS};
+use cetskobi::sys::{Answer, Message, Replica};
 use model::engine::{has, Record};
 
+use super::member::Member;
 use super::{Entry, Run, Tally, What};
 use crate::bytes::Bytes;
 use crate::engine;
-use crate::memory::Memory;
-use crate::single::{by_engine, on_table, Case, Event, Kind, Outcome};
-use crate::words::{words_of, Words};
+use crate::single::{by_engine, Case, Event, Kind, Outcome};
 
 /// A message that left, with the bytes it left with, and whom it is for.
 #[derive(Clone, Debug)]
@@ -49,26 +48,6 @@ pub fn by_packet(post: &Post, me: Replica, words: &mut [u32], store: &mut [u8]) 
 /// An event of the model on its own table and store.
 pub type OnTable = fn(&Case, &mut [Record], &mut [u8]) -> Outcome;
 
-/// All memory of so many records is compared after each entry.
-const SMALL: usize = 100;
-
-/// A stamp as it is ordered.
-type Stamp = (u32, u32);
-
-/// A laptop, in the engine's memory and in the model's.
-pub struct Member {
-    pub me: Replica,
-    pub memory: Memory,
-    table: Vec<Record>,
-    store: Vec<u8>,
-    /// The engine's memory as it was, but for the records that were named: in
-    /// those it is as the model has them.
-    copy: Memory,
-    /// By record: the greatest validated stamp with this laptop in the
-    /// finisher's view.
-    floor: Vec<Stamp>,
-}
-
 pub struct Group {
     pub members: Vec<Member>,
     /// By the id of the entry that the message left.
@@ -81,32 +60,7 @@ pub struct Group {
 impl Group {
     /// All members have just started fresh, in memory that was not clean.
     pub fn start(run: &Run, carry: Carry, other: OnTable) -> Group {
-        let member = |&number: &u8| {
-            let mut memory = Memory::default();
-            memory.lay(
-                &vec![77; WORDS * run.records],
-                &vec![0xee; Record::VALUE_LIMIT * run.records],
-            );
-            let me = Replica {
-                number,
-                view: run.view,
-                epoch: 0,
-            };
-            let case = Case::on(me, 0, Event::Start);
-            let mut table = vec![Record::fresh(9); run.records];
-            let mut store = memory.store().to_vec();
-            let outcome = by_engine(&case, &mut memory);
-            assert_eq!(outcome, on_table(&case, &mut table, &mut store));
-            assert_eq!(outcome.number, 0, "a fresh start");
-            Member {
-                me: outcome.me,
-                copy: memory.clone(),
-                memory,
-                table,
-                store,
-                floor: vec![(0, 0); run.records],
-            }
-        };
+        let member = |&number: &u8| Member::start(number, run);
         Group {
             members: run.numbers.iter().map(member).collect(),
             posts: BTreeMap::new(),
@@ -123,47 +77,18 @@ impl Group {
     /// Plays one entry by both, and compares what it can have touched. The
     /// whole memory is compared now and then.
     pub fn play(&mut self, entry: &Entry, tally: &mut Tally) -> Result<(), String> {
-        let Some(member) = self.members.get_mut(entry.at) else {
+        let Some((case, outcome)) = self.by_engine(entry) else {
             return Ok(());
         };
-        let (case, outcome) = match &entry.what {
-            What::Own { i, event } => {
-                let case = Case::on(member.me, *i, event.clone());
-                let outcome = by_engine(&case, &mut member.memory);
-                (case, outcome)
-            }
-            What::Deliver { of } => {
-                let Some(post) = self.posts.get(of) else {
-                    return Ok(());
-                };
-                let event = Event::Deliver {
-                    message: post.message,
-                    value: post.value.clone(),
-                };
-                let case = Case::on(member.me, post.i, event);
-                let (words, store) = member.memory.lend();
-                let answer = (self.carry)(post, member.me, words, store);
-                let outcome = Outcome {
-                    number: answer.number,
-                    sent: (answer.kind, answer.tie, answer.version),
-                    part: (0, 0),
-                    me: member.me,
-                };
-                (case, outcome)
-            }
-        };
+        let at = |what: String| format!("entry {} at {}: {what}", entry.id, entry.at);
+        let member = &mut self.members[entry.at];
         let before = member.table.get(case.i).map(|record| record.state);
         let expected = (self.other)(&case, &mut member.table, &mut member.store);
         if outcome != expected {
-            let (id, at) = (entry.id, entry.at);
-            return Err(format!(
-                "entry {id} at {at}: engine {outcome:?}, other {expected:?}"
-            ));
+            return Err(at(format!("engine {outcome:?}, other {expected:?}")));
         }
         member.me = outcome.me;
-        member
-            .same(case.i)
-            .map_err(|what| format!("entry {} at {}: {what}", entry.id, entry.at))?;
+        member.same(case.i).map_err(at)?;
         let label = match (outcome.number, before) {
             (0, Some(state)) if case.kind() != Kind::View => {
                 format!("{:?} at {state:?}", case.kind())
@@ -183,6 +108,29 @@ impl Group {
             self.check_all()?;
         }
         Ok(())
+    }
+
+    /// The entry's event, and what the engine did. None for a delivery of
+    /// nothing.
+    fn by_engine(&mut self, entry: &Entry) -> Option<(Case, Outcome)> {
+        let member = self.members.get_mut(entry.at)?;
+        let of = match &entry.what {
+            What::Own { i, event } => {
+                let case = Case::on(member.me, *i, event.clone());
+                let outcome = by_engine(&case, &mut member.memory);
+                return Some((case, outcome));
+            }
+            What::Deliver { of } => of,
+        };
+        let post = self.posts.get(of)?;
+        let event = Event::Deliver {
+            message: post.message,
+            value: post.value.clone(),
+        };
+        let case = Case::on(member.me, post.i, event);
+        let (words, store) = member.memory.lend();
+        let answer = (self.carry)(post, member.me, words, store);
+        Some((case, Outcome::of(member.me, answer)))
     }
 
     /// A message that leaves joins the posts. A validation sets a floor for
@@ -257,12 +205,9 @@ impl Group {
     /// Every byte of every member, guards included, and demand 3 for every
     /// record.
     pub fn check_all(&self) -> Result<(), String> {
-        let mut expected = Memory::default();
         for (at, member) in self.members.iter().enumerate() {
             member.moved()?;
-            let words: Vec<Words> = member.table.iter().map(words_of).collect();
-            expected.lay(words.as_flattened(), &member.store);
-            if let Some(what) = member.memory.difference(&expected) {
+            if let Some(what) = member.memory.difference(&member.expected()) {
                 return Err(format!("member {at}: {what} (engine, other)"));
             }
         }
@@ -270,41 +215,5 @@ impl Group {
             self.agreement(i)?;
         }
         Ok(())
-    }
-}
-
-impl Member {
-    /// Is record `i`, which was named, as the model has it? Nothing else may
-    /// have moved: of a small memory everything is looked at, else what lies
-    /// beside.
-    fn same(&mut self, i: usize) -> Result<(), String> {
-        let slots = self.store.as_chunks::<{ Record::VALUE_LIMIT }>().0;
-        if let (Some(record), Some(slot)) = (self.table.get(i), slots.get(i)) {
-            self.copy.put_record(i, &words_of(record));
-            self.copy.put_slot(i, slot);
-        }
-        if self.table.len() <= SMALL {
-            return self.moved();
-        }
-        let beside = [i.wrapping_sub(1), i, i.wrapping_add(1)];
-        let part =
-            |memory: &Memory| beside.map(|i| (memory.record(i).copied(), memory.slot(i).copied()));
-        if part(&self.memory) == part(&self.copy) {
-            return Ok(());
-        }
-        self.moved()
-    }
-
-    /// Is the engine's memory as its copy, guards included?
-    fn moved(&self) -> Result<(), String> {
-        match self.memory.difference(&self.copy) {
-            None => Ok(()),
-            Some(what) => Err(format!("{what} (engine, other)")),
-        }
-    }
-
-    /// The record's words, if the engine shows it valid.
-    fn shown(&self, i: usize) -> Option<&Words> {
-        self.memory.record(i).filter(|record| record[0] == 0)
     }
 }

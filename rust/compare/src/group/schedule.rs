@@ -4,8 +4,7 @@
 use model::engine::{bit, has};
 use model::rng::Rng;
 
-use super::play::{Group, Member};
-use super::{Run, What};
+use super::{Group, Member, Run, What};
 use crate::single::{some_bytes, Event};
 use crate::words::Words;
 

@@ -30,12 +30,7 @@ pub fn by_engine(case: &Case, memory: &mut Memory) -> Outcome {
     let (words, store) = memory.lend();
     let me = case.lent.me;
     let answer = engine::deliver_packet(me, words, store, &case.packet, case.i);
-    Outcome {
-        number: answer.number,
-        sent: (answer.kind, answer.tie, answer.version),
-        part: (0, 0),
-        me,
-    }
+    Outcome::of(me, answer)
 }
 
 pub fn by_model(case: &Case, memory: &mut Memory) -> Outcome {

@@ -44,22 +44,25 @@ pub fn by_engine(case: &Case, memory: &mut Memory) -> Outcome {
                 me,
             }
         }
-        Event::Write { value } => answered(me, engine::write(me, words, store, i, value)),
-        Event::Replay => answered(me, engine::replay(me, words, store, i)),
+        Event::Write { value } => Outcome::of(me, engine::write(me, words, store, i, value)),
+        Event::Replay => Outcome::of(me, engine::replay(me, words, store, i)),
         Event::Deliver { message, value } => {
-            answered(me, engine::deliver(me, words, store, i, *message, value))
+            Outcome::of(me, engine::deliver(me, words, store, i, *message, value))
         }
-        Event::Validate => answered(me, engine::validate(me, words, store, i)),
-        Event::Resend => answered(me, engine::resend(me, words, store, i)),
+        Event::Validate => Outcome::of(me, engine::validate(me, words, store, i)),
+        Event::Resend => Outcome::of(me, engine::resend(me, words, store, i)),
     }
 }
 
-fn answered(me: Replica, answer: Answer) -> Outcome {
-    Outcome {
-        number: answer.number,
-        sent: (answer.kind, answer.tie, answer.version),
-        part: (0, 0),
-        me,
+impl Outcome {
+    /// Of an event that leaves the identity as it is.
+    pub fn of(me: Replica, answer: Answer) -> Outcome {
+        Outcome {
+            number: answer.number,
+            sent: (answer.kind, answer.tie, answer.version),
+            part: (0, 0),
+            me,
+        }
     }
 }
 

@@ -18,8 +18,10 @@ pub struct Tally {
     no_record: [u64; WORDS],
 }
 
+type Test = fn(&Case) -> bool;
+
 /// What may be wrong with lent memory, and the test of it.
-const SIZES: [(&str, fn(&Case) -> bool); 6] = [
+const SIZES: [(&str, Test); 6] = [
     ("no records", |case| case.words == 0),
     ("4,097 records", |case| case.words == 4097 * WORDS),
     ("words that are no table", |case| case.words % WORDS != 0),
