@@ -36,16 +36,30 @@ fn the_default_morning() {
     ] {
         assert!(report.refused(refusal) > 0, "never {refusal}");
     }
-    // The laptops and the packets were never damaged, and nobody erred.
+    // Laptops and packets were never damaged, and nobody erred: all else is everyday.
+    let everyday = [6, 7, 10, 13, 14, 15, 16, 17];
     for refusal in Refusal::ALL {
-        let damage = !(6..=18).contains(&refusal.number()) || refusal == Refusal::IllFormed;
-        assert!(!damage || report.refused(refusal) == 0, "{refusal}");
+        let expected = everyday.contains(&refusal.number());
+        assert!(expected || report.refused(refusal) == 0, "{refusal}");
     }
+}
+
+/// Struck off while it slept, it goes on until it is told.
+#[test]
+fn laptops_that_only_slept() {
+    let settings = Settings {
+        deaths: 2,
+        sleepers: 2,
+        ..Settings::default()
+    };
+    let report = agreed(&settings);
+    all_saved(&settings, &report);
+    assert!(report.refused(Refusal::StruckOff) > 0);
 }
 
 #[test]
 fn other_seeds() {
-    for seed in 100..112 {
+    for seed in 100..130 {
         let settings = Settings {
             seed,
             ..Settings::default()
