@@ -165,7 +165,7 @@ impl Bench {
 const FEW: usize = 8;
 
 /// Random damaged packets of the usual count.
-const DAMAGED: usize = 500_000;
+const DAMAGED: usize = 650_000;
 
 pub fn compare(settings: &Settings, other: Fetch) -> Result<Tally, Box<Found<Case>>> {
     let mut rng = settings.rng("fetch");
