@@ -40,15 +40,15 @@ pub fn compare(
         for _ in 0..runs * settings.times {
             let (mut run, mut schedule) = Schedule::start(&mut rng, records);
             let mut group = Group::start(&run, carry, other);
-            for id in 0..entries {
-                let (at, what) = schedule.next(&mut rng, &group);
-                run.entries.push(Entry { id, at, what });
-                if let Err(what) = group.play(&run.entries[id], &mut tally) {
-                    let again = |run: &Run| run.play(carry, other).err();
-                    return Err(Box::new(shrink(run, what, again)));
+            let mut play = |run: &mut Run| {
+                for id in 0..entries {
+                    let (at, what) = schedule.next(&mut rng, &group);
+                    run.entries.push(Entry { id, at, what });
+                    group.play(&run.entries[id], &mut tally)?;
                 }
-            }
-            if let Err(what) = group.check_all() {
+                group.check_all()
+            };
+            if let Err(what) = play(&mut run) {
                 let again = |run: &Run| run.play(carry, other).err();
                 return Err(Box::new(shrink(run, what, again)));
             }

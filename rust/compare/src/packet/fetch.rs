@@ -4,7 +4,7 @@ use cetskobi::sys::Fetched;
 use model::engine::Refusal;
 use model::packet;
 
-use super::{damage, some_packet, Letter};
+use super::{damage, packet_of, set_total, some_packet, Letter};
 use crate::bytes::Bytes;
 use crate::engine;
 use crate::settings::Settings;
@@ -144,17 +144,14 @@ impl Bench {
         for len in 0..whole.len() {
             self.packet(&whole[..len])?;
             let mut packet = whole[..len].to_vec();
-            if len >= 4 {
-                packet[2..4].copy_from_slice(&(len as u16).to_be_bytes());
-            }
+            set_total(&mut packet);
             self.packet(&packet)?;
         }
         for more in 1..40 {
             let mut packet = whole.to_vec();
             packet.resize(whole.len() + more, 1);
             self.packet(&packet)?;
-            let total = packet.len() as u16;
-            packet[2..4].copy_from_slice(&total.to_be_bytes());
+            set_total(&mut packet);
             self.packet(&packet)?;
         }
         Ok(())
@@ -165,14 +162,14 @@ impl Bench {
 const FEW: usize = 8;
 
 /// Random damaged packets of the usual count.
-const DAMAGED: usize = 500_000;
+const DAMAGED: usize = 650_000;
 
 pub fn compare(settings: &Settings, other: Fetch) -> Result<Tally, Box<Found<Case>>> {
     let mut rng = settings.rng("fetch");
     let tally = Tally::default();
     let mut bench = Bench { other, tally };
-    bench.around(&super::packet_of(&ringing()).expect("the paper's packet"))?;
-    bench.around(&super::packet_of(&three()).expect("three messages"))?;
+    bench.around(&packet_of(&ringing()).expect("the paper's packet"))?;
+    bench.around(&packet_of(&three()).expect("three messages"))?;
     bench.around(&full())?;
     for _ in 0..6 * settings.times {
         let whole = some_packet(&mut rng);
@@ -216,7 +213,7 @@ pub fn full() -> Vec<u8> {
     };
     let mut letters = vec![letter(192); 6];
     letters.push(letter(132));
-    super::packet_of(&letters).expect("1,400 bytes")
+    packet_of(&letters).expect("1,400 bytes")
 }
 
 impl Smaller for Case {
@@ -229,10 +226,7 @@ impl Smaller for Case {
         // With the total of what is left, and without.
         let fewer = fewer.flat_map(|packet| {
             let mut whole = packet.clone();
-            let total = whole.len() as u16;
-            if let Some(place) = whole.get_mut(2..4) {
-                place.copy_from_slice(&total.to_be_bytes());
-            }
+            set_total(&mut whole);
             [whole, packet]
         });
         let plain = plainer(&self.packet).filter(|packet| *packet != *self.packet);

@@ -5,7 +5,7 @@ pub mod fetch;
 pub mod pack;
 mod some;
 
-pub use some::{damage, some_packet};
+pub use some::{damage, set_total, some_packet};
 
 use model::engine::Envelope;
 use model::packet::Entry;

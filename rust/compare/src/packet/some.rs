@@ -49,7 +49,7 @@ pub fn some_packet(rng: &mut Rng) -> Vec<u8> {
 }
 
 /// The total length is made that of the bytes.
-fn set_total(packet: &mut [u8]) {
+pub fn set_total(packet: &mut [u8]) {
     let total = packet.len() as u16;
     if let Some(place) = packet.get_mut(2..4) {
         place.copy_from_slice(&total.to_be_bytes());

@@ -2,6 +2,7 @@
 
 mod case;
 mod play;
+mod smaller;
 mod some;
 mod tally;
 
