@@ -13,12 +13,13 @@ use ghost.Atoms.{Atoms}
 use base.Fml.{GName, Fml, ftrue, fat, flft, flent}
 use types.Kit.{Given, Goal, Item, Soaks, Seq, ‵, _⊛_, _$_, move, drop, split, join, Step, step}
 use denote.Shadow.{shadow}
-use denote.Laws.{Is}
+use denote.Laws.{Is, Tells}
 use denote.Plain.{uint-lawful, uint-makes, uint-vals, uint-tells}
 use denote.Builtin.{u8}
+use denote.Ref.{RefT}
 use denote.Slice.{sliceVal, ShrSlice, Room}
 use denote.Steps.{owned, nothing}
-use denote.Array.{each, Array, array-typed, array-makes, arrayVal}
+use denote.Array.{each, Array, array-vals, array-tells, array-typed, array-makes, arrayVal}
 use mathlib.Core.List.{map}
 use denote.Struct.Declared.{field}
 use denote.Struct.Laws as SL
@@ -34,6 +35,18 @@ records-val xs = arrayVal (map record-val xs)
 
 abbrev pub bytes-val : List ℕ → Val
 bytes-val bs = arrayVal (map (vint w8) bs)
+
+abbrev pub records-vals : List Record → List Val
+records-vals = array-vals (SL.vals R.the-type R′.the-laws)
+
+abbrev pub bytes-vals : List ℕ → List Val
+bytes-vals = array-vals (uint-vals w8)
+
+pub records-tells : Tells (Array R.the-row 1) (Is (Array R.the-row 1)) records-vals
+records-tells = array-tells R.the-row (SL.vals R.the-type R′.the-laws) (SL.tells R.the-type R′.the-laws) 1
+
+pub bytes-tells : Tells (Array u8 192) (Is (Array u8 192)) bytes-vals
+bytes-tells = array-tells u8 (uint-vals w8) (uint-tells w8) 192
 
 module _ {M : Type 1} (𝓤 : URA M) (H : Heap 𝓤) (A : Atoms 𝓤) (W : Given 𝓤 H A) where
   pub typed-records : (xs : List Record) → Is (Array R.the-row 1) xs (records-val xs ∷ []) → Holds (hasTy (tyArray R′.mir 1) (records-val xs)) × WT (records-val xs)
@@ -59,19 +72,26 @@ module _ {M : Type 1} {𝓤 : URA M} {H : Heap 𝓤} {A : Atoms 𝓤} {K : Type 
 
 -- ---- both lent as `&`, each for a lifetime of its own
 
-module _ {M : Type 1} (𝓤 : URA M) (α β : ℕ) where
-  abbrev pub tokens : Item 𝓤
-  tokens = ‵ (flft (α ∷ []) fullShare) ⊛ (‵ (flft (β ∷ []) fullShare) ⊛ ‵ ftrue)
+-- the store's token, and both
+abbrev pub token : {M : Type 1} (𝓤 : URA M) → ℕ → Item 𝓤
+token 𝓤 β = ‵ (flft (β ∷ []) fullShare) ⊛ ‵ ftrue
 
-  -- what the lender keeps
-  abbrev pub kept-back : List Record → List ℕ → ℕ → ℕ → Item 𝓤
-  kept-back xs bs b c = ‵ (flent (α ∷ []) (elements R.the-row (length xs) xs b)) ⊛ ‵ (flent (β ∷ []) (elements u8 (length bs) bs c))
+abbrev pub tokens : {M : Type 1} (𝓤 : URA M) → ℕ → ℕ → Item 𝓤
+tokens 𝓤 α β = ‵ (flft (α ∷ []) fullShare) ⊛ token 𝓤 β
 
+-- what the lender keeps
+abbrev pub kept-back : {M : Type 1} (𝓤 : URA M) → ℕ → ℕ → List Record → List ℕ → ℕ → ℕ → Item 𝓤
+kept-back 𝓤 α β xs bs b c = ‵ (flent (α ∷ []) (elements R.the-row (length xs) xs b)) ⊛ ‵ (flent (β ∷ []) (elements u8 (length bs) bs c))
+
+-- the table, the store, and a part of the store that the engine hands out
 abbrev pub lent-table : ℕ → GName → List Record → ℕ → Fml
 lent-table α γ xs b = ShrSlice (named 0) (α ∷ []) R.the-row .own (record { ptr = (b, 0); name = γ; now = xs }) (sliceVal (b, 0) (length xs) ∷ [])
 
 abbrev pub lent-store : ℕ → GName → List ℕ → ℕ → Fml
 lent-store β δ bs c = ShrSlice (named 1) (β ∷ []) u8 .own (record { ptr = (c, 0); name = δ; now = bs }) (sliceVal (c, 0) (length bs) ∷ [])
+
+abbrev pub lent-part : ℕ → RefT (List ℕ) → Val → Fml
+lent-part β p w = ShrSlice (named 1) (β ∷ []) u8 .own p (w ∷ [])
 
 module _ {M : Type 1} {𝓤 : URA M} {H : Heap 𝓤} {A : Atoms 𝓤} {K : Type 0} {W : Given 𝓤 H A} {Γ : List (Item 𝓤)} {G : Goal 𝓤 H} (xs : List Record) (bs : List ℕ) (b c : ℕ)
     (xs-is : Is (Array R.the-row 1) xs (records-val xs ∷ [])) (bs-is : Is (Array u8 192) bs (bytes-val bs ∷ [])) where

@@ -1,5 +1,5 @@
 -- An array in a local that is lent, as a `&mut [T]` or as a `&[T]`, and comes back, as two steps of a walk each.
-use mathlib.Core.Path.{_≡_, refl, sym, subst, _∙_}
+use mathlib.Core.Path.{_≡_, refl, subst, _∙_}
 use Prim.Native.Nat.{ℕ}
 use mathlib.Core.List.{[], _∷_, List}
 use lib.ListN.{length}
