@@ -1,4 +1,4 @@
-// A laptop of the story: one record and its bytes of store, lent to the engine for one call.
+// A laptop of the story: one record and its bytes of store, lent to the engine for a call, or for as long as a part of them is used.
 ghost use mathlib.Core.Path.{_≡_};
 ghost use mathlib.Core.List.{[]};
 ghost use Rattle.hermes.specs.Order.{higher};
