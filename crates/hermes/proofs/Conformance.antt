@@ -7,9 +7,9 @@ use mathlib.Core.Logic.{_⊎_, inl, inr, _≢_, _↔_}
 use mathlib.Core.List.{List, [], _∷_}
 use native.Mathlib.Omega.{arith}
 use native.Mathlib.Decide.{ℕ-discrete}
-use lib.Dec.{leb, eqb}
+use lib.Dec.{eqb}
 use lib.ListN.{length, take, getD-replicate}
-use borrow.Author.Tests.{ltb-true, eqb-true, eqb-false, lt-ltb, eq-eqb, ne-eqb, not-true}
+use borrow.Author.Tests.{eqb-false, lt-ltb, eq-eqb, ne-eqb}
 use Rattle.hermes.specs.declared.timestamp.Timestamp.{Timestamp}
 use Rattle.hermes.specs.declared.record.Record.{Record}
 use Rattle.hermes.specs.declared.record.State.{State}
@@ -21,11 +21,11 @@ use Rattle.hermes.specs.declared.event.Replica.{Replica}
 use Rattle.hermes.specs.declared.event.Event.{Event}
 use Rattle.hermes.specs.declared.event.Event.the-variants.{Read, Write, Replay, Deliver, Validate, Resend}
 use Rattle.hermes.specs.declared.event.Admission.the-variants.{Admitted}
-use Rattle.hermes.specs.Members.{has, size, within, othersIn, with, lowest}
+use Rattle.hermes.specs.Members.{has, with, lowest}
 use Rattle.hermes.specs.Order.{higher, later, sameTimestamp}
 use Rattle.hermes.specs.Record.{oneOf, invalidatedState, freshRecord}
 use Rattle.hermes.specs.Store.{slot}
-use Rattle.hermes.specs.Guards.{Question, AllYes, ask, firstNo, question1, question3, question8, question10, question11, question12}
+use Rattle.hermes.specs.Guards.{Question, AllYes, ask, firstNo, question1, question3, question8, question12}
 use Rattle.hermes.specs.Event.{Step, invStep, resent, numberOf, answerOf, sentBy, leavingBody}
 use Rattle.hermes.specs.Node.{Node, Outcome, recordOf, apply, newcomer, startQuestions, start, view, viewed, viewQuestions, admissionOf, admissionNumber}
 use Rattle.hermes.specs.Frame.{bytesAfter, Changed}
@@ -33,13 +33,13 @@ use Rattle.hermes.specs.Locality.{body}
 use Rattle.hermes.specs.Source as source
 use Rattle.hermes.specs.Source.{Vars, Sending, In, HInit, HReadGuard, HWriteGuard, HReplayWriteGuard, HRcvInvGuard, HRcvInv, HRcvAckGuard, HRcvValGuard, HSendValsGuard, NodeFailureGuard, ResendGuard, Resent, sendInv}
 use Rattle.hermes.specs.Conformance.{varsOf, fiveAnd, delivered, message, Follows, ViewFollows, StartFollows, Demand2By, Demand2}
-use Rattle.hermes.proofs.Tests.{both, and-both, either, is-false, or-true}
+use Rattle.hermes.proofs.Tests.{and-both, is-false, or-true}
 use Rattle.hermes.proofs.Members.{Has, has-small, has-zero, within-members, members-within, others-members, members-others, with-members, members-with}
 use Rattle.hermes.proofs.Store.{value-slot, take-padded}
-use Rattle.hermes.proofs.Guards.{all-yes, none-says-no}
+use Rattle.hermes.proofs.Guards.{DeliverOwn, ResendOwn, read-own, write-own, deliver-own, validate-own, replay-own, resend-own, view-own, all-yes, none-says-no}
 use Rattle.hermes.proofs.Steps.{next-version, step-about}
 use Rattle.hermes.proofs.Apply.{passed-zero, questionsOf, ownOf, stepOf, done, Applied, refused, accepted, applied, first-five, its-own, sound-step}
-use Rattle.hermes.proofs.Words.{one-in, in-one, is-state, state-is, same-ts, ts-same, later-greater, greater-later, Two, size-two, two-size}
+use Rattle.hermes.proofs.Words.{one-in, in-one, is-state, state-is, equal-ts, ts-same, later-greater, greater-later, Two, size-two, two-size}
 use Rattle.hermes.proofs.Locality.{leavingSlot, leaving-slot}
 use Rattle.hermes.proofs.Frame.{view-frame}
 use Rattle.hermes.proofs.Start.{Begun, begun, lowest-lowest}
@@ -134,14 +134,14 @@ coordinator s (inr (inr e)) = absurd e
 module _ (wins : ℕ → ℕ → Bool) (n : Node) (i : ℕ) (v : List ℕ) where
   follows-read : Follows wins n i Read v (fiveAnd n i []) HReadGuard source.HRead
   follows-read = follows wins n i Read v (fiveAnd n i []) HReadGuard source.HRead
-      (λ y. (five wins n i Read v [] y tt, is-state (recordOf i n .state) state.Valid (its-own n i Read v y .0)))
+      (λ y. (five wins n i Read v [] y tt, is-state (recordOf i n .state) state.Valid (read-own (n .me) (recordOf i n) (length v) (its-own n i Read v y))))
       (λ g. back wins n i Read v [] (g .0) (state-is (recordOf i n .state) state.Valid (g .1), tt))
       (λ y. record { unchanged = refl; send = refl })
 
   follows-write : Follows wins n i Write v (fiveAnd n i (question8 (length v) ∷ [])) HWriteGuard (source.HWrite (n .me) i v)
   follows-write = follows wins n i Write v (fiveAnd n i (question8 (length v) ∷ [])) HWriteGuard (source.HWrite (n .me) i v)
-      (λ y. let o = its-own n i Write v y in
-      (five wins n i Write v (question8 (length v) ∷ []) y (o .1 .0, tt), (one-in (recordOf i n .state) (state.Valid ∷ state.Invalid ∷ []) (o .0), ltb-true (recordOf i n .timestamp .version) 4294967295 (o .1 .1 .0))))
+      (λ y. let o = write-own (n .me) (recordOf i n) (length v) (its-own n i Write v y) in
+      (five wins n i Write v (question8 (length v) ∷ []) y (its-own n i Write v y .1 .0, tt), (one-in (recordOf i n .state) (state.Valid ∷ state.Invalid ∷ []) (o .idle), o .below)))
       (λ g. back wins n i Write v (question8 (length v) ∷ []) (g .0)
       (in-one (recordOf i n .state) (state.Valid ∷ state.Invalid ∷ []) (g .1 .0), (g .0 .1 .1 .1 .1 .1 .0, (lt-ltb (recordOf i n .timestamp .version) 4294967295 (g .1 .1), tt))))
       (λ y. record {
@@ -156,15 +156,15 @@ module _ (wins : ℕ → ℕ → Bool) (n : Node) (i : ℕ) (v : List ℕ) where
 
   follows-replay : Follows wins n i Replay v (fiveAnd n i []) (HReplayWriteGuard (n .me)) (source.HReplayWrite (n .me) i)
   follows-replay = follows wins n i Replay v (fiveAnd n i []) (HReplayWriteGuard (n .me)) (source.HReplayWrite (n .me) i)
-      (λ y. let (p, q) = both (oneOf (recordOf i n .state) (state.Invalid ∷ [])) (not (has (n .me .view) (recordOf i n .writer))) (its-own n i Replay v y .0) in
-      (five wins n i Replay v [] y tt, (is-state (recordOf i n .state) state.Invalid p, λ h. false≢true (sym (not-true _ q) ∙ h))))
+      (λ y. let o = replay-own (n .me) (recordOf i n) (length v) (its-own n i Replay v y) in
+      (five wins n i Replay v [] y tt, (is-state (recordOf i n .state) state.Invalid (o .invalid), λ h. false≢true (sym (o .gone) ∙ h))))
       (λ g. back wins n i Replay v [] (g .0) (and-both _ _ (state-is (recordOf i n .state) state.Invalid (g .1 .0)) (ap not (is-false (has (n .me .view) (recordOf i n .writer)) (g .1 .1))), tt))
       (λ y. record { nodeLastWriter = refl; nodeState = refl; nodeRcvdAcks = has-zero; nodeLastWriteTS = refl; nodeTS = refl; value = refl; send = refl })
 
   follows-validate : Follows wins n i Validate v (fiveAnd n i []) (HSendValsGuard (n .me)) (source.HSendVals (n .me) i)
   follows-validate = follows wins n i Validate v (fiveAnd n i []) (HSendValsGuard (n .me)) (source.HSendVals (n .me) i)
-      (λ y. let (p, q) = both (oneOf (recordOf i n .state) (state.Write ∷ state.Replay ∷ [])) (othersIn (n .me .number) (n .me .view) (recordOf i n .acks)) (its-own n i Validate v y .0) in
-      (five wins n i Validate v [] y tt, (one-in (recordOf i n .state) (state.Write ∷ state.Replay ∷ []) p, λ k a d. other k d (others-members (n .me .number) (n .me .view) (recordOf i n .acks) q k a))))
+      (λ y. let o = validate-own (n .me) (recordOf i n) (length v) (its-own n i Validate v y) in
+      (five wins n i Validate v [] y tt, (one-in (recordOf i n .state) (state.Write ∷ state.Replay ∷ []) (o .pending), λ k a d. other k d (others-members (n .me .number) (n .me .view) (recordOf i n .acks) (o .acknowledged) k a))))
       (λ g. back wins n i Validate v [] (g .0)
       (and-both _ _ (in-one (recordOf i n .state) (state.Write ∷ state.Replay ∷ []) (g .1 .0)) (members-others (n .me .number) (n .me .view) (recordOf i n .acks) (λ k a. which k (g .1 .1 k a) (ℕ-discrete k (n .me .number)))), tt))
       (λ y. record { valid = record { nodeState = refl; nodeTS = refl; nodeLastWriter = refl; nodeLastWriteTS = refl; nodeRcvdAcks = refl; value = refl }; send = refl })
@@ -179,23 +179,18 @@ module _ (wins : ℕ → ℕ → Bool) (n : Node) (i : ℕ) (v : List ℕ) where
 
   follows-resend : Follows wins n i Resend v (fiveAnd n i []) (ResendGuard (n .me)) (Resent (n .me) i)
   follows-resend = follows wins n i Resend v (fiveAnd n i []) (ResendGuard (n .me)) (Resent (n .me) i)
-      (λ y. (five wins n i Resend v [] y tt, to (either writes holds (its-own n i Resend v y .0))))
+      (λ y. (five wins n i Resend v [] y tt, to (resend-own (n .me) (recordOf i n) (length v) (its-own n i Resend v y))))
       (λ g. back wins n i Resend v [] (g .0) (from (g .1), tt))
       (λ y. record { unchanged = refl; writing = writing; settled = λ e. ap sends e })
     where
       writes : Bool
       writes = oneOf (recordOf i n .state) (state.Write ∷ state.Replay ∷ [])
 
-      holds : Bool
-      holds = oneOf (recordOf i n .state) (state.Valid ∷ []) && eqb (recordOf i n .writer) (n .me .number)
-
-      to : (writes ≡ true) ⊎ (holds ≡ true) → ResendGuard (n .me) (varsOf i n)
+      to : ResendOwn (n .me) (recordOf i n) → ResendGuard (n .me) (varsOf i n)
       to (inl h) = inl (one-in (recordOf i n .state) (state.Write ∷ state.Replay ∷ []) h)
-      to (inr h) =
-          let (p, q) = both (oneOf (recordOf i n .state) (state.Valid ∷ [])) (eqb (recordOf i n .writer) (n .me .number)) h in
-          inr (is-state (recordOf i n .state) state.Valid p, eqb-true _ _ q)
+      to (inr (p, q)) = inr (is-state (recordOf i n .state) state.Valid p, q)
 
-      from : ResendGuard (n .me) (varsOf i n) → (writes || holds) ≡ true
+      from : ResendGuard (n .me) (varsOf i n) → (writes || (oneOf (recordOf i n .state) (state.Valid ∷ []) && eqb (recordOf i n .writer) (n .me .number))) ≡ true
       from (inl h) = rw (in-one (recordOf i n .state) (state.Write ∷ state.Replay ∷ []) h)
       from (inr (p, q)) = rw (state-is (recordOf i n .state) state.Valid p, eq-eqb (recordOf i n .writer) (n .me .number) q) (or-true writes)
 
@@ -223,47 +218,40 @@ inv-does wins me i r b t sender v false g = record {
 }
 
 module _ (wins : ℕ → ℕ → Bool) (n : Node) (i sender epoch : ℕ) (t : Timestamp) (v : List ℕ) where
-  -- question 11 in its two parts
-  eleven : (has (n .me .view) sender && not (eqb sender (n .me .number))) ≡ true → (has (n .me .view) sender ≡ true) × (sender ≢ n .me .number)
-  eleven h = let (p, q) = both (has (n .me .view) sender) (not (eqb sender (n .me .number))) h in (p, eqb-false sender (n .me .number) (not-true _ q))
-
+  -- question 11 from its two parts
   both-eleven : has (n .me .view) sender ≡ true → sender ≢ n .me .number → (has (n .me .view) sender && not (eqb sender (n .me .number))) ≡ true
   both-eleven p d = rw (p, ne-eqb sender (n .me .number) d)
 
-  abbrev more : Message → List Question
-  more m = question10 (n .me) (message sender epoch m) ∷ ask 11 (has (n .me .view) sender) ∷ question12 (message sender epoch m) (length v) ∷ []
+  yes : (m : Message) → AllYes (questionsOf n i (Deliver (message sender epoch m)) v) → DeliverOwn (n .me) (recordOf i n) (message sender epoch m) (length v)
+  yes m y = deliver-own (n .me) (recordOf i n) (message sender epoch m) (length v) (its-own n i (Deliver (message sender epoch m)) v y)
 
-  -- the delivery's own questions in the order of document 01, with question 11 split
-  split : (m : Message) → AllYes (questionsOf n i (Deliver (message sender epoch m)) v) → AllYes (delivered n i (message sender epoch m) v) × (sender ≢ n .me .number)
-  split m y =
-      let o = its-own n i (Deliver (message sender epoch m)) v y in
-      let (p, d) = eleven (o .1 .0) in
-      (five wins n i (Deliver (message sender epoch m)) v (more m) y (o .0, (p, (o .1 .1 .0, tt))), d)
+  apart : (m : Message) → AllYes (questionsOf n i (Deliver (message sender epoch m)) v) → sender ≢ n .me .number
+  apart m y = eqb-false sender (n .me .number) (yes m y .other)
 
-  follows-inv : Follows wins n i (Deliver (message sender epoch (Inv t))) v (delivered n i (message sender epoch (Inv t)) v) (λ s. HRcvInvGuard (n .me) sender) (HRcvInv wins (n .me) i sender t v)
-  follows-inv = follows wins n i (Deliver (message sender epoch (Inv t))) v (delivered n i (message sender epoch (Inv t)) v) (λ s. HRcvInvGuard (n .me) sender) (HRcvInv wins (n .me) i sender t v)
-      (λ y. split (Inv t) y)
-      (λ g. back wins n i (Deliver (message sender epoch (Inv t))) v (more (Inv t)) (g .0) (g .0 .1 .1 .1 .1 .1 .0, (both-eleven (g .0 .1 .1 .1 .1 .1 .1 .0) (g .1), (g .0 .1 .1 .1 .1 .1 .1 .1 .0, tt))))
+  follows-inv : Follows wins n i (Deliver (message sender epoch (Inv t))) v (delivered n i (message sender epoch (Inv t)) v) (λ s. HRcvInvGuard (n .me) sender epoch) (HRcvInv wins (n .me) i sender t v)
+  follows-inv = follows wins n i (Deliver (message sender epoch (Inv t))) v (delivered n i (message sender epoch (Inv t)) v) (λ s. HRcvInvGuard (n .me) sender epoch) (HRcvInv wins (n .me) i sender t v)
+      (λ y. (five wins n i (Deliver (message sender epoch (Inv t))) v (question12 (message sender epoch (Inv t)) (length v) ∷ []) y (yes (Inv t) y .shape, tt), (yes (Inv t) y .epoch, apart (Inv t) y, yes (Inv t) y .known)))
+      (λ g. back wins n i (Deliver (message sender epoch (Inv t))) v (question12 (message sender epoch (Inv t)) (length v) ∷ []) (g .0) (eq-eqb epoch (n .me .epoch) (g .1 .0), (both-eleven (g .1 .2) (g .1 .1), (g .0 .1 .1 .1 .1 .1 .0, tt))))
       (λ y. inv-does wins (n .me) i (recordOf i n) (slot i (n .store)) t sender v (later wins t (recordOf i n .timestamp)) refl)
 
-  follows-ack : Follows wins n i (Deliver (message sender epoch (Ack t))) v (delivered n i (message sender epoch (Ack t)) v) (HRcvAckGuard (n .me) sender t) (source.HRcvAck sender)
-  follows-ack = follows wins n i (Deliver (message sender epoch (Ack t))) v (delivered n i (message sender epoch (Ack t)) v) (HRcvAckGuard (n .me) sender t) (source.HRcvAck sender)
-      (λ y. let (f, d) = split (Ack t) y in
-      let (a, c) = both (waits && same) fresh (its-own n i (Deliver (message sender epoch (Ack t))) v y .1 .1 .1 .0) in
-      let (p, q) = both waits same a in
-      (f, (d, not-true _ c, same-ts t (recordOf i n .written) q, one-in (recordOf i n .state) (state.Write ∷ state.InvalidWrite ∷ state.Replay ∷ []) p)))
-      (λ g. back wins n i (Deliver (message sender epoch (Ack t))) v (more (Ack t)) (g .0) (
-        g .0 .1 .1 .1 .1 .1 .0,
+  follows-ack : Follows wins n i (Deliver (message sender epoch (Ack t))) v (delivered n i (message sender epoch (Ack t)) v) (HRcvAckGuard (n .me) sender epoch t) (source.HRcvAck sender)
+  follows-ack = follows wins n i (Deliver (message sender epoch (Ack t))) v (delivered n i (message sender epoch (Ack t)) v) (HRcvAckGuard (n .me) sender epoch t) (source.HRcvAck sender)
+      (λ y. let o = yes (Ack t) y in
+      let (p, e, c) = o .kind in
+      (five wins n i (Deliver (message sender epoch (Ack t))) v (ask 11 (has (n .me .view) sender) ∷ question12 (message sender epoch (Ack t)) (length v) ∷ []) y (o .known, (o .shape, tt)),
+      (o .epoch, apart (Ack t) y, c, equal-ts e, one-in (recordOf i n .state) (state.Write ∷ state.InvalidWrite ∷ state.Replay ∷ []) p)))
+      (λ g. back wins n i (Deliver (message sender epoch (Ack t))) v (ask 11 (has (n .me .view) sender) ∷ question12 (message sender epoch (Ack t)) (length v) ∷ []) (g .0) (
+        eq-eqb epoch (n .me .epoch) (g .1 .0),
         (
-          both-eleven (g .0 .1 .1 .1 .1 .1 .1 .0) (g .1 .0),
+          both-eleven (g .0 .1 .1 .1 .1 .1 .0) (g .1 .1),
           (
-            g .0 .1 .1 .1 .1 .1 .1 .1 .0,
-            (and-both (waits && same) fresh (and-both waits same (in-one (recordOf i n .state) (state.Write ∷ state.InvalidWrite ∷ state.Replay ∷ []) (g .1 .3)) (ts-same t (recordOf i n .written) (g .1 .2))) (ap not (g .1 .1)), tt),
+            g .0 .1 .1 .1 .1 .1 .1 .0,
+            (and-both (waits && same) fresh (and-both waits same (in-one (recordOf i n .state) (state.Write ∷ state.InvalidWrite ∷ state.Replay ∷ []) (g .1 .4)) (ts-same t (recordOf i n .written) (g .1 .3))) (ap not (g .1 .2)), tt),
           ),
         ),
       ))
       (λ y. record {
-        nodeRcvdAcks = λ m. (with-members (recordOf i n .acks) sender m, members-with (recordOf i n .acks) sender m (has-small (n .me .view) sender (split (Ack t) y .0 .1 .1 .1 .1 .1 .1 .0)));
+        nodeRcvdAcks = λ m. (with-members (recordOf i n .acks) sender m, members-with (recordOf i n .acks) sender m (has-small (n .me .view) sender (yes (Ack t) y .known)));
         nodeLastWriter = refl;
         nodeLastWriteTS = refl;
         nodeTS = refl;
@@ -282,23 +270,23 @@ module _ (wins : ℕ → ℕ → Bool) (n : Node) (i sender epoch : ℕ) (t : Ti
       fresh = not (has (recordOf i n .acks) sender)
 
   valOwn : List Question
-  valOwn = question10 (n .me) (message sender epoch (Val t)) ∷ question11 (n .me) (message sender epoch (Val t)) ∷ question12 (message sender epoch (Val t)) (length v) ∷ []
+  valOwn = ask 11 (has (n .me .view) sender && not (eqb sender (n .me .number))) ∷ question12 (message sender epoch (Val t)) (length v) ∷ []
 
-  follows-val : Follows wins n i (Deliver (message sender epoch (Val t))) v (fiveAnd n i valOwn) (HRcvValGuard t) source.HRcvVal
+  follows-val : Follows wins n i (Deliver (message sender epoch (Val t))) v (fiveAnd n i valOwn) (HRcvValGuard (n .me) epoch t) source.HRcvVal
   unfolding valOwn
-  follows-val = follows wins n i (Deliver (message sender epoch (Val t))) v (fiveAnd n i valOwn) (HRcvValGuard t) source.HRcvVal
+  follows-val = follows wins n i (Deliver (message sender epoch (Val t))) v (fiveAnd n i valOwn) (HRcvValGuard (n .me) epoch t) source.HRcvVal
       (λ y. let o = its-own n i (Deliver (message sender epoch (Val t))) v y in
-      let (p, q) = both (not valid) same (o .1 .1 .1 .0) in (
-        five wins n i (Deliver (message sender epoch (Val t))) v valOwn y (o .0, (o .1 .0, (o .1 .1 .0, tt))),
-        (λ e. false≢true (sym (not-true valid p) ∙ state-is (recordOf i n .state) state.Valid e), same-ts t (recordOf i n .timestamp) q),
+      let (p, e) = yes (Val t) y .kind in (
+        five wins n i (Deliver (message sender epoch (Val t))) v valOwn y (o .1 .0, (o .1 .1 .0, tt)),
+        (yes (Val t) y .epoch, λ h. false≢true (sym p ∙ state-is (recordOf i n .state) state.Valid h), equal-ts e),
       ))
       (λ g. back wins n i (Deliver (message sender epoch (Val t))) v valOwn (g .0) (
-        g .0 .1 .1 .1 .1 .1 .0,
+        eq-eqb epoch (n .me .epoch) (g .1 .0),
         (
-          g .0 .1 .1 .1 .1 .1 .1 .0,
+          g .0 .1 .1 .1 .1 .1 .0,
           (
-            g .0 .1 .1 .1 .1 .1 .1 .1 .0,
-            (and-both (not valid) same (ap not (is-false valid (λ h. g .1 .0 (is-state (recordOf i n .state) state.Valid h)))) (ts-same t (recordOf i n .timestamp) (g .1 .1)), tt),
+            g .0 .1 .1 .1 .1 .1 .1 .0,
+            (and-both (not valid) same (ap not (is-false valid (λ h. g .1 .1 (is-state (recordOf i n .state) state.Valid h)))) (ts-same t (recordOf i n .timestamp) (g .1 .2)), tt),
           ),
         ),
       ))
@@ -352,9 +340,9 @@ view-follows n epoch alive = record { accepted = (to (firstNo questions) refl, f
 
     guard : AllYes questions → NodeFailureGuard (n .me) epoch alive
     guard y =
-        let (p, q) = both (within alive (n .me .view)) (leb 2 (size alive)) (y .1 .1 .1 .0) in
-        let w : Two 16 (has alive) = size-two alive q in
-        record { later = ltb-true (n .me .epoch) epoch (y .1 .1 .0); fewer = within-members alive (n .me .view) p; one = w .one; two = w .two; apart = w .apart; oneStays = w .onePasses; twoStays = w .twoPasses }
+        let o = view-own (n .me) epoch alive y in
+        let w : Two 16 (has alive) = size-two alive (o .two) in
+        record { later = o .later; fewer = within-members alive (n .me .view) (o .inside); one = w .one; two = w .two; apart = w .apart; oneStays = w .onePasses; twoStays = w .twoPasses }
 
     to : (k : ℕ) → firstNo questions ≡ k → numberOf (answerOf (admissionNumber (admissionOf k next)) None) ≡ 0
         → AllYes (question1 (n .me) ∷ question3 (n .me) ∷ []) × NodeFailureGuard (n .me) epoch alive

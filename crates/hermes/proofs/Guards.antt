@@ -1,8 +1,9 @@
 -- What it says that no question of an event says no, as named fields.
-use Prim.Native.Nat.{ℕ, zero, suc, _+_, _*_, _≤_, _<_}
-use mathlib.Core.Path.{_≡_, refl, sym}
-use mathlib.Core.Bool.{Bool, true, false, cond, not, _&&_, _||_, false≢true}
+use Prim.Native.Nat.{ℕ, _+_, _*_, _≤_, _<_}
+use mathlib.Core.Path.{_≡_, refl}
+use mathlib.Core.Bool.{Bool, true, false, cond, not, _&&_}
 use mathlib.Core.List.{List, [], _∷_}
+use mathlib.Core.Logic.{_⊎_, inl, inr}
 use native.Mathlib.Omega.{arith}
 use lib.Dec.{ltb, leb, eqb}
 use borrow.Author.Tests.{ltb-true, leb-true, eqb-true}
@@ -15,12 +16,13 @@ use Rattle.hermes.specs.declared.message.Received.{Received}
 use Rattle.hermes.specs.declared.event.Replica.{Replica}
 use Rattle.hermes.specs.declared.event.Event.{Event}
 use Rattle.hermes.specs.declared.event.Event.the-variants.{Read, Write, Replay, Deliver, Validate, Resend}
-use Rattle.hermes.specs.Members.{has, size, othersIn}
+use Rattle.hermes.specs.Members.{has, size, othersIn, within}
 use Rattle.hermes.specs.Order.{sameTimestamp}
 use Rattle.hermes.specs.Record.{oneOf}
-use Rattle.hermes.specs.Guards.{Question, AllYes, firstNo, question5, shapely, question13, question14}
+use Rattle.hermes.specs.Guards.{Question, AllYes, firstNo, question5, shapely}
 use Rattle.hermes.specs.Event.{common, ofKind, own, refusal}
-use Rattle.hermes.proofs.Tests.{both, not-true}
+use Rattle.hermes.specs.Node.{viewQuestions}
+use Rattle.hermes.proofs.Tests.{both, either, not-true}
 use Rattle.hermes.proofs.Order.{same-equal}
 
 -- ---- lists of questions
@@ -105,41 +107,93 @@ common-passed me count bytes i r rest (q1, (q2, (q3, (q4, (q5, y))))) =
       sound = sound-passed me r q5;
     }
 
--- ---- the events' own questions
+-- ---- the events' own questions, when every one says yes
 
-pub record ReadPassed (me : Replica) (count bytes i : ℕ) (r : Record) : Type 0 where
-  pub common : Common me count bytes i r
-  pub valid : oneOf (r .state) (state.Valid ∷ []) ≡ true
-
-pub record WritePassed (me : Replica) (count bytes i : ℕ) (r : Record) (n : ℕ) : Type 0 where
-  pub common : Common me count bytes i r
+pub record WriteOwn (r : Record) (n : ℕ) : Type 0 where
   pub idle : oneOf (r .state) (state.Valid ∷ state.Invalid ∷ []) ≡ true
   pub fits : n ≤ 192
   pub below : r .timestamp .version < 4294967295
 
--- questions 13 and 14, of the kinds that they are asked of
-abbrev pub KindPassed : Message → ℕ → Record → Type 0
-KindPassed (Inv t) sender r = Unit
-KindPassed (Ack t) sender r = question13 t sender r .yes ≡ true
-KindPassed (Val t) sender r = question14 t r .yes ≡ true
+-- question 13 of an acknowledgement, 14 of a validation
+abbrev pub KindOwn : Message → ℕ → Record → Type 0
+KindOwn (Inv t) sender r = Unit
+KindOwn (Ack t) sender r = (oneOf (r .state) (state.Write ∷ state.InvalidWrite ∷ state.Replay ∷ []) ≡ true) × (t ≡ r .written) × (has (r .acks) sender ≡ false)
+KindOwn (Val t) sender r = (oneOf (r .state) (state.Valid ∷ []) ≡ false) × (t ≡ r .timestamp)
 
-pub record DeliverPassed (me : Replica) (count bytes i : ℕ) (r : Record) (m : Received) (n : ℕ) : Type 0 where
-  pub common : Common me count bytes i r
+pub record DeliverOwn (me : Replica) (r : Record) (m : Received) (n : ℕ) : Type 0 where
   pub epoch : m .epoch ≡ me .epoch
   pub known : has (me .view) (m .sender) ≡ true
   pub other : eqb (m .sender) (me .number) ≡ false
   pub shape : shapely (m .message) n ≡ true
-  pub kind : KindPassed (m .message) (m .sender) r
+  pub kind : KindOwn (m .message) (m .sender) r
 
-pub record ValidatePassed (me : Replica) (count bytes i : ℕ) (r : Record) : Type 0 where
-  pub common : Common me count bytes i r
+pub record ValidateOwn (me : Replica) (r : Record) : Type 0 where
   pub pending : oneOf (r .state) (state.Write ∷ state.Replay ∷ []) ≡ true
   pub acknowledged : othersIn (me .number) (me .view) (r .acks) ≡ true
 
-pub record ReplayPassed (me : Replica) (count bytes i : ℕ) (r : Record) : Type 0 where
-  pub common : Common me count bytes i r
+pub record ReplayOwn (me : Replica) (r : Record) : Type 0 where
   pub invalid : oneOf (r .state) (state.Invalid ∷ []) ≡ true
   pub gone : has (me .view) (r .writer) ≡ false
+
+-- question 17: something is under way, or the replica wrote what the record shows
+abbrev pub ResendOwn : Replica → Record → Type 0
+ResendOwn me r = (oneOf (r .state) (state.Write ∷ state.Replay ∷ []) ≡ true) ⊎ ((oneOf (r .state) (state.Valid ∷ []) ≡ true) × (r .writer ≡ me .number))
+
+pub record ViewOwn (me : Replica) (epoch view : ℕ) : Type 0 where
+  pub later : me .epoch < epoch
+  pub inside : within view (me .view) ≡ true
+  pub two : leb 2 (size view) ≡ true
+
+module _ (me : Replica) (r : Record) where
+  pub read-own : (n : ℕ) → AllYes (own me r Read n) → oneOf (r .state) (state.Valid ∷ []) ≡ true
+  read-own n y = y .0
+
+  pub write-own : (n : ℕ) → AllYes (own me r Write n) → WriteOwn r n
+  write-own n y = record { idle = y .0; fits = leb-true _ _ (y .1 .0); below = ltb-true _ _ (y .1 .1 .0) }
+
+  pub kind-own : (m : Message) (sender : ℕ) → AllYes (ofKind m sender r) → KindOwn m sender r
+  kind-own (Inv t) sender y = tt
+  kind-own (Ack t) sender y =
+      let (a, c) = both (oneOf (r .state) (state.Write ∷ state.InvalidWrite ∷ state.Replay ∷ []) && sameTimestamp t (r .written)) (not (has (r .acks) sender)) (y .0) in
+      let (p, q) = both (oneOf (r .state) (state.Write ∷ state.InvalidWrite ∷ state.Replay ∷ [])) (sameTimestamp t (r .written)) a in
+      (p, same-equal t (r .written) q, not-true _ c)
+  kind-own (Val t) sender y =
+      let (p, q) = both (not (oneOf (r .state) (state.Valid ∷ []))) (sameTimestamp t (r .timestamp)) (y .0) in
+      (not-true _ p, same-equal t (r .timestamp) q)
+
+  pub deliver-own : (m : Received) (n : ℕ) → AllYes (own me r (Deliver m) n) → DeliverOwn me r m n
+  deliver-own m n y =
+      let q11 = both (has (me .view) (m .sender)) _ (y .1 .0) in
+      record {
+        epoch = eqb-true _ _ (y .0);
+        known = q11 .0;
+        other = not-true _ (q11 .1);
+        shape = y .1 .1 .0;
+        kind = kind-own (m .message) (m .sender) (y .1 .1 .1);
+      }
+
+  pub validate-own : (n : ℕ) → AllYes (own me r Validate n) → ValidateOwn me r
+  validate-own n y =
+      let (p, q) = both (oneOf (r .state) (state.Write ∷ state.Replay ∷ [])) (othersIn (me .number) (me .view) (r .acks)) (y .0) in
+      record { pending = p; acknowledged = q }
+
+  pub replay-own : (n : ℕ) → AllYes (own me r Replay n) → ReplayOwn me r
+  replay-own n y =
+      let (p, q) = both (oneOf (r .state) (state.Invalid ∷ [])) (not (has (me .view) (r .writer))) (y .0) in
+      record { invalid = p; gone = not-true _ q }
+
+  pub resend-own : (n : ℕ) → AllYes (own me r Resend n) → ResendOwn me r
+  resend-own n y = go (either (oneOf (r .state) (state.Write ∷ state.Replay ∷ [])) (oneOf (r .state) (state.Valid ∷ []) && eqb (r .writer) (me .number)) (y .0))
+    where
+      go : (oneOf (r .state) (state.Write ∷ state.Replay ∷ []) ≡ true) ⊎ ((oneOf (r .state) (state.Valid ∷ []) && eqb (r .writer) (me .number)) ≡ true) → ResendOwn me r
+      go (inl h) = inl h
+      go (inr h) = let (p, q) = both (oneOf (r .state) (state.Valid ∷ [])) (eqb (r .writer) (me .number)) h in inr (p, eqb-true _ _ q)
+
+-- of a view, questions 18 and 19
+pub view-own : (me : Replica) (epoch view : ℕ) → AllYes (viewQuestions me epoch view) → ViewOwn me epoch view
+view-own me epoch view y =
+    let (p, q) = both (within view (me .view)) (leb 2 (size view)) (y .1 .1 .1 .0) in
+    record { later = ltb-true (me .epoch) epoch (y .1 .1 .0); inside = p; two = q }
 
 module _ (me : Replica) (count bytes i : ℕ) (r : Record) where
   -- every answer is yes: no question says no
@@ -155,45 +209,9 @@ module _ (me : Replica) (count bytes i : ℕ) (r : Record) where
   pub event-passed : (e : Event) (n : ℕ) → refusal me count bytes i r e n ≡ 0 → Common me count bytes i r
   event-passed e n z = common-passed me count bytes i r (own me r e n) (passed e n z)
 
-  pub read-passed : (n : ℕ) → refusal me count bytes i r Read n ≡ 0 → ReadPassed me count bytes i r
-  read-passed n z = let y = passed Read n z in record { common = event-passed Read n z; valid = y .1 .1 .1 .1 .1 .0 }
-
-  pub write-passed : (n : ℕ) → refusal me count bytes i r Write n ≡ 0 → WritePassed me count bytes i r n
-  write-passed n z =
-      let y = passed Write n z in
-      let own = y .1 .1 .1 .1 .1 in
-      record { common = event-passed Write n z; idle = own .0; fits = leb-true _ _ (own .1 .0); below = ltb-true _ _ (own .1 .1 .0) }
-
-  kind-passed : (m : Message) (sender : ℕ) → AllYes (ofKind m sender r) → KindPassed m sender r
-  kind-passed (Inv t) sender y = tt
-  kind-passed (Ack t) sender y = y .0
-  kind-passed (Val t) sender y = y .0
-
-  pub deliver-passed : (m : Received) (n : ℕ) → refusal me count bytes i r (Deliver m) n ≡ 0 → DeliverPassed me count bytes i r m n
-  deliver-passed m n z =
-      let y = passed (Deliver m) n z in
-      let own = y .1 .1 .1 .1 .1 in
-      let q11 = both (has (me .view) (m .sender)) _ (own .1 .0) in
-      record {
-        common = event-passed (Deliver m) n z;
-        epoch = eqb-true _ _ (own .0);
-        known = q11 .0;
-        other = not-true _ (q11 .1);
-        shape = own .1 .1 .0;
-        kind = kind-passed (m .message) (m .sender) (own .1 .1 .1);
-      }
-
-  pub validate-passed : (n : ℕ) → refusal me count bytes i r Validate n ≡ 0 → ValidatePassed me count bytes i r
-  validate-passed n z =
-      let y = passed Validate n z in
-      let q15 = both (oneOf (r .state) (state.Write ∷ state.Replay ∷ [])) _ (y .1 .1 .1 .1 .1 .0) in
-      record { common = event-passed Validate n z; pending = q15 .0; acknowledged = q15 .1 }
-
-  pub replay-passed : (n : ℕ) → refusal me count bytes i r Replay n ≡ 0 → ReplayPassed me count bytes i r
-  replay-passed n z =
-      let y = passed Replay n z in
-      let q16 = both (oneOf (r .state) (state.Invalid ∷ [])) _ (y .1 .1 .1 .1 .1 .0) in
-      record { common = event-passed Replay n z; invalid = q16 .0; gone = not-true _ (q16 .1) }
+  -- its own questions
+  pub own-passed : (e : Event) (n : ℕ) → refusal me count bytes i r e n ≡ 0 → AllYes (own me r e n)
+  own-passed e n z = passed e n z .1 .1 .1 .1 .1
 
 -- question 12 of an invalidation
 pub inv-fits : (m : Message) (t : Timestamp) (n : ℕ) → m ≡ Inv t → shapely m n ≡ true → n ≤ 192
@@ -202,13 +220,3 @@ inv-fits m t n e h = leb-true n 192 (both (leb (t .tie) 15) (leb n 192) (rw e at
 -- the 192 bytes of a record below the count lie in the store
 pub slot-fits : {me : Replica} {count bytes i : ℕ} {r : Record} → Common me count bytes i r → 192 * i + 192 ≤ bytes
 slot-fits p = omega (arith, p .whole, p .inside)
-
--- question 13: the timestamp is the last-write timestamp
-pub acked-written : (t : Timestamp) (sender : ℕ) (r : Record) → question13 t sender r .yes ≡ true → t ≡ r .written
-acked-written t sender r h =
-    same-equal t (r .written) (both (oneOf (r .state) (state.Write ∷ state.InvalidWrite ∷ state.Replay ∷ [])) (sameTimestamp t (r .written)) (both _ (not (has (r .acks) sender)) h .0) .1)
-
--- question 14: the timestamp is the record's
-pub validated-timestamp : (t : Timestamp) (r : Record) → question14 t r .yes ≡ true → t ≡ r .timestamp
-validated-timestamp t r h =
-    same-equal t (r .timestamp) (both (not (oneOf (r .state) (state.Valid ∷ []))) (sameTimestamp t (r .timestamp)) h .1)

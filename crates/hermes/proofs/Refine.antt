@@ -7,10 +7,8 @@ use mathlib.Core.Logic.{_⊎_, inl, inr, _≢_}
 use mathlib.Core.List.{List, [], _∷_, List·Memᴰ, List·Memᴰ·head, List·Memᴰ·tail, List·Memᴰ·append-cases, List·Memᴰ·eq-of-singleton}
 use native.Mathlib.Omega.{arith}
 use native.Mathlib.Decide.{ℕ-discrete}
-use lib.Dec.{leb}
 use lib.ListN.{length, take}
 use borrow.Author.Needs.{needs}
-use borrow.Author.Tests.{eqb-true}
 use Rattle.hermes.specs.declared.timestamp.Timestamp.{Timestamp}
 use Rattle.hermes.specs.declared.record.Record.{Record}
 use Rattle.hermes.specs.declared.record.State.{State}
@@ -23,22 +21,21 @@ use Rattle.hermes.specs.declared.message.Outgoing.the-variants.{None, Se
 use Rattle.hermes.specs.declared.event.Replica.{Replica}
 use Rattle.hermes.specs.declared.event.Event.{Event}
 use Rattle.hermes.specs.declared.event.Event.the-variants.{Read, Write, Replay, Deliver, Validate, Resend}
-use Rattle.hermes.specs.Members.{size, within, with}
+use Rattle.hermes.specs.Members.{with}
 use Rattle.hermes.specs.Order.{TieOrder, later, NotAfter, rises}
 use Rattle.hermes.specs.Record.{oneOf, invalidatedState}
 use Rattle.hermes.specs.Store.{slot, valueAt, padded}
 use Rattle.hermes.specs.Guards.{AllYes, firstNo}
-use Rattle.hermes.specs.Event.{Step, storing, ofKind, invStep, deliverStep, resent, bodyOf, answerOf}
+use Rattle.hermes.specs.Event.{Step, storing, invStep, deliverStep, resent, bodyOf, answerOf}
 use Rattle.hermes.specs.Node.{Node, Outcome, recordOf, apply, view, viewed, viewQuestions, admissionOf, admissionNumber, identity}
 use Rattle.hermes.specs.Run as run
 use Rattle.hermes.specs.Run.{Logged, Action, Result, Found, find, received, delivery, perform, nodeAfter, logged, logAfter}
 use Rattle.hermes.specs.Frame.{bytesAfter, Changed}
 use Rattle.hermes.specs.Agreement.{AsIssued}
-use Rattle.hermes.proofs.Tests.{both}
 use Rattle.hermes.proofs.Members.{Has, within-members, others-members, has-zero, with-members}
 use Rattle.hermes.proofs.Order.{notAfter-refl, notAfter-total}
 use Rattle.hermes.proofs.Store.{take-padded, value-slot, slot-elsewhere}
-use Rattle.hermes.proofs.Guards.{all-yes, acked-written, validated-timestamp, slot-fits}
+use Rattle.hermes.proofs.Guards.{KindOwn, all-yes, deliver-own, validate-own, view-own, slot-fits}
 use Rattle.hermes.proofs.Steps.{next-version}
 use Rattle.hermes.proofs.Apply.{stepOf, ownOf, done, Applied, refused, accepted, applied, first-five, its-own, sound-step}
 use Rattle.hermes.proofs.Protocol.{Setting, Copy, Msg, inv, ack, val, Move, stay, write, replay, rcvInv, rcvAck, rcvVal, sendVals, shrink, Honest}
@@ -220,7 +217,7 @@ module _ (wins : ℕ → ℕ → Bool) (ord : TieOrder wins) (issued : ℕ → �
       record { moves = stay refl; says = search needs }
 
   deliver-good : (j sender epoch : ℕ) (m : Message) (v : List ℕ) → Known j log (msg sender epoch m v) → epoch ≡ n .me .epoch
-      → AllYes (ofKind m sender (recordOf j n)) → Good wins issued log j n (deliverStep wins (n .me) j (recordOf j n) sender m v)
+      → KindOwn m sender (recordOf j n) → Good wins issued log j n (deliverStep wins (n .me) j (recordOf j n) sender m v)
   deliver-good j sender epoch (Inv t) v k p y =
       inv-good j sender epoch t v k (later wins t (recordOf j n .timestamp)) refl
   deliver-good j sender epoch (Ack t) v k p y = record {
@@ -229,11 +226,11 @@ module _ (wins : ℕ → ℕ → Bool) (ord : TieOrder wins) (issued : ℕ → �
   }
     where
       e : t ≡ recordOf j n .written
-      e = acked-written t sender (recordOf j n) (y .0)
+      e = y .1
   deliver-good j sender epoch (Val t) v k p y = record { moves = rcvVal sender (rw (← p, ← e) k) refl; says = tt }
     where
       e : t ≡ recordOf j n .timestamp
-      e = validated-timestamp t (recordOf j n) (y .0)
+      e = y .1
 
   none-in-zero : (m : ℕ) → Has 0 m → ⊥
   none-in-zero m h = false≢true (sym (has-zero m) ∙ h)
@@ -262,7 +259,7 @@ module _ (wins : ℕ → ℕ → Bool) (ord : TieOrder wins) (issued : ℕ → �
           (run.event (record { answer = answerOf (admissionNumber (admissionOf k to)) None; node = record { me = identity (admissionOf k to) (n .me); table = n .table; store = n .store } }))
       go zero z = record {
         number = refl;
-        moves = shrink epoch (λ m h. within-members next (n .me .view) (both (within next (n .me .view)) (leb 2 (size next)) (all-yes (viewQuestions (n .me) epoch next) refl z .1 .1 .1 .0) .0) m (rw (← q) at h)) (rw (← q));
+        moves = shrink epoch (λ m h. within-members next (n .me .view) (view-own (n .me) epoch next (all-yes (viewQuestions (n .me) epoch next) refl z) .inside) m (rw (← q) at h)) (rw (← q));
         left = λ p k. inl k;
       }
       go (suc k) z = record { number = refl; moves = stay refl; left = λ p k. inl k }
@@ -275,8 +272,8 @@ module _ (wins : ℕ → ℕ → Bool) (ord : TieOrder wins) (issued : ℕ → �
       (λ y. record { moves = write (cellOf v) (clean-cell v) 0 none-in-zero (ap (writing j v) (next-version (recordOf j n .timestamp .version) (y .1 .1 .0))); says = (refl, refl) })
   refined (run.replay j) c = of-event wins issued log n j Replay [] (λ y. record { moves = replay 0 none-in-zero refl; says = (refl, refl) })
   refined (run.validate j) c = of-event wins issued log n j Validate []
-      (λ y. let (p, q) = both _ _ (y .0) in
-      record { moves = sendVals p (others-members (n .me .number) (n .me .view) (recordOf j n .acks) q) refl; says = (refl, (refl, refl)) })
+      (λ y. let o = validate-own (n .me) (recordOf j n) 0 y in
+      record { moves = sendVals (o .pending) (others-members (n .me .number) (n .me .view) (recordOf j n .acks) (o .acknowledged)) refl; says = (refl, (refl, refl)) })
   refined (run.resend j) c = of-event wins issued log n j Resend []
       (λ y. record { moves = stay refl; says = resent-says j (recordOf j n .state) refl })
   refined (run.deliver k) c = go (find log k) refl
@@ -284,5 +281,6 @@ module _ (wins : ℕ → ℕ → Bool) (ord : TieOrder wins) (issued : ℕ → �
       go : (f : Found) → find log k ≡ f → (i : ℕ) → Refined wins issued log i n (delivery wins f n)
       go run.missing e = λ i. idle wins issued log i n
       go (run.found x) e = of-event wins issued log n (x .header .index) (Deliver (received x)) (x .body)
-          (λ y. deliver-good (x .header .index) (x .header .sender) (x .header .epoch) (x .message) (x .body) (x, found-in log k x e, refl, refl) (eqb-true _ _ (y .0)) (y .1 .1 .1))
+          (λ y. let o = deliver-own (n .me) (recordOf (x .header .index) n) (received x) (length (x .body)) y in
+          deliver-good (x .header .index) (x .header .sender) (x .header .epoch) (x .message) (x .body) (x, found-in log k x e, refl, refl) (o .epoch) (o .kind))
   refined (run.view epoch next) c = viewed-refined epoch next c

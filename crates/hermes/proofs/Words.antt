@@ -17,7 +17,7 @@ use Rattle.hermes.specs.Record.{code, oneOf}
 use Rattle.hermes.specs.Source.{In, equalTS, greaterTS}
 use Rattle.hermes.proofs.Tests.{both, either, or-true}
 use Rattle.hermes.proofs.Members.{Has, has-small}
-use Rattle.hermes.proofs.Order.{timestamp-path, same-equal, equal-same}
+use Rattle.hermes.proofs.Order.{timestamp-path, equal-same}
 
 -- ---- states
 
@@ -62,8 +62,8 @@ state-is s t e = in-one s (t ∷ []) (inl e)
 
 -- ---- timestamps
 
-pub same-ts : (s t : Timestamp) → sameTimestamp s t ≡ true → equalTS s t
-same-ts s t h = (ap (λ (x : Timestamp). x .version) (same-equal s t h), ap (λ (x : Timestamp). x .tie) (same-equal s t h))
+pub equal-ts : {s t : Timestamp} → s ≡ t → equalTS s t
+equal-ts e = (ap (λ (x : Timestamp). x .version) e, ap (λ (x : Timestamp). x .tie) e)
 
 pub ts-same : (s t : Timestamp) → equalTS s t → sameTimestamp s t ≡ true
 ts-same s t (p, q) = equal-same s t (timestamp-path p q)

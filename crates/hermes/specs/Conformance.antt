@@ -2,9 +2,10 @@
 -- source's action; refused, nothing moves and nothing leaves.
 use Prim.Native.Nat.{ℕ, _<_}
 use mathlib.Core.Path.{_≡_}
-use mathlib.Core.Bool.{Bool}
+use mathlib.Core.Bool.{Bool, not, _&&_}
 use mathlib.Core.Logic.{_≢_, _↔_}
 use mathlib.Core.List.{List, [], _∷_}
+use lib.Dec.{eqb}
 use lib.ListN.{length}
 use Rattle.hermes.specs.declared.timestamp.Timestamp.{Timestamp}
 use Rattle.hermes.specs.declared.record.Record.{Record}
@@ -17,7 +18,7 @@ use Rattle.hermes.specs.declared.event.Event.the-variants.{Read, Write, 
 use Rattle.hermes.specs.declared.event.Admission.the-variants.{Admitted}
 use Rattle.hermes.specs.Members.{has}
 use Rattle.hermes.specs.Order.{higher}
-use Rattle.hermes.specs.Guards.{Question, AllYes, ask, question1, question2, question3, question4, question5, question8, question10, question11, question12}
+use Rattle.hermes.specs.Guards.{Question, AllYes, ask, question1, question2, question3, question4, question5, question8, question12}
 use Rattle.hermes.specs.Event.{numberOf, sentBy}
 use Rattle.hermes.specs.Node.{Node, recordOf, valueOf, apply, viewed, newcomer, start}
 use Rattle.hermes.specs.Locality.{body}
@@ -39,9 +40,15 @@ abbrev pub fiveAnd : Node → ℕ → List Question → List Question
 fiveAnd n i more =
     question1 (n .me) ∷ question2 (length (n .table)) (length (n .store)) ∷ question3 (n .me) ∷ question4 i (length (n .table)) ∷ question5 (n .me) (recordOf i n) ∷ more
 
--- of a delivery's: 10, and of 11 that the sender is in the view, and 12 (10 and this part of 11 are in 004's guards)
+-- what of question 11 is not in the source's guard
+abbrev pub elevenOf : Node → ℕ → Message → List Question → List Question
+elevenOf n sender (Inv t) more = more
+elevenOf n sender (Ack t) more = ask 11 (has (n .me .view) sender) ∷ more
+elevenOf n sender (Val t) more = ask 11 (has (n .me .view) sender && not (eqb sender (n .me .number))) ∷ more
+
+-- of a delivery's: 12; of an ACK also that the sender is in the view, and of a VAL, which has no sender in the source, all of 11
 abbrev pub delivered : Node → ℕ → Received → List ℕ → List Question
-delivered n i m v = fiveAnd n i (question10 (n .me) m ∷ ask 11 (has (n .me .view) (m .sender)) ∷ question12 m (length v) ∷ [])
+delivered n i m v = fiveAnd n i (elevenOf n (m .sender) (m .message) (question12 m (length v) ∷ []))
 
 abbrev pub message : ℕ → ℕ → Message → Received
 message sender epoch m = record { sender = sender; epoch = epoch; message = m }
@@ -76,14 +83,11 @@ module _ (wins : ℕ → ℕ → Bool) where
     pub write : (n : Node) (i : ℕ) (v : List ℕ) → Follows n i Write v (fiveAnd n i (question8 (length v) ∷ [])) HWriteGuard (HWrite (n .me) i v)
     pub replay : (n : Node) (i : ℕ) (v : List ℕ) → Follows n i Replay v (fiveAnd n i []) (HReplayWriteGuard (n .me)) (HReplayWrite (n .me) i)
     pub inv : (n : Node) (i sender epoch : ℕ) (t : Timestamp) (v : List ℕ)
-        → Follows n i (Deliver (message sender epoch (Inv t))) v (delivered n i (message sender epoch (Inv t)) v) (λ s. HRcvInvGuard (n .me) sender) (HRcvInv wins (n .me) i sender t v)
+        → Follows n i (Deliver (message sender epoch (Inv t))) v (delivered n i (message sender epoch (Inv t)) v) (λ s. HRcvInvGuard (n .me) sender epoch) (HRcvInv wins (n .me) i sender t v)
     pub ack : (n : Node) (i sender epoch : ℕ) (t : Timestamp) (v : List ℕ)
-        → Follows n i (Deliver (message sender epoch (Ack t))) v (delivered n i (message sender epoch (Ack t)) v) (HRcvAckGuard (n .me) sender t) (HRcvAck sender)
-    -- a VAL of the source has no sender, so all of 11 is document 01's own
+        → Follows n i (Deliver (message sender epoch (Ack t))) v (delivered n i (message sender epoch (Ack t)) v) (HRcvAckGuard (n .me) sender epoch t) (HRcvAck sender)
     pub val : (n : Node) (i sender epoch : ℕ) (t : Timestamp) (v : List ℕ)
-        → Follows n i (Deliver (message sender epoch (Val t))) v
-        (fiveAnd n i (question10 (n .me) (message sender epoch (Val t)) ∷ question11 (n .me) (message sender epoch (Val t)) ∷ question12 (message sender epoch (Val t)) (length v) ∷ []))
-        (HRcvValGuard t) HRcvVal
+        → Follows n i (Deliver (message sender epoch (Val t))) v (delivered n i (message sender epoch (Val t)) v) (HRcvValGuard (n .me) epoch t) HRcvVal
     pub validate : (n : Node) (i : ℕ) (v : List ℕ) → Follows n i Validate v (fiveAnd n i []) (HSendValsGuard (n .me)) (HSendVals (n .me) i)
     pub resend : (n : Node) (i : ℕ) (v : List ℕ) → Follows n i Resend v (fiveAnd n i []) (ResendGuard (n .me)) (Resent (n .me) i)
     pub view : (n : Node) (epoch alive : ℕ) → ViewFollows n epoch alive

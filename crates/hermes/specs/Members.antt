@@ -1,6 +1,6 @@
 -- Sets of replica numbers in 16 bits (01, "a view, a set of laptop numbers in 16 bits"): number n is in the set s where bit n of s is set.
 use Prim.Native.Nat.{ℕ, zero, suc, _+_, _-_, _/_, _%_, _^_}
-use mathlib.Core.Bool.{Bool, true, false, cond, not, _&&_, _||_}
+use mathlib.Core.Bool.{Bool, true, cond, not, _&&_, _||_}
 use lib.Dec.{ltb, eqb}
 use lib.Bits.{bitAnd, bitOr}
 

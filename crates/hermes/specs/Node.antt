@@ -13,7 +13,7 @@ use Rattle.hermes.specs.declared.event.Admission.{Admission}
 use Rattle.hermes.specs.declared.event.Admission.the-variants.{Admitted, Refused}
 use Rattle.hermes.specs.Members.{lowest}
 use Rattle.hermes.specs.Record.{freshRecord}
-use Rattle.hermes.specs.Store.{slot, valueAt}
+use Rattle.hermes.specs.Store.{valueAt}
 use Rattle.hermes.specs.Guards.{Question, firstNo, question1, question2, question3, question18, question19}
 use Rattle.hermes.specs.Event.{Effect, effect, readPart, leavingBody, answerOf}
 

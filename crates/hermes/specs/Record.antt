@@ -1,6 +1,6 @@
 -- One record: its states, and what each step makes of it (01, "Steps").
 use Prim.Native.Nat.{ℕ, _+_}
-use mathlib.Core.Bool.{Bool, true, false, cond, _||_}
+use mathlib.Core.Bool.{Bool, false, cond, _||_}
 use mathlib.Core.List.{List, [], _∷_}
 use lib.Dec.{ltb, eqb}
 use Rattle.hermes.specs.declared.timestamp.Timestamp.{Timestamp}

@@ -139,9 +139,9 @@ pub record HReplayWrite (n : Replica) (i : ℕ) (s s′ : Vars) (m : Sending) : 
   pub value : s′ .value ≡ s .value
   pub send : m ≡ sendInv n i s′
 
--- HRcvInv of timestamp t with the value v
-abbrev pub HRcvInvGuard : Replica → ℕ → Type 0
-HRcvInvGuard n sender = sender ≢ n .number
+-- HRcvInv of timestamp t with the value v; the epoch and the sender alive after 004
+abbrev pub HRcvInvGuard : Replica → ℕ → ℕ → Type 0
+HRcvInvGuard n sender epoch = (epoch ≡ n .epoch) × (sender ≢ n .number) × isAlive n sender
 
 pub record InvTaken (sender : ℕ) (t : Timestamp) (v : List ℕ) (s s′ : Vars) : Type 0 where
   pub nodeTS : s′ .nodeTS ≡ t
@@ -159,10 +159,10 @@ pub record HRcvInv (wins : ℕ → ℕ → Bool) (n : Replica) (i sender : ℕ) 
   pub greater : greaterTS wins t (s .nodeTS) → InvTaken sender t v s s′
   pub otherwise : (greaterTS wins t (s .nodeTS) → ⊥) → s′ ≡ s
 
--- HRcvAck
-abbrev pub HRcvAckGuard : Replica → ℕ → Timestamp → Vars → Type 0
-HRcvAckGuard n sender t s =
-    (sender ≢ n .number) × (has (s .nodeRcvdAcks) sender ≡ false) × equalTS t (s .nodeLastWriteTS) × In (s .nodeState) (Write ∷ InvalidWrite ∷ Replay ∷ [])
+-- HRcvAck; the epoch after 004
+abbrev pub HRcvAckGuard : Replica → ℕ → ℕ → Timestamp → Vars → Type 0
+HRcvAckGuard n sender epoch t s =
+    (epoch ≡ n .epoch) × (sender ≢ n .number) × (has (s .nodeRcvdAcks) sender ≡ false) × equalTS t (s .nodeLastWriteTS) × In (s .nodeState) (Write ∷ InvalidWrite ∷ Replay ∷ [])
 
 pub record HRcvAck (sender : ℕ) (s s′ : Vars) (m : Sending) : Type 0 where
   pub nodeRcvdAcks : Added (s .nodeRcvdAcks) sender (s′ .nodeRcvdAcks)
@@ -182,9 +182,9 @@ pub record BecomesValid (s s′ : Vars) : Type 0 where
   pub nodeRcvdAcks : s′ .nodeRcvdAcks ≡ s .nodeRcvdAcks
   pub value : s′ .value ≡ s .value
 
--- HRcvVal
-abbrev pub HRcvValGuard : Timestamp → Vars → Type 0
-HRcvValGuard t s = (s .nodeState ≢ Valid) × equalTS t (s .nodeTS)
+-- HRcvVal; the epoch after 004
+abbrev pub HRcvValGuard : Replica → ℕ → Timestamp → Vars → Type 0
+HRcvValGuard n epoch t s = (epoch ≡ n .epoch) × (s .nodeState ≢ Valid) × equalTS t (s .nodeTS)
 
 pub record HRcvVal (s s′ : Vars) (m : Sending) : Type 0 where
   pub valid : BecomesValid s s′

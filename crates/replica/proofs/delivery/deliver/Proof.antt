@@ -1,5 +1,5 @@
 -- `replica::delivery::deliver` meets its contract.
-use Rattle.hermes.proofs.Guards.{deliver-passed, inv-fits, slot-fits}
+use Rattle.hermes.proofs.Guards.{event-passed, own-passed, deliver-own, inv-fits, slot-fits}
 use Rattle.hermes.specs.Event.{effect, movedBy, storing, deliverStep}
 use Rattle.hermes.specs.Order.{higher}
 use lib.ListN.{length}
@@ -30,7 +30,9 @@ enum-known-message : tie.Need-enum-known-message
 enum-known-message c = search needs
 
 take-inv-requires : tie.Need-take-inv-requires
-take-inv-requires c κs = let v = c .before .before .before .before .before .before .before .before .before .before .args in let f = deliver-passed (v .me) (v .count) (length (v .store .now)) (v .i) (v .r) (v .m) (length (v .value .now)) (accepted (v .me) (v .count) (length (v .store .now)) (v .i) (v .r) (event.Deliver (v .m)) (length (v .value .now)) (c .before .before .before .before .before .a .given .0 .0) (sym (c .before .before .before .before .before .before .before .asks .ensures) ∙ c .before .before .before .before .before .a .given .1)) in (slot-fits (f .common), inv-fits (v .m .message) _ (length (v .value .now)) (c .before .before .message .given .1) (f .shape))
+take-inv-requires c κs = let v = c .before .before .before .before .before .before .before .before .before .before .args in let z = accepted (v .me) (v .count) (length (v .store .now)) (v .i) (v .r) (event.Deliver (v .m)) (length (v .value .now)) (c .before .before .before .before .before .a .given .0 .0) (sym (c .before .before .before .before .before .before .before .asks .ensures) ∙ c .before .before .before .before .before .a .given .1) in
+    let e = event.Deliver (v .m) in
+    (slot-fits (event-passed (v .me) (v .count) (length (v .store .now)) (v .i) (v .r) e (length (v .value .now)) z), inv-fits (v .m .message) _ (length (v .value .now)) (c .before .before .message .given .1) (deliver-own (v .me) (v .r) (v .m) (length (v .value .now)) (own-passed (v .me) (v .count) (length (v .store .now)) (v .i) (v .r) e (length (v .value .now)) z) .shape))
 
 enum-told-2 : tie.Need-enum-told-2
 enum-told-2 c = search needs

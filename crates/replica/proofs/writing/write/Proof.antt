@@ -1,5 +1,5 @@
 -- `replica::writing::write` meets its contract.
-use Rattle.hermes.proofs.Guards.{write-passed, slot-fits}
+use Rattle.hermes.proofs.Guards.{event-passed, own-passed, write-own, slot-fits}
 use Rattle.hermes.specs.Event.{effect, writeStep}
 use native.Mathlib.Omega.{arith}
 use lib.ListN.{length}
@@ -27,10 +27,13 @@ unfolding effect
 returns c = let v = c .before .before .before .before .before .before .args in (c .stopped .ensures ∙ stops (v .me) (v .count) (length (v .store .now)) (v .i) (v .r) event.Write (length (v .value .now)) _ (c .before .enum-told .given .0 .0) _ (c .before .before .before .asks .ensures) (c .before .enum-told .given .1), stops-store (v .me) (v .count) (length (v .store .now)) (v .i) (v .r) event.Write (length (v .value .now)) _ (c .before .enum-told .given .0 .0) (v .store .now) _ (c .before .before .before .asks .ensures) (c .before .enum-told .given .1))
 
 place-requires : tie.Need-place-requires
-place-requires c κs = let v = c .before .before .before .before .before .before .before .args in let f = write-passed (v .me) (v .count) (length (v .store .now)) (v .i) (v .r) (length (v .value .now)) (accepted (v .me) (v .count) (length (v .store .now)) (v .i) (v .r) event.Write (length (v .value .now)) (c .before .before .a .given .0 .0) (sym (c .before .before .before .before .asks .ensures) ∙ c .before .before .a .given .1)) in (slot-fits (f .common), f .fits)
+place-requires c κs = let v = c .before .before .before .before .before .before .before .args in let z = accepted (v .me) (v .count) (length (v .store .now)) (v .i) (v .r) event.Write (length (v .value .now)) (c .before .before .a .given .0 .0) (sym (c .before .before .before .before .asks .ensures) ∙ c .before .before .a .given .1) in
+    (slot-fits (event-passed (v .me) (v .count) (length (v .store .now)) (v .i) (v .r) event.Write (length (v .value .now)) z), write-own (v .me) (v .r) (length (v .value .now)) (own-passed (v .me) (v .count) (length (v .store .now)) (v .i) (v .r) event.Write (length (v .value .now)) z) .fits)
 
 cast-write : tie.Need-cast-write
-cast-write c = let v = c .before .before .before .before .before .before .before .before .before .before .args in omega (arith, (write-passed (v .me) (v .count) (length (v .store .now)) (v .i) (v .r) (length (v .value .now)) (accepted (v .me) (v .count) (length (v .store .now)) (v .i) (v .r) event.Write (length (v .value .now)) (c .before .before .before .before .before .a .given .0 .0) (sym (c .before .before .before .before .before .before .before .asks .ensures) ∙ c .before .before .before .before .before .a .given .1))) .fits)
+cast-write c = let v = c .before .before .before .before .before .before .before .before .before .before .args in
+    let z = accepted (v .me) (v .count) (length (v .store .now)) (v .i) (v .r) event.Write (length (v .value .now)) (c .before .before .before .before .before .a .given .0 .0) (sym (c .before .before .before .before .before .before .before .asks .ensures) ∙ c .before .before .before .before .before .a .given .1) in
+    omega (arith, write-own (v .me) (v .r) (length (v .value .now)) (own-passed (v .me) (v .count) (length (v .store .now)) (v .i) (v .r) event.Write (length (v .value .now)) z) .fits)
 
 write-requires : tie.Need-write-requires
 write-requires c κs = search needs
