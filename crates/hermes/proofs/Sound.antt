@@ -17,12 +17,12 @@ use Rattle.hermes.specs.declared.event.Event.the-variants.{Read, Write, 
 use Rattle.hermes.specs.Members.{size, within, lowest}
 use Rattle.hermes.specs.Record.{freshRecord}
 use Rattle.hermes.specs.Guards.{firstNo, question5}
-use Rattle.hermes.specs.Event.{Step, numberOf}
-use Rattle.hermes.specs.Node.{Node, Outcome, recordOf, apply, view, viewed, viewQuestions, admissionOf, identity}
+use Rattle.hermes.specs.Event.{Step, numberOf, readPart}
+use Rattle.hermes.specs.Node.{Node, Outcome, recordOf, valueOf, apply, read, view, viewed, viewQuestions, admissionOf, identity}
 use Rattle.hermes.specs.Run as run
 use Rattle.hermes.specs.Run.{Action, Entry, Group, Logged, Found, find, received, delivery, perform, nodeAfter, result, advance, run}
 use Rattle.hermes.specs.Agreement.{FreshStart, Sees, Shows, after}
-use Rattle.hermes.specs.Reads.{Sound, StaySound, ReadsTell}
+use Rattle.hermes.specs.Reads.{Sound, ReadGives, StaySound, ReadsTell}
 use Rattle.hermes.proofs.Tests.{both}
 use Rattle.hermes.proofs.Members.{has-zero}
 use Rattle.hermes.proofs.Guards.{all-yes}
@@ -134,3 +134,19 @@ read-tells wins count k n ok i h v = go (apply wins n i Read []) (applied wins n
 
 pub reads-tell : (wins : ℕ → ℕ → Bool) → ReadsTell wins
 reads-tell wins member count issued g s entries c i k h e = read-tells wins count k (after wins g entries k) (stay-sound wins member count issued g s entries c k e) i h
+
+-- what a read hands out
+pub read-gives : (wins : ℕ → ℕ → Bool) (n : Node) (i : ℕ) → ReadGives wins n i
+unfolding readPart
+read-gives wins n i = record { accepted = gives (apply wins n i Read []) (applied wins n i Read []); refused = empty (apply wins n i Read []) (applied wins n i Read []) }
+  where
+    number : Outcome → ℕ
+    number o = numberOf (o .answer)
+
+    gives : (o : Outcome) → Applied wins n i Read [] o → number o ≡ 0 → read n i ≡ valueOf i n
+    gives o (refused k z q) a = absurd (omega (arith, ap number q))
+    gives o (accepted y c q) a = rw (passed-zero n i Read [] y)
+
+    empty : (o : Outcome) → Applied wins n i Read [] o → (number o ≡ 0 → ⊥) → read n i ≡ []
+    empty o (refused k z q) a = rw z
+    empty o (accepted y c q) a = absurd (a (ap number q))

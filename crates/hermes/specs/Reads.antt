@@ -1,14 +1,15 @@
--- Beside demand 3: along every list of entries the group's replicas stay sound, and showing a record valid is what a read tells.
+-- Beside demand 3: along every list of entries the group's replicas stay sound, showing a record valid is what a read tells, and what a read
+-- hands out is the record's text.
 use Prim.Native.Nat.{ℕ, _<_}
 use mathlib.Core.Path.{_≡_}
 use mathlib.Core.Bool.{Bool, true}
-use mathlib.Core.Logic.{_↔_}
+use mathlib.Core.Logic.{_↔_, _≢_}
 use mathlib.Core.List.{List, []}
 use lib.ListN.{length}
 use Rattle.hermes.specs.declared.event.Event.the-variants.{Read}
 use Rattle.hermes.specs.Guards.{question1, question2, question5}
 use Rattle.hermes.specs.Event.{numberOf}
-use Rattle.hermes.specs.Node.{Node, recordOf, apply}
+use Rattle.hermes.specs.Node.{Node, recordOf, valueOf, apply, read}
 use Rattle.hermes.specs.Run.{Entry, Group}
 use Rattle.hermes.specs.Agreement.{Started, Entries, Sees, Shows, after}
 
@@ -21,6 +22,11 @@ pub record Sound (count k : ℕ) (n : Node) : Type 0 where
   pub fifth : (i : ℕ) → i < count → question5 (n .me) (recordOf i n) .yes ≡ true
 
 module _ (wins : ℕ → ℕ → Bool) where
+  -- 01, Read: what is handed out is the record's text where the read answers 0, and the empty part where it is refused
+  pub record ReadGives (n : Node) (i : ℕ) : Type 0 where
+    pub accepted : numberOf (apply wins n i Read [] .answer) ≡ 0 → read n i ≡ valueOf i n
+    pub refused : numberOf (apply wins n i Read [] .answer) ≢ 0 → read n i ≡ []
+
   abbrev pub StaySound : Type 0
   StaySound = (member : ℕ → Bool) (count : ℕ) (issued : ℕ → ℕ) (g : Group) → Started member count issued g
       → (entries : List Entry) → Entries member issued entries
