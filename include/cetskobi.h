@@ -9,6 +9,10 @@
 #include <stddef.h>
 #include <stdint.h>
 
+#ifdef __cplusplus
+extern "C" {
+#endif
+
 /* One record, in the order of its words. Words that are no record are refused by question 5. */
 struct cetskobi_record {
     uint32_t state; /* 0 valid, 1 invalid, 2 invalid-write, 3 write, 4 replay */
@@ -81,7 +85,7 @@ struct cetskobi_entry {
 
 enum { CETSKOBI_ENTRY_WORDS = 7, CETSKOBI_MESSAGES_MAX = 64, CETSKOBI_PACKET_MAX = 1400 };
 
-/* 0 or the number of the question that said no; and how many bytes were written. */
+/* 0 or the number of the question that said no, 255 for what the player has no room for; and how many bytes were written. */
 struct cetskobi_written {
     uint8_t number;
     size_t len;
@@ -93,6 +97,7 @@ struct cetskobi_admission {
     struct cetskobi_replica replica;
 };
 
+/* Events on record i. A message that leaves is about record i, from me.number at me.epoch. */
 struct cetskobi_answer cetskobi_write(struct cetskobi_replica me, uint32_t *words, size_t words_len, uint8_t *store, size_t store_len,
                                       size_t i, const uint8_t *value, size_t value_len);
 struct cetskobi_answer cetskobi_deliver(struct cetskobi_replica me, uint32_t *words, size_t words_len, uint8_t *store, size_t store_len,
@@ -105,7 +110,10 @@ struct cetskobi_answer cetskobi_resend(struct cetskobi_replica me, uint32_t *wor
                                        size_t store_len, size_t i);
 struct cetskobi_read cetskobi_read(struct cetskobi_replica me, const uint32_t *words, size_t words_len, const uint8_t *store,
                                    size_t store_len, size_t i);
+
+/* A change of view, which touches no record. */
 struct cetskobi_admission cetskobi_view(struct cetskobi_replica me, uint32_t epoch, uint16_t set);
+/* A fresh start: epoch 0, every record valid and empty, the store zero. */
 struct cetskobi_admission cetskobi_start(uint8_t number, uint16_t view, uint32_t *words, size_t words_len, uint8_t *store,
                                          size_t store_len);
 
@@ -114,14 +122,21 @@ size_t cetskobi_body(const uint32_t *words, size_t words_len, const uint8_t *sto
 /* Who gets a message of this kind: bit n for replica n. sender is that of the delivered message; only an ACK asks it. */
 uint16_t cetskobi_recipients(struct cetskobi_replica me, uint8_t kind, uint8_t sender);
 
-/* Packets: message i; several messages, with their bytes one after another, as one packet; the delivery of message i of a packet. */
+/* Message i of a packet. */
 struct cetskobi_fetched cetskobi_fetch(const uint8_t *packet, size_t packet_len, size_t i);
+/* Messages as one packet, at the front of the output. They are words, seven for each, so an array of struct cetskobi_entry is that; their
+ * bytes come one after another in bodies. */
 struct cetskobi_written cetskobi_pack(const uint32_t *messages, size_t messages_len, const uint8_t *bodies, size_t bodies_len, uint8_t *out,
                                       size_t out_len);
+/* The delivery of message i of a packet: the questions of cetskobi_fetch, then those of cetskobi_deliver. */
 struct cetskobi_answer cetskobi_deliver_packet(struct cetskobi_replica me, uint32_t *words, size_t words_len, uint8_t *store,
                                                size_t store_len, const uint8_t *packet, size_t packet_len, size_t i);
 
-/* The playing program on one script. */
+/* The playing program on one script of at most 65,536 bytes, with room for 25 bytes for each of them, and 2. */
 struct cetskobi_written cetskobi_play(const uint8_t *script, size_t script_len, uint8_t *out, size_t out_len);
+
+#ifdef __cplusplus
+}
+#endif
 
 #endif

@@ -2,3 +2,5 @@ pub mod Crossing
 pub mod Leaving
 pub mod Events
 pub mod Membership
+pub mod Packets
+pub mod Playing

@@ -3,6 +3,8 @@ mod crossing;
 mod events;
 mod leaving;
 mod membership;
+mod packets;
+mod playing;
 
 pub use crossing::CetskobiAdmission;
 pub use crossing::CetskobiAnswer;
@@ -19,3 +21,9 @@ pub use leaving::cetskobi_body;
 pub use leaving::cetskobi_recipients;
 pub use membership::cetskobi_start;
 pub use membership::cetskobi_view;
+pub use packets::CetskobiFetched;
+pub use packets::CetskobiWritten;
+pub use packets::cetskobi_deliver_packet;
+pub use packets::cetskobi_fetch;
+pub use packets::cetskobi_pack;
+pub use playing::cetskobi_play;

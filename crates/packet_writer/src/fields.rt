@@ -29,7 +29,7 @@ fn timestamp_of(message: Message) -> Timestamp
 }
 
 // The fields of a message whose body begins at `at`.
-pub(crate) fn fields_for(e: Entry, at: usize) -> Fields
+pub fn fields_for(e: Entry, at: usize) -> Fields
     ensures { λ r. ⌜ r ≡ fieldsFor e at ⌝ }
 {
     let header = e.header;

@@ -3,4 +3,5 @@ mod fields;
 mod output;
 mod writer;
 
+pub use fields::fields_for;
 pub use writer::write;

@@ -1,3 +1,65 @@
-//! The replication engine for Rust.
+//! The record engine of a bird-ringing group, for Rust.
+//!
+//! Two to sixteen laptops keep up to 4,096 ring records in step by the Hermes
+//! protocol with membership epochs, over a radio link that loses, repeats and
+//! holds back messages. The engine behind this crate is written in Rattle and
+//! proved: for every input the answer, the records and the store are what
+//! document 01 says. This crate calls it with Rust's types and adds no rule.
+//!
+//! * [`Laptop`] is one laptop with its records. Each event on it is accepted,
+//!   with the message that leaves, or refused with its [`Refusal`]; a refused
+//!   event has changed nothing.
+//! * [`packet`] puts messages into the bytes that go on air, and takes them out.
+//! * [`play()`] plays a script of a small group, as the playing program does.
+//!
+//! ```
+//! use cetskobi::{Laptop, Refusal};
+//!
+//! # fn main() -> Result<(), Refusal> {
+//! // Laptops 0 and 1 of a group of two, one record each.
+//! let mut net = Laptop::start(0, 0b11, 1)?;
+//! let mut hut = Laptop::start(1, 0b11, 1)?;
+//!
+//! // The net saves. Until the hut has acknowledged, neither shows the record.
+//! let inv = net.write(0, b"Blue tit, wing 62")?.expect("a write sends an INV");
+//! let ack = hut.deliver(&inv, net.body(&inv))?.expect("an INV is acknowledged");
+//! assert_eq!(hut.read(0), Err(Refusal::NotReadable));
+//!
+//! net.deliver(&ack, hut.body(&ack))?;
+//! let val = net.validate(0)?.expect("a validation sends a VAL");
+//! hut.deliver(&val, net.body(&val))?;
+//! assert_eq!(net.read(0)?, b"Blue tit, wing 62");
+//! assert_eq!(hut.read(0)?, b"Blue tit, wing 62");
+//! # Ok(())
+//! # }
+//! ```
+//!
+//! # What is the caller's
+//!
+//! The radio, choosing who is alive, and the disk. The agreement that is proved
+//! of a whole group has premises that the caller keeps: the laptops of a group
+//! have different numbers and equally many records, each starts fresh once with
+//! the same first view and is never set back to an older state; one view is
+//! issued for each epoch number, within all earlier ones; a delivered message
+//! was sent by a laptop of the group and is unaltered.
 
+#![warn(missing_docs)]
+#![deny(unsafe_code)]
+
+mod engine;
+mod laptop;
+mod members;
+mod message;
+pub mod packet;
+mod player;
+mod record;
+mod refusal;
 pub mod sys;
+
+pub use laptop::{Laptop, Lent};
+pub use members::Members;
+pub use message::{Envelope, Message};
+pub use player::{play, SCRIPT_MAX};
+pub use record::{Record, State, Timestamp};
+pub use refusal::Refusal;
+pub use sys::Replica;

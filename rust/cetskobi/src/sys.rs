@@ -1,16 +1,26 @@
 //! The exported functions as C has them: include/cetskobi.h, line by line.
+//!
+//! Only for who needs them raw; [`Laptop`](crate::Laptop) and the functions of
+//! this crate call them safely. Each pointer is to as many elements as the
+//! length beside it says, and what is written overlaps nothing else that is
+//! passed. Beyond that every input may be passed.
+
+#![allow(unsafe_code)]
 
 /// The words of one record.
 pub const WORDS: usize = 8;
 /// The words of one message that goes into a packet.
 pub const MESSAGE_WORDS: usize = 7;
 
-/// The identity of a replica.
+/// The identity of a replica, a laptop of a group.
 #[repr(C)]
-#[derive(Clone, Copy, Debug, PartialEq, Eq)]
+#[derive(Clone, Copy, Debug, PartialEq, Eq, Hash)]
 pub struct Replica {
+    /// Its number, 0 to 15.
     pub number: u8,
+    /// Its view: bit n for replica n.
     pub view: u16,
+    /// The epoch of its view.
     pub epoch: u32,
 }
 
@@ -18,9 +28,13 @@ pub struct Replica {
 #[repr(C)]
 #[derive(Clone, Copy, Debug, PartialEq, Eq)]
 pub struct Answer {
+    /// 0, or the number of the question that said no.
     pub number: u8,
+    /// 0 none, 1 INV, 2 ACK, 3 VAL.
     pub kind: u8,
+    /// The tie-breaker of the message's timestamp.
     pub tie: u8,
+    /// The version of the message's timestamp.
     pub version: u32,
 }
 
@@ -28,10 +42,15 @@ pub struct Answer {
 #[repr(C)]
 #[derive(Clone, Copy, Debug, PartialEq, Eq)]
 pub struct Message {
+    /// 1 INV, 2 ACK, 3 VAL.
     pub kind: u8,
+    /// The number of the replica that sent it.
     pub sender: u8,
+    /// The tie-breaker of its timestamp.
     pub tie: u8,
+    /// The sender's epoch.
     pub epoch: u32,
+    /// The version of its timestamp.
     pub version: u32,
 }
 
@@ -39,7 +58,9 @@ pub struct Message {
 #[repr(C)]
 #[derive(Clone, Copy, Debug, PartialEq, Eq)]
 pub struct Read {
+    /// 0, or the number of the question that said no.
     pub number: u8,
+    /// The length of the value, which begins at 192 times the record's number.
     pub len: usize,
 }
 
@@ -47,7 +68,9 @@ pub struct Read {
 #[repr(C)]
 #[derive(Clone, Copy, Debug, PartialEq, Eq)]
 pub struct Admission {
+    /// 0, or the number of the question that said no.
     pub number: u8,
+    /// The identity from then on.
     pub replica: Replica,
 }
 
@@ -55,14 +78,23 @@ pub struct Admission {
 #[repr(C)]
 #[derive(Clone, Copy, Debug, PartialEq, Eq)]
 pub struct Fetched {
+    /// 0, or the number of the question that said no.
     pub number: u8,
+    /// 1 INV, 2 ACK, 3 VAL.
     pub kind: u8,
+    /// The number of the replica that sent it.
     pub sender: u8,
+    /// The tie-breaker of its timestamp.
     pub tie: u8,
+    /// The sender's epoch.
     pub epoch: u32,
+    /// The version of its timestamp.
     pub version: u32,
+    /// The record's number.
     pub index: usize,
+    /// Where its bytes begin in the packet.
     pub at: usize,
+    /// How many they are.
     pub len: usize,
 }
 
@@ -70,24 +102,40 @@ pub struct Fetched {
 #[repr(C)]
 #[derive(Clone, Copy, Debug, PartialEq, Eq)]
 pub struct Written {
+    /// 0, or the number of the question that said no.
     pub number: u8,
+    /// How many bytes were written.
     pub len: usize,
 }
 
 #[rustfmt::skip]
 unsafe extern "C" {
+    /// Fresh start: see [`Laptop::start`](crate::Laptop::start).
     pub fn cetskobi_start(number: u8, view: u16, words: *mut u32, words_len: usize, store: *mut u8, store_len: usize) -> Admission;
+    /// Change of view: see [`Laptop::change_view`](crate::Laptop::change_view).
     pub fn cetskobi_view(me: Replica, epoch: u32, set: u16) -> Admission;
+    /// Read of record i: see [`Laptop::read`](crate::Laptop::read).
     pub fn cetskobi_read(me: Replica, words: *const u32, words_len: usize, store: *const u8, store_len: usize, i: usize) -> Read;
+    /// Write of a value to record i: see [`Laptop::write`](crate::Laptop::write).
     pub fn cetskobi_write(me: Replica, words: *mut u32, words_len: usize, store: *mut u8, store_len: usize, i: usize, value: *const u8, value_len: usize) -> Answer;
+    /// Delivery of a message about record i: see [`Laptop::deliver`](crate::Laptop::deliver).
     pub fn cetskobi_deliver(me: Replica, words: *mut u32, words_len: usize, store: *mut u8, store_len: usize, i: usize, message: Message, value: *const u8, value_len: usize) -> Answer;
+    /// Replay of record i: see [`Laptop::replay`](crate::Laptop::replay).
     pub fn cetskobi_replay(me: Replica, words: *mut u32, words_len: usize, store: *const u8, store_len: usize, i: usize) -> Answer;
+    /// Validation of record i: see [`Laptop::validate`](crate::Laptop::validate).
     pub fn cetskobi_validate(me: Replica, words: *mut u32, words_len: usize, store: *const u8, store_len: usize, i: usize) -> Answer;
+    /// Resend of record i: see [`Laptop::resend`](crate::Laptop::resend).
     pub fn cetskobi_resend(me: Replica, words: *mut u32, words_len: usize, store: *const u8, store_len: usize, i: usize) -> Answer;
+    /// How many bytes a message of this kind takes along: see [`Laptop::body`](crate::Laptop::body).
     pub fn cetskobi_body(words: *const u32, words_len: usize, store: *const u8, store_len: usize, i: usize, kind: u8) -> usize;
+    /// Who gets a message of this kind: see [`Laptop::recipients`](crate::Laptop::recipients).
     pub fn cetskobi_recipients(me: Replica, kind: u8, sender: u8) -> u16;
+    /// Message i of a packet: see [`packet::fetch`](crate::packet::fetch).
     pub fn cetskobi_fetch(packet: *const u8, packet_len: usize, i: usize) -> Fetched;
+    /// Messages as a packet: see [`packet::pack`](crate::packet::pack).
     pub fn cetskobi_pack(messages: *const u32, messages_len: usize, bodies: *const u8, bodies_len: usize, out: *mut u8, out_len: usize) -> Written;
+    /// Delivery of message i of a packet: see [`Laptop::deliver_packet`](crate::Laptop::deliver_packet).
     pub fn cetskobi_deliver_packet(me: Replica, words: *mut u32, words_len: usize, store: *mut u8, store_len: usize, packet: *const u8, packet_len: usize, i: usize) -> Answer;
+    /// The playing program on one script: see [`play`](fn@crate::play).
     pub fn cetskobi_play(script: *const u8, script_len: usize, out: *mut u8, out_len: usize) -> Written;
 }

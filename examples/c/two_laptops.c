@@ -1,0 +1,111 @@
+/* Two laptops keep one ring record in step by packets, although one packet is lost and one comes twice.
+ * From the repository's root (rust/cetskobi/examples/two_laptops.rs tells the same in Rust):
+ *   rt staticlib ffi && cc -O2 examples/c/two_laptops.c -Iinclude -Ltarget/staticlib -lffi -o target/two_laptops && target/two_laptops
+ */
+#include "cetskobi.h"
+#include <stdio.h>
+#include <stdlib.h>
+
+/* The record's number, and what is saved there. */
+enum { RING = 7, COUNT = 8 };
+static const uint8_t TEXT[] = "Blue tit, wing 62, weight 11";
+
+struct laptop {
+    struct cetskobi_replica me;
+    struct cetskobi_record table[COUNT];
+    uint8_t store[COUNT * CETSKOBI_VALUE_MAX];
+};
+
+struct packet {
+    uint8_t bytes[CETSKOBI_PACKET_MAX];
+    size_t len;
+};
+
+/* What each event on a record gets first: identity, table and store. */
+#define LENT(l) (l)->me, (uint32_t *)(l)->table, COUNT *CETSKOBI_WORDS, (l)->store, sizeof (l)->store
+
+static void accepted(uint8_t number) {
+    if (number != 0) {
+        printf("refused by question %d\n", number);
+        exit(1);
+    }
+}
+
+static void start(struct laptop *l, uint8_t number) {
+    struct cetskobi_admission a =
+        cetskobi_start(number, 3, (uint32_t *)l->table, COUNT * CETSKOBI_WORDS, l->store, sizeof l->store);
+    accepted(a.number);
+    l->me = a.replica;
+}
+
+/* The packet of what left an event of this laptop. An ACK goes to the sender of its INV, the others to the view. */
+static struct packet send(const struct laptop *l, struct cetskobi_answer left, uint8_t inv_sender) {
+    static const char *const names[] = {"none", "INV", "ACK", "VAL"};
+    accepted(left.number);
+    size_t len = cetskobi_body((const uint32_t *)l->table, COUNT * CETSKOBI_WORDS, l->store, sizeof l->store, RING, left.kind);
+    struct cetskobi_entry entry = {left.kind, l->me.number, l->me.epoch, RING, left.version, left.tie, (uint32_t)len};
+    struct packet p;
+    struct cetskobi_written w = cetskobi_pack((const uint32_t *)&entry, CETSKOBI_ENTRY_WORDS, l->store + RING * CETSKOBI_VALUE_MAX,
+                                              len, p.bytes, sizeof p.bytes);
+    accepted(w.number);
+    p.len = w.len;
+    uint16_t to = cetskobi_recipients(l->me, left.kind, inv_sender);
+    for (int n = 0; n < 16; n++)
+        if (to >> n & 1)
+            printf("  %s (%u,%u) to laptop %d, %zu bytes\n", names[left.kind], (unsigned)left.version, (unsigned)left.tie, n, p.len);
+    return p;
+}
+
+static struct cetskobi_answer take(struct laptop *l, const struct packet *p) {
+    return cetskobi_deliver_packet(LENT(l), p->bytes, p->len, 0);
+}
+
+/* What the laptop's screen has. */
+static void show(const struct laptop *l) {
+    struct cetskobi_read r =
+        cetskobi_read(l->me, (const uint32_t *)l->table, COUNT * CETSKOBI_WORDS, l->store, sizeof l->store, RING);
+    if (r.number == 0)
+        printf("  laptop %d shows: %.*s\n", l->me.number, (int)r.len, (const char *)l->store + RING * CETSKOBI_VALUE_MAX);
+    else
+        printf("  laptop %d does not show it: question %d\n", l->me.number, r.number);
+}
+
+/* A refused event: nothing has changed. */
+static void refused(struct cetskobi_answer a) {
+    if (a.number != 0)
+        printf("  refused: question %d\n", a.number);
+}
+
+int main(void) {
+    /* Two laptops, both in the view, eight records each. */
+    static struct laptop net, hut;
+    start(&net, 0);
+    start(&hut, 1);
+    printf("laptops 0 and 1 start with %d records\n", COUNT);
+
+    printf("laptop 0 saves record %d\n", RING);
+    send(&net, cetskobi_write(LENT(&net), RING, TEXT, sizeof TEXT - 1), net.me.number);
+    printf("the packet is lost\n");
+    show(&net);
+    printf("laptop 0 wants to finish\n");
+    refused(cetskobi_validate(LENT(&net), RING));
+
+    printf("laptop 0 sends again\n");
+    struct packet inv = send(&net, cetskobi_resend(LENT(&net), RING), net.me.number);
+    printf("laptop 1 takes the packet\n");
+    struct packet ack = send(&hut, take(&hut, &inv), net.me.number);
+    show(&hut);
+
+    printf("laptop 0 takes the packet\n");
+    accepted(take(&net, &ack).number);
+    printf("the packet comes a second time\n");
+    refused(take(&net, &ack));
+
+    printf("laptop 0 wants to finish\n");
+    struct packet val = send(&net, cetskobi_validate(LENT(&net), RING), net.me.number);
+    printf("laptop 1 takes the packet\n");
+    accepted(take(&hut, &val).number);
+    show(&net);
+    show(&hut);
+    return 0;
+}

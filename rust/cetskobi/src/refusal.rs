@@ -1,0 +1,173 @@
+//! Refusals: the questions of document 01 by number.
+
+use std::error::Error;
+use std::fmt;
+
+/// Why an event or a packet was refused: the first question of document 01
+/// whose answer is no. A refused event has changed nothing.
+#[derive(Clone, Copy, Debug, PartialEq, Eq, Hash, PartialOrd, Ord)]
+#[repr(u8)]
+pub enum Refusal {
+    /// 1: the laptop's number is above 15, or its view has fewer than two.
+    NoGroup = 1,
+    /// 2: not 1 to 4,096 records, or not 192 bytes of store for each.
+    LentMemory = 2,
+    /// 3: the laptop is not in its own view.
+    StruckOff = 3,
+    /// 4: no record has that number.
+    StrayRecord = 4,
+    /// 5: what stands in the table there is no sound record.
+    UnsoundRecord = 5,
+    /// 6: a read of a record that is not valid.
+    NotReadable = 6,
+    /// 7: a write to a record that is neither valid nor invalid.
+    NotWritable = 7,
+    /// 8: a write of more than 192 bytes.
+    ValueTooLong = 8,
+    /// 9: a write to a record at the last version.
+    LastVersion = 9,
+    /// 10: a message of another epoch.
+    OtherEpoch = 10,
+    /// 11: a message from outside the view, or from the laptop itself.
+    OtherSender = 11,
+    /// 12: a message with a tie-breaker above 15, or bytes that do not fit its kind.
+    IllFormed = 12,
+    /// 13: an acknowledgement that is not awaited.
+    StrayAck = 13,
+    /// 14: a validation of a valid record, or of another timestamp.
+    StrayVal = 14,
+    /// 15: a validation of a record that is not in write or replay, or before
+    /// every other laptop of the view has acknowledged.
+    NotFinished = 15,
+    /// 16: a replay of a record that is not invalid, or whose last writer is in the view.
+    NotReplayable = 16,
+    /// 17: a resend where the laptop has nothing of its own to send again.
+    NotResendable = 17,
+    /// 18: a view whose epoch is not greater.
+    OldEpoch = 18,
+    /// 19: a view that is not within the old one, or has fewer than two.
+    ViewNotWithin = 19,
+    /// 20: the first four bytes are no packet's, or its length is another.
+    PacketHead = 20,
+    /// 21: the packet's contents table is cut short.
+    PacketContents = 21,
+    /// 22: a message of the packet is not good.
+    PacketEntry = 22,
+    /// 23: the packet has no message of that number.
+    PacketIndex = 23,
+    /// 24: the messages do not make a packet.
+    PacketMessages = 24,
+    /// 25: the packet is longer than 1,400 bytes or than its room.
+    PacketRoom = 25,
+    /// A script that is longer than the player takes, or has too little room to
+    /// print. No question of document 01, so its number, 255, is none there.
+    PlayerRoom = 255,
+}
+
+impl Refusal {
+    /// Every refusal, in the order of the numbers.
+    pub const ALL: [Refusal; 26] = [
+        Refusal::NoGroup,
+        Refusal::LentMemory,
+        Refusal::StruckOff,
+        Refusal::StrayRecord,
+        Refusal::UnsoundRecord,
+        Refusal::NotReadable,
+        Refusal::NotWritable,
+        Refusal::ValueTooLong,
+        Refusal::LastVersion,
+        Refusal::OtherEpoch,
+        Refusal::OtherSender,
+        Refusal::IllFormed,
+        Refusal::StrayAck,
+        Refusal::StrayVal,
+        Refusal::NotFinished,
+        Refusal::NotReplayable,
+        Refusal::NotResendable,
+        Refusal::OldEpoch,
+        Refusal::ViewNotWithin,
+        Refusal::PacketHead,
+        Refusal::PacketContents,
+        Refusal::PacketEntry,
+        Refusal::PacketIndex,
+        Refusal::PacketMessages,
+        Refusal::PacketRoom,
+        Refusal::PlayerRoom,
+    ];
+
+    /// Its number in document 01.
+    pub const fn number(self) -> u8 {
+        self as u8
+    }
+
+    /// The refusal with this number; 0, an accepted event's, is none.
+    pub fn from_number(number: u8) -> Option<Refusal> {
+        Refusal::ALL.into_iter().find(|r| r.number() == number)
+    }
+
+    /// Passes an accepted event's 0 on.
+    pub(crate) fn check(number: u8) -> Result<(), Refusal> {
+        if number == 0 {
+            return Ok(());
+        }
+        Err(Refusal::from_number(number).expect("the engine answers with a number of document 01"))
+    }
+
+    /// What it means, in a few plain words.
+    pub const fn meaning(self) -> &'static str {
+        match self {
+            Refusal::NoGroup => {
+                "a laptop's number is at most 15 and its view has at least two laptops"
+            }
+            Refusal::LentMemory => {
+                "a laptop has 1 to 4,096 records and 192 bytes of store for each"
+            }
+            Refusal::StruckOff => "this laptop has been struck off its group",
+            Refusal::StrayRecord => "there is no record of that number",
+            Refusal::UnsoundRecord => "the record in the table is damaged",
+            Refusal::NotReadable => "the record is not valid now, so it cannot be shown",
+            Refusal::NotWritable => {
+                "an earlier write or replay of the record is still under way here"
+            }
+            Refusal::ValueTooLong => "a value has at most 192 bytes",
+            Refusal::LastVersion => "the record has used up its versions",
+            Refusal::OtherEpoch => "the message is of another epoch than this laptop",
+            Refusal::OtherSender => "the message's sender is not another laptop of the view",
+            Refusal::IllFormed => "the message's tie-breaker or length is wrong for its kind",
+            Refusal::StrayAck => "no such acknowledgement is awaited, or it is counted already",
+            Refusal::StrayVal => {
+                "the record is valid already, or the validation is for another timestamp"
+            }
+            Refusal::NotFinished => {
+                "nothing waits to be validated, or an acknowledgement is still missing"
+            }
+            Refusal::NotReplayable => {
+                "the record is not invalid, or its last writer is still in the view"
+            }
+            Refusal::NotResendable => {
+                "this laptop has nothing of its own to send again for the record"
+            }
+            Refusal::OldEpoch => "the new epoch is not greater than this laptop's",
+            Refusal::ViewNotWithin => {
+                "the new view is not within the old one, or has fewer than two laptops"
+            }
+            Refusal::PacketHead => "these bytes do not begin as a packet of their length",
+            Refusal::PacketContents => "the packet's contents table is cut short",
+            Refusal::PacketEntry => "a message in the packet's contents table is broken",
+            Refusal::PacketIndex => "the packet has no message of that number",
+            Refusal::PacketMessages => {
+                "a packet takes 1 to 64 messages whose numbers and bodies fit"
+            }
+            Refusal::PacketRoom => "the packet would be longer than 1,400 bytes or than its room",
+            Refusal::PlayerRoom => "the script is longer than 65,536 bytes or lacks room to print",
+        }
+    }
+}
+
+impl fmt::Display for Refusal {
+    fn fmt(&self, f: &mut fmt::Formatter<'_>) -> fmt::Result {
+        write!(f, "refused ({}): {}", self.number(), self.meaning())
+    }
+}
+
+impl Error for Refusal {}

@@ -1,0 +1,145 @@
+//! The exported functions of what leaves, of packets and of the playing program,
+//! through their declarations.
+
+use cetskobi::sys::*;
+
+const ME: Replica = Replica {
+    number: 2,
+    view: 0b10_0110,
+    epoch: 9,
+};
+
+/// An INV of (16909060,4) from 5 at epoch 9 for record 1, with four bytes; an
+/// ACK of (1,2) from 5 at epoch 0 for record 7.
+const WORDS_OF_TWO: [u32; 2 * MESSAGE_WORDS] = [1, 5, 9, 1, 0x0102_0304, 4, 4, 2, 5, 0, 7, 1, 2, 0];
+const PACKET_OF_TWO: [u8; 40] = [
+    1, 2, 0, 40, //
+    1, 5, 0, 0, 0, 9, 0, 1, 1, 2, 3, 4, 4, 0, 36, 4, //
+    2, 5, 0, 0, 0, 0, 0, 7, 0, 0, 0, 1, 2, 0, 40, 0, //
+    b'w', b'i', b'n', b'g',
+];
+
+#[test]
+fn body() {
+    let words = [[0; WORDS], [3, 6, 2, 2, 6, 2, 0, 62]].concat();
+    let store = [7; 2 * 192];
+    let (w, s) = (words.as_ptr(), store.as_ptr());
+    let call = |i, kind| unsafe { cetskobi_body(w, words.len(), s, store.len(), i, kind) };
+    assert_eq!(call(1, 1), 62);
+    assert_eq!(call(1, 2), 0);
+    assert_eq!(call(1, 3), 0);
+    assert_eq!(call(0, 1), 0);
+    assert_eq!(call(2, 1), 0);
+    assert_eq!(call(usize::MAX, 1), 0);
+}
+
+#[test]
+fn recipients() {
+    let call = |kind, sender| unsafe { cetskobi_recipients(ME, kind, sender) };
+    assert_eq!(call(0, 5), 0);
+    assert_eq!(call(1, 5), 0b10_0010);
+    assert_eq!(call(2, 5), 0b10_0000);
+    assert_eq!(call(2, 16), 0);
+    assert_eq!(call(3, 5), 0b10_0010);
+}
+
+#[test]
+fn fetch() {
+    let call = |i| unsafe { cetskobi_fetch(PACKET_OF_TWO.as_ptr(), PACKET_OF_TWO.len(), i) };
+    let inv = Fetched {
+        number: 0,
+        kind: 1,
+        sender: 5,
+        tie: 4,
+        epoch: 9,
+        version: 0x0102_0304,
+        index: 1,
+        at: 36,
+        len: 4,
+    };
+    let ack = Fetched {
+        number: 0,
+        kind: 2,
+        sender: 5,
+        tie: 2,
+        epoch: 0,
+        version: 1,
+        index: 7,
+        at: 40,
+        len: 0,
+    };
+    assert_eq!(call(0), inv);
+    assert_eq!(call(1), ack);
+    assert_eq!(call(2).number, 23);
+    assert_eq!((call(2).at, call(2).len), (0, 0));
+}
+
+#[test]
+fn pack() {
+    let bodies = b"wing";
+    let mut out = [0xee; 41];
+    let o = out.as_mut_ptr();
+    let call = |messages_len, bodies_len, out_len| unsafe {
+        let words = WORDS_OF_TWO.as_ptr();
+        cetskobi_pack(words, messages_len, bodies.as_ptr(), bodies_len, o, out_len)
+    };
+    assert_eq!(call(14, 3, 41), Written { number: 24, len: 0 });
+    assert_eq!(call(14, 4, 39), Written { number: 25, len: 0 });
+    assert_eq!(call(0, 0, 41).number, 24);
+    assert_eq!(call(14, 4, 41), Written { number: 0, len: 40 });
+    assert_eq!(out[..40], PACKET_OF_TWO);
+    assert_eq!(out[40], 0xee);
+}
+
+#[test]
+fn deliver_packet() {
+    let fresh = [0, 0, 1, 1, 0, 1, 0, 0];
+    let mut words = [fresh, fresh].concat();
+    let mut store = vec![7; 2 * 192];
+    let (w, s) = (words.as_mut_ptr(), store.as_mut_ptr());
+    let call = |packet: &[u8], i| unsafe {
+        cetskobi_deliver_packet(
+            ME,
+            w,
+            2 * WORDS,
+            s,
+            2 * 192,
+            packet.as_ptr(),
+            packet.len(),
+            i,
+        )
+    };
+    let accepted = Answer {
+        number: 0,
+        kind: 2,
+        tie: 4,
+        version: 0x0102_0304,
+    };
+    assert_eq!(call(&PACKET_OF_TWO[..3], 0).number, 20);
+    assert_eq!(call(&PACKET_OF_TWO, 2).number, 23);
+    assert_eq!(call(&PACKET_OF_TWO, 1).number, 4);
+    assert_eq!(call(&PACKET_OF_TWO, 0), accepted);
+    assert_eq!(words[..WORDS], fresh);
+    assert_eq!(words[WORDS..], [1, 0x0102_0304, 4, 5, 0, 1, 0, 4]);
+    assert_eq!(store[..192], [7; 192]);
+    assert_eq!(store[192..196], *b"wing");
+    assert_eq!(store[196..], [0; 188]);
+}
+
+#[test]
+fn play() {
+    let script = b"group 2\nwrite 0 A1\n";
+    let mut out = [0xee; 25 * 19 + 2];
+    let o = out.as_mut_ptr();
+    let call = |room| unsafe { cetskobi_play(script.as_ptr(), script.len(), o, room) };
+    assert_eq!(
+        call(25 * 19 + 1),
+        Written {
+            number: 255,
+            len: 0
+        }
+    );
+    assert_eq!(call(25 * 19 + 2), Written { number: 0, len: 10 });
+    assert_eq!(out[..10], *b"0 W 1 0 0\n");
+    assert_eq!(out[10], 0xee);
+}

@@ -1,0 +1,262 @@
+//! A laptop's events, its limits, and lent memory.
+
+use cetskobi::{Envelope, Laptop, Members, Message, Record, Refusal, Replica, State, Timestamp};
+
+fn stamp(version: u32, tie: u8) -> Timestamp {
+    Timestamp { version, tie }
+}
+
+/// Laptop 2 with view {1,2,5} and three records, as in document 01's table.
+fn laptop() -> Laptop {
+    Laptop::start(2, 0b10_0110, 3).expect("a sound start")
+}
+
+fn from(sender: u8, message: Message) -> Envelope {
+    Envelope {
+        sender,
+        epoch: 0,
+        record: 1,
+        message,
+    }
+}
+
+#[test]
+fn a_fresh_start() {
+    let l = laptop();
+    assert_eq!((l.number(), l.epoch(), l.view(), l.count()), (2, 0, 38, 3));
+    assert_eq!(l.members().iter().collect::<Vec<_>>(), [1, 2, 5]);
+    let fresh = Record {
+        state: State::Valid,
+        timestamp: stamp(0, 1),
+        writer: 1,
+        written: stamp(0, 1),
+        acks: 0,
+        len: 0,
+    };
+    for i in 0..3 {
+        assert_eq!(l.record(i), Some(fresh));
+        assert!(l.shows_valid(i));
+        assert_eq!(l.read(i), Ok(b"".as_slice()));
+    }
+    assert_eq!(l.record(3), None);
+    assert!(!l.shows_valid(3));
+    assert_eq!(l.read(3), Err(Refusal::StrayRecord));
+    assert_eq!(
+        format!("{l:?}"),
+        "Laptop { number: 2, epoch: 0, view: {1,2,5}, count: 3, .. }"
+    );
+}
+
+#[test]
+fn a_refused_start() {
+    assert_eq!(Laptop::start(16, 38, 1).err(), Some(Refusal::NoGroup));
+    assert_eq!(Laptop::start(2, 4, 1).err(), Some(Refusal::NoGroup));
+    assert_eq!(Laptop::start(2, 38, 0).err(), Some(Refusal::LentMemory));
+    assert_eq!(
+        Laptop::start(2, 38, usize::MAX).err(),
+        Some(Refusal::LentMemory)
+    );
+    assert_eq!(Laptop::start(0, 38, 1).err(), Some(Refusal::StruckOff));
+}
+
+#[test]
+fn a_write_from_save_to_screen() {
+    let mut l = laptop();
+    let inv = l.write(1, b"wren").unwrap().unwrap();
+    assert_eq!(inv, from(2, Message::Inv(stamp(1, 2))));
+    assert_eq!(l.record(1).unwrap().state, State::Write);
+    assert_eq!(l.read(1), Err(Refusal::NotReadable));
+    assert_eq!(l.write(1, b"robin"), Err(Refusal::NotWritable));
+    assert_eq!(l.resend(1), Ok(Some(inv)));
+    assert_eq!(
+        l.deliver(&from(5, Message::Ack(stamp(1, 2))), b""),
+        Ok(None)
+    );
+    assert_eq!(
+        l.deliver(&from(5, Message::Ack(stamp(1, 2))), b""),
+        Err(Refusal::StrayAck)
+    );
+    assert_eq!(l.validate(1), Err(Refusal::NotFinished));
+    assert_eq!(
+        l.deliver(&from(1, Message::Ack(stamp(1, 2))), b""),
+        Ok(None)
+    );
+    assert_eq!(l.record(1).unwrap().acks, 0b10_0010);
+    assert_eq!(l.validate(1), Ok(Some(from(2, Message::Val(stamp(1, 2))))));
+    assert_eq!(l.read(1), Ok(b"wren".as_slice()));
+    assert_eq!(l.record(0), laptop().record(0));
+    assert_eq!(l.record(2), laptop().record(2));
+}
+
+#[test]
+fn an_overtaken_write_and_a_replay() {
+    let mut l = laptop();
+    l.write(1, b"wren").unwrap();
+    let inv = from(5, Message::Inv(stamp(1, 5)));
+    assert_eq!(
+        l.deliver(&inv, b"robin"),
+        Ok(Some(from(2, Message::Ack(stamp(1, 5)))))
+    );
+    let record = l.record(1).unwrap();
+    assert_eq!(record.state, State::InvalidWrite);
+    assert_eq!(record.timestamp, stamp(1, 5));
+    assert_eq!(record.written, stamp(1, 2));
+    assert_eq!(record.writer, 5);
+    l.deliver(&from(5, Message::Val(stamp(1, 5))), b"").unwrap();
+    assert_eq!(l.read(1), Ok(b"robin".as_slice()));
+
+    // The writer of the next one dies before its validation.
+    l.deliver(&from(5, Message::Inv(stamp(2, 5))), b"dunnock")
+        .unwrap();
+    assert_eq!(l.replay(1), Err(Refusal::NotReplayable));
+    assert_eq!(l.change_view(0, 0b110), Err(Refusal::OldEpoch));
+    assert_eq!(l.change_view(1, 0b111), Err(Refusal::ViewNotWithin));
+    assert_eq!(l.change_view(1, 0b110), Ok(()));
+    assert_eq!((l.epoch(), l.view()), (1, 0b110));
+    let again = Envelope {
+        epoch: 1,
+        ..from(2, Message::Inv(stamp(2, 5)))
+    };
+    assert_eq!(l.replay(1), Ok(Some(again)));
+    assert_eq!(
+        l.deliver(&from(1, Message::Ack(stamp(2, 5))), b""),
+        Err(Refusal::OtherEpoch)
+    );
+}
+
+#[test]
+fn a_struck_off_laptop_is_refused() {
+    let mut l = laptop();
+    l.change_view(1, 0b10_0010).unwrap();
+    assert_eq!(l.read(0), Err(Refusal::StruckOff));
+    assert_eq!(l.change_view(2, 0b10_0010), Err(Refusal::StruckOff));
+    assert!(l.shows_valid(0));
+}
+
+#[test]
+fn values_of_192_and_193_bytes() {
+    let mut l = laptop();
+    let before = l.clone();
+    assert_eq!(l.write(0, &[1; 193]), Err(Refusal::ValueTooLong));
+    assert_eq!(l, before);
+    let inv = from(5, Message::Inv(stamp(1, 5)));
+    assert_eq!(l.deliver(&inv, &[2; 193]), Err(Refusal::IllFormed));
+    assert_eq!(l, before);
+    assert!(l.deliver(&inv, &[2; 192]).is_ok());
+    assert_eq!(l.store()[192..384], [2; 192]);
+    assert!(l.write(0, &[1; 192]).is_ok());
+    assert_eq!(l.store()[..192], [1; 192]);
+    assert_eq!(l.record(0).unwrap().len, 192);
+}
+
+#[test]
+fn records_4095_and_4096() {
+    assert_eq!(Laptop::start(2, 38, 4097).err(), Some(Refusal::LentMemory));
+    let mut l = Laptop::start(2, 38, Record::COUNT_MAX).unwrap();
+    assert_eq!(l.write(4096, b"x"), Err(Refusal::StrayRecord));
+    assert_eq!(l.write(usize::MAX, b"x"), Err(Refusal::StrayRecord));
+    assert_eq!(l.record(4096), None);
+    assert_eq!(l.write(4095, b"x").unwrap().unwrap().record, 4095);
+    assert_eq!(l.store()[4095 * 192], b'x');
+}
+
+#[test]
+fn the_last_version() {
+    let mut l = laptop();
+    l.deliver(&from(5, Message::Inv(stamp(u32::MAX - 1, 5))), b"")
+        .unwrap();
+    assert!(l.write(1, b"").is_ok());
+    assert_eq!(l.record(1).unwrap().timestamp, stamp(u32::MAX, 2));
+    let mut l = laptop();
+    l.deliver(&from(5, Message::Inv(stamp(u32::MAX, 5))), b"")
+        .unwrap();
+    assert_eq!(l.write(1, b""), Err(Refusal::LastVersion));
+}
+
+#[test]
+fn lent_memory_keeps_what_an_event_left() {
+    let mut words = [0; 2 * Record::WORDS];
+    let mut store = [7; 2 * Record::VALUE_MAX];
+    let mut lent = Laptop::start_in(2, 38, &mut words[..], &mut store[..]).unwrap();
+    lent.write(1, b"wren").unwrap();
+    let (me, _, _) = lent.into_parts();
+    assert_eq!(
+        me,
+        Replica {
+            number: 2,
+            view: 38,
+            epoch: 0
+        }
+    );
+    assert_eq!(words[8..], [3, 1, 2, 2, 1, 2, 0, 4]);
+    assert_eq!(store[192..196], *b"wren");
+
+    let mut lent = Laptop::from_parts(me, &mut words, &mut store);
+    assert_eq!(lent.record(1).unwrap().state, State::Write);
+    assert_eq!(lent.write(1, b"robin"), Err(Refusal::NotWritable));
+    assert_eq!(
+        lent.resend(1).unwrap().unwrap().message,
+        Message::Inv(stamp(1, 2))
+    );
+}
+
+#[test]
+fn damaged_memory_is_refused() {
+    let me = Replica {
+        number: 2,
+        view: 38,
+        epoch: 0,
+    };
+    let (_, mut words, mut store) = laptop().into_parts();
+    words[8] = 5; // no state
+    let mut lent = Laptop::from_parts(me, &mut words, &mut store);
+    assert_eq!(lent.record(1), None);
+    assert_eq!(lent.write(1, b""), Err(Refusal::UnsoundRecord));
+    assert!(lent.write(0, b"").is_ok());
+
+    let mut lent = Laptop::from_parts(me, &mut words[..23], &mut store);
+    assert_eq!(lent.count(), 0);
+    assert_eq!(lent.write(0, b""), Err(Refusal::LentMemory));
+    let mut lent = Laptop::from_parts(me, &mut words, &mut store[1..]);
+    assert_eq!(lent.write(0, b""), Err(Refusal::LentMemory));
+}
+
+#[test]
+fn records_and_their_words() {
+    let record = Record {
+        state: State::Replay,
+        timestamp: stamp(0x0102_0304, 5),
+        writer: 6,
+        written: stamp(0x0506_0708, 9),
+        acks: 0x8001,
+        len: 192,
+    };
+    let words = [4, 0x0102_0304, 5, 6, 0x0506_0708, 9, 0x8001, 192];
+    assert_eq!(record.to_words(), words);
+    assert_eq!(Record::from_words(words), Some(record));
+    for state in State::ALL {
+        let record = Record { state, ..record };
+        assert_eq!(Record::from_words(record.to_words()), Some(record));
+    }
+    for (place, beyond) in [(0, 5), (2, 256), (3, 256), (5, 256), (6, 65_536), (7, 256)] {
+        let mut words = words;
+        words[place] = beyond;
+        assert_eq!(Record::from_words(words), None);
+    }
+}
+
+#[test]
+fn timestamps_are_ordered_by_version_then_tie_breaker() {
+    let rising = [stamp(0, 15), stamp(1, 0), stamp(1, 5), stamp(2, 0)];
+    assert!(rising.is_sorted_by(|a, b| a < b));
+}
+
+#[test]
+fn sets_of_laptops() {
+    assert_eq!(Members::from_iter([5, 1, 16, 200, 2, 1]).bits(), 38);
+    assert_eq!(Members::from(0x8001).iter().collect::<Vec<_>>(), [0, 15]);
+    assert_eq!(Members::from(38).len(), 3);
+    assert!(Members::from(0).is_empty());
+    assert!(!Members::from(0xffff).contains(16));
+    assert!(!Members::from(0xffff).contains(255));
+}

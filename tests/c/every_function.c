@@ -1,0 +1,192 @@
+/* Calls every function of include/cetskobi.h and checks every number of the answers; few are alike, so a wrong declaration shows.
+ * Run by tests/c.sh. */
+#include "cetskobi.h"
+#include <stdio.h>
+#include <string.h>
+
+static int failed;
+
+#define CHECK(fact) check((fact), #fact, __LINE__)
+
+static void check(int holds, const char *fact, int line) {
+    if (!holds) {
+        printf("every_function.c:%d: not so: %s\n", line, fact);
+        failed = 1;
+    }
+}
+
+/* A version with four different bytes. */
+#define VERSION UINT32_C(0x01020304)
+
+/* Laptop 2 with view {1,2,5} at epoch 9, two records. */
+enum { COUNT = 2, TABLE_WORDS = COUNT * CETSKOBI_WORDS, STORE = COUNT * CETSKOBI_VALUE_MAX };
+static const struct cetskobi_replica me = {.number = 2, .view = 38, .epoch = 9};
+static const struct cetskobi_record fresh = {.tie = 1, .writer = 1, .written_tie = 1};
+static struct cetskobi_record table[COUNT];
+static uint8_t store[STORE];
+
+#define WORDS (uint32_t *)table, TABLE_WORDS
+#define LENT me, WORDS, store, STORE
+
+/* Record 1 as given, record 0 fresh, the store all sevens. */
+static void lay(struct cetskobi_record record) {
+    table[0] = fresh;
+    table[1] = record;
+    memset(store, 7, sizeof store);
+}
+
+static int is(struct cetskobi_record record) {
+    return memcmp(&table[0], &fresh, sizeof fresh) == 0 && memcmp(&table[1], &record, sizeof record) == 0;
+}
+
+/* Record 1's value, the rest of its room zero; record 0's room as it was. */
+static int holds(const char *value) {
+    uint8_t want[STORE] = {0};
+    memset(want, 7, CETSKOBI_VALUE_MAX);
+    memcpy(want + CETSKOBI_VALUE_MAX, value, strlen(value));
+    return memcmp(store, want, sizeof store) == 0;
+}
+
+static int answers(struct cetskobi_answer a, int number, int kind, int tie, uint32_t version) {
+    return a.number == number && a.kind == kind && a.tie == tie && a.version == version;
+}
+
+static int admits(struct cetskobi_admission a, int number, struct cetskobi_replica r) {
+    return a.number == number && a.replica.number == r.number && a.replica.view == r.view && a.replica.epoch == r.epoch;
+}
+
+static void layouts(void) {
+    CHECK(sizeof(struct cetskobi_record) == CETSKOBI_WORDS * sizeof(uint32_t));
+    CHECK(sizeof(struct cetskobi_entry) == CETSKOBI_ENTRY_WORDS * sizeof(uint32_t));
+}
+
+static void membership(void) {
+    memset(table, 9, sizeof table);
+    memset(store, 7, sizeof store);
+    struct cetskobi_replica newcomer = {.number = 3, .view = 38, .epoch = 0};
+    CHECK(admits(cetskobi_start(3, 38, WORDS, store, STORE), 3, newcomer));
+    CHECK(cetskobi_start(5, 38, WORDS, store, STORE - 1).number == 2);
+    CHECK(table[0].state == 0x09090909 && store[0] == 7);
+    newcomer.number = 5;
+    CHECK(admits(cetskobi_start(5, 38, WORDS, store, STORE), 0, newcomer));
+    CHECK(is(fresh));
+    CHECK(store[0] == 0 && store[STORE - 1] == 0);
+
+    struct cetskobi_replica later = {.number = 2, .view = 6, .epoch = VERSION};
+    CHECK(admits(cetskobi_view(me, VERSION, 6), 0, later));
+    CHECK(admits(cetskobi_view(me, 9, 6), 18, me));
+    CHECK(admits(cetskobi_view(me, 10, 7), 19, me));
+}
+
+static void writing(void) {
+    const uint8_t value[CETSKOBI_VALUE_MAX + 1] = "wing";
+    lay((struct cetskobi_record){0, VERSION - 1, 5, 5, 0, 1, 0, 62});
+    struct cetskobi_read r = cetskobi_read(LENT, 1);
+    CHECK(r.number == 0 && r.len == 62);
+    r = cetskobi_read(LENT, COUNT);
+    CHECK(r.number == 4 && r.len == 0);
+    CHECK(answers(cetskobi_write(LENT, 1, value, sizeof value), 8, 0, 0, 0));
+    CHECK(answers(cetskobi_write(LENT, 1, value, 4), 0, 1, 2, VERSION));
+    CHECK(is((struct cetskobi_record){3, VERSION, 2, 2, VERSION, 2, 0, 4}));
+    CHECK(holds("wing"));
+    CHECK(cetskobi_body(WORDS, store, STORE, 1, CETSKOBI_INV) == 4);
+    CHECK(cetskobi_body(WORDS, store, STORE, 1, CETSKOBI_ACK) == 0);
+    CHECK(cetskobi_body(WORDS, store, STORE, COUNT, CETSKOBI_INV) == 0);
+}
+
+static void recipients(void) {
+    CHECK(cetskobi_recipients(me, CETSKOBI_NONE, 5) == 0);
+    CHECK(cetskobi_recipients(me, CETSKOBI_INV, 5) == 34);
+    CHECK(cetskobi_recipients(me, CETSKOBI_ACK, 5) == 32);
+    CHECK(cetskobi_recipients(me, CETSKOBI_VAL, 5) == 34);
+}
+
+static void delivery(void) {
+    const uint8_t *value = (const uint8_t *)"weight";
+    struct cetskobi_message inv = {.kind = CETSKOBI_INV, .sender = 5, .tie = 4, .epoch = 9, .version = VERSION};
+    struct cetskobi_message other = inv;
+    lay((struct cetskobi_record){3, 6, 2, 2, 6, 2, 2, 62});
+    other.epoch = 4;
+    CHECK(cetskobi_deliver(LENT, 1, other, value, 6).number == 10);
+    other = inv;
+    other.sender = 4;
+    CHECK(cetskobi_deliver(LENT, 1, other, value, 6).number == 11);
+    other = inv;
+    other.kind = CETSKOBI_VAL;
+    CHECK(cetskobi_deliver(LENT, 1, other, value, 6).number == 12);
+    CHECK(cetskobi_deliver(LENT, 1, other, value, 0).number == 14);
+    CHECK(answers(cetskobi_deliver(LENT, 1, inv, value, 6), 0, 2, 4, VERSION));
+    CHECK(is((struct cetskobi_record){2, VERSION, 4, 5, 6, 2, 2, 6}));
+    CHECK(holds("weight"));
+}
+
+static void ending(void) {
+    lay((struct cetskobi_record){1, VERSION, 4, 4, 6, 2, 2, 62});
+    CHECK(answers(cetskobi_replay(LENT, 0), 16, 0, 0, 0));
+    CHECK(answers(cetskobi_replay(LENT, 1), 0, 1, 4, VERSION));
+    CHECK(is((struct cetskobi_record){4, VERSION, 4, 2, VERSION, 4, 0, 62}));
+    CHECK(answers(cetskobi_resend(LENT, 1), 0, 1, 4, VERSION));
+    CHECK(is((struct cetskobi_record){4, VERSION, 4, 2, VERSION, 4, 0, 62}));
+    CHECK(answers(cetskobi_validate(LENT, 1), 15, 0, 0, 0));
+    table[1].acks = 34;
+    CHECK(answers(cetskobi_validate(LENT, 1), 0, 3, 4, VERSION));
+    CHECK(is((struct cetskobi_record){0, VERSION, 4, 2, VERSION, 4, 34, 62}));
+    CHECK(answers(cetskobi_resend(LENT, 1), 0, 3, 4, VERSION));
+}
+
+static void packets(void) {
+    const struct cetskobi_entry entries[2] = {
+        {CETSKOBI_INV, 5, 9, 1, VERSION, 4, 4},
+        {CETSKOBI_ACK, 5, 0, 7, 1, 2, 0},
+    };
+    const uint8_t want[40] = {1, 2, 0, 40, 1, 5, 0, 0, 0, 9, 0, 1, 1, 2, 3, 4, 4, 0,   36,  4,
+                              2, 5, 0, 0,  0, 0, 0, 7, 0, 0, 0, 1, 2, 0, 40, 0, 'w', 'i', 'n', 'g'};
+    const uint8_t *bodies = (const uint8_t *)"wing";
+    uint8_t out[41];
+    memset(out, 0xee, sizeof out);
+    struct cetskobi_written w = cetskobi_pack((const uint32_t *)entries, 2 * CETSKOBI_ENTRY_WORDS, bodies, 3, out, 41);
+    CHECK(w.number == 24 && w.len == 0);
+    w = cetskobi_pack((const uint32_t *)entries, 2 * CETSKOBI_ENTRY_WORDS, bodies, 4, out, 39);
+    CHECK(w.number == 25 && w.len == 0);
+    CHECK(out[0] == 0xee);
+    w = cetskobi_pack((const uint32_t *)entries, 2 * CETSKOBI_ENTRY_WORDS, bodies, 4, out, 41);
+    CHECK(w.number == 0 && w.len == 40);
+    CHECK(memcmp(out, want, 40) == 0 && out[40] == 0xee);
+
+    struct cetskobi_fetched f = cetskobi_fetch(out, 40, 0);
+    CHECK(f.number == 0 && f.kind == CETSKOBI_INV && f.sender == 5 && f.tie == 4 && f.epoch == 9);
+    CHECK(f.version == VERSION && f.index == 1 && f.at == 36 && f.len == 4);
+    f = cetskobi_fetch(out, 40, 1);
+    CHECK(f.number == 0 && f.kind == CETSKOBI_ACK && f.sender == 5 && f.tie == 2 && f.epoch == 0);
+    CHECK(f.version == 1 && f.index == 7 && f.at == 40 && f.len == 0);
+    f = cetskobi_fetch(out, 40, 2);
+    CHECK(f.number == 23 && f.at == 0 && f.len == 0);
+
+    lay(fresh);
+    CHECK(cetskobi_deliver_packet(LENT, out, 41, 0).number == 20);
+    CHECK(cetskobi_deliver_packet(LENT, out, 40, 1).number == 4);
+    CHECK(answers(cetskobi_deliver_packet(LENT, out, 40, 0), 0, 2, 4, VERSION));
+    CHECK(is((struct cetskobi_record){1, VERSION, 4, 5, 0, 1, 0, 4}));
+    CHECK(holds("wing"));
+}
+
+static void playing(void) {
+    const char script[] = "group 2\nwrite 0 A1\n";
+    uint8_t out[25 * sizeof script];
+    struct cetskobi_written w = cetskobi_play((const uint8_t *)script, strlen(script), out, 9);
+    CHECK(w.number == 255 && w.len == 0);
+    w = cetskobi_play((const uint8_t *)script, strlen(script), out, sizeof out);
+    CHECK(w.number == 0 && w.len == 10 && memcmp(out, "0 W 1 0 0\n", 10) == 0);
+}
+
+int main(void) {
+    layouts();
+    membership();
+    writing();
+    recipients();
+    delivery();
+    ending();
+    packets();
+    playing();
+    return failed;
+}
