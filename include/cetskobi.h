@@ -1,8 +1,13 @@
-/* The replication engine for C. Link with the archive that `rt staticlib ffi` makes: cc -O2 main.c -Iinclude -Ltarget/staticlib -lffi
+/* The replication engine for C. Link with the archive that `rt staticlib ffi` makes: cc -O2 main.c -Iinclude target/staticlib/libffi.a
  *
  * The table is an array of words, eight for each record, so an array of struct cetskobi_record is one. The store is 192 bytes for each
- * record, at 192 times its number. A slice is a pointer and a length in elements. Every function takes every input: a refused event
- * gives the number of its question and changes nothing lent. */
+ * record, at 192 times its number.
+ *
+ * Memory is passed as a pointer and a length in elements: that many elements are there, and none needs be where the length is 0. What a
+ * function writes (words, store, out) overlaps nothing else passed to the same call: copy a text out of the store before it is saved again.
+ * Beyond that every function takes every input. It answers 0 or the number of the question that said no (docs/GUIDE.md, part 4, has them
+ * all); then nothing lent has changed, and the other fields of the answer are 0. Only an admission that is refused has an identity: the
+ * old one of a view, the one asked for of a start. */
 #ifndef CETSKOBI_H
 #define CETSKOBI_H
 
@@ -19,7 +24,7 @@ struct cetskobi_record {
     uint32_t version;
     uint32_t tie;
     uint32_t writer;          /* the last writer */
-    uint32_t written_version; /* the last-write stamp */
+    uint32_t written_version; /* the last-write timestamp */
     uint32_t written_tie;
     uint32_t acks; /* the set of replicas whose acknowledgement has come */
     uint32_t len;  /* of the value, in bytes */
@@ -36,7 +41,7 @@ struct cetskobi_replica {
 
 enum { CETSKOBI_NONE = 0, CETSKOBI_INV = 1, CETSKOBI_ACK = 2, CETSKOBI_VAL = 3 };
 
-/* 0 or the number of the question that said no; and the message that leaves, with its stamp. */
+/* 0 or the number of the question that said no; and the message that leaves, with its timestamp. */
 struct cetskobi_answer {
     uint8_t number;
     uint8_t kind;
@@ -117,7 +122,8 @@ struct cetskobi_admission cetskobi_view(struct cetskobi_replica me, uint32_t epo
 struct cetskobi_admission cetskobi_start(uint8_t number, uint16_t view, uint32_t *words, size_t words_len, uint8_t *store,
                                          size_t store_len);
 
-/* What leaves: how many bytes at 192 times i a message of this kind about record i takes along, right after the event that sent it. */
+/* What leaves: how many bytes at 192 times i a message of this kind about record i takes along, right after the event that sent it:
+ * later the record may hold another text. */
 size_t cetskobi_body(const uint32_t *words, size_t words_len, const uint8_t *store, size_t store_len, size_t i, uint8_t kind);
 /* Who gets a message of this kind: bit n for replica n. sender is that of the delivered message; only an ACK asks it. */
 uint16_t cetskobi_recipients(struct cetskobi_replica me, uint8_t kind, uint8_t sender);

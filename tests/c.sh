@@ -11,7 +11,7 @@ trap 'rm -rf "$dir"' EXIT
 bad=0
 
 build() { # SOURCE PROGRAM
-    cc -std=c99 -Wall -Wextra -Wpedantic -Werror -O2 "$1" -Iinclude -Ltarget/staticlib -lffi -o "$dir/$2" || bad=1
+    cc -std=c99 -Wall -Wextra -Wpedantic -Werror -O2 "$1" -Iinclude target/staticlib/libffi.a -o "$dir/$2" || bad=1
 }
 
 build tests/c/every_function.c every_function

@@ -4,3 +4,4 @@ pub mod Parts
 pub mod Ends
 pub mod Started
 pub mod Sent
+pub mod Unmoved

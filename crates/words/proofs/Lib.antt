@@ -1,4 +1,5 @@
 -- Laws of records as words.
+pub mod Back
 pub mod Lent
 pub mod RoundTrip
 pub mod Table

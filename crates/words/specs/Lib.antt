@@ -1,2 +1,3 @@
 -- Records as words.
+pub mod Back
 pub mod Words
