@@ -1,6 +1,6 @@
 // How identities, messages and answers cross as numbers.
 ghost use mathlib.Core.Path.{_≡_};
-ghost use Rattle.ffi.specs.Crossing.{replicaOf, identityOf, messageOut, outgoingOut, answerOut, admissionOut, messageIn, receivedIn};
+ghost use Rattle.ffi.specs.Crossing.{replicaOf, identityOf, answering, messageOut, outgoingOut, answerOut, admissionOut, messageIn, receivedIn};
 ghost use Rattle.hermes.specs.Event.{numberOf};
 use hermes::Admission;
 use hermes::Answer;
@@ -61,28 +61,25 @@ pub(crate) fn replica_of(me: CetskobiReplica) -> Replica
     }
 }
 
+// An answer, by its numbers.
+fn answering(number: u8, kind: u8, tie: u8, version: u32) -> CetskobiAnswer
+    ensures { λ a. ⌜ a ≡ answering number kind tie version ⌝ }
+{
+    CetskobiAnswer {
+        number: number,
+        kind: kind,
+        tie: tie,
+        version: version,
+    }
+}
+
 fn message_out(m: Message) -> CetskobiAnswer
     ensures { λ a. ⌜ a ≡ messageOut m ⌝ }
 {
     match m {
-        Message::Inv(t) => CetskobiAnswer {
-            number: 0,
-            kind: 1,
-            tie: t.tie,
-            version: t.version,
-        },
-        Message::Ack(t) => CetskobiAnswer {
-            number: 0,
-            kind: 2,
-            tie: t.tie,
-            version: t.version,
-        },
-        Message::Val(t) => CetskobiAnswer {
-            number: 0,
-            kind: 3,
-            tie: t.tie,
-            version: t.version,
-        },
+        Message::Inv(t) => answering(0, 1, t.tie, t.version),
+        Message::Ack(t) => answering(0, 2, t.tie, t.version),
+        Message::Val(t) => answering(0, 3, t.tie, t.version),
     }
 }
 
@@ -90,12 +87,7 @@ fn outgoing_out(o: Outgoing) -> CetskobiAnswer
     ensures { λ a. ⌜ a ≡ outgoingOut o ⌝ }
 {
     match o {
-        Outgoing::None => CetskobiAnswer {
-            number: 0,
-            kind: 0,
-            tie: 0,
-            version: 0,
-        },
+        Outgoing::None => answering(0, 0, 0, 0),
         Outgoing::Sent(m, _) => message_out(m),
     }
 }
@@ -105,12 +97,7 @@ pub(crate) fn answer_out(a: Answer) -> CetskobiAnswer
 {
     match a {
         Answer::Accepted(o) => outgoing_out(o),
-        Answer::Refused(k) => CetskobiAnswer {
-            number: k,
-            kind: 0,
-            tie: 0,
-            version: 0,
-        },
+        Answer::Refused(k) => answering(k, 0, 0, 0),
     }
 }
 
