@@ -9,15 +9,9 @@ use lib.ListN.{length, take, set, replicate}
 use lib.Seq.{append-snoc, set-at, take-at, take-length}
 use borrow.Author.Tests.{leb-true}
 use Rattle.packet.specs.declared.entry.Entry.{Entry}
-use Rattle.packet.specs.Entry.{fieldsFor, good}
 use Rattle.packet.specs.declared.answer.Written.{Written}
 use Rattle.packet.specs.Writing.{writeRefusal, written, outputOf}
 use Rattle.entries.specs.Words.{unfit, entryAt, countIn, entriesFrom, messagesIn, arrayIn}
-
--- question 24, "fields as in 22", says no to what stands for no message
-pub unfit-refused : good (fieldsFor unfit 0) ≡ false
-unfolding good
-unfit-refused = refl
 
 -- ---- the count
 

@@ -14,13 +14,13 @@ use hermes::Record;
 use hermes::Replica;
 
 // Whom an event is asked of, of how many records, and on which.
-struct Subject {
-    who: Replica,
-    count: usize,
-    found: Record,
+pub(crate) struct Subject {
+    pub(crate) who: Replica,
+    pub(crate) count: usize,
+    pub(crate) found: Record,
 }
 
-fn subject_of(me: CetskobiReplica, words: &[u32], i: usize) -> Subject
+pub(crate) fn subject_of(me: CetskobiReplica, words: &[u32], i: usize) -> Subject
     ensures { λ s. ⌜ s ≡ subjectOf me (now (words .entry)) i ⌝ }
 {
     let who = crossing::replica_of(me);

@@ -6,7 +6,6 @@ ghost use Rattle.packet.specs.Writing.{outputOf};
 ghost use Rattle.entries.specs.Words.{messagesIn};
 ghost use Rattle.ffi.specs.Packets.{fetchedOut, writtenOut, packed, indexOf, Arrived};
 ghost use Rattle.ffi.specs.Events.{nodeOf};
-use crate::crossing;
 use crate::crossing::CetskobiAnswer;
 use crate::crossing::CetskobiReplica;
 use crate::events;
@@ -119,8 +118,7 @@ pub extern "C" fn cetskobi_deliver_packet(
 {
     let fetched = packet::fetch(packet, i);
     let index = index_of(fetched);
-    let r = words::record_at(words, index);
-    let count = words::count(words.len());
-    let m = inbox::deliver_fetched(crossing::replica_of(me), count, r, store, packet, fetched);
+    let s = events::subject_of(me, words, index);
+    let m = inbox::deliver_fetched(s.who, s.count, s.found, store, packet, fetched);
     events::finish(words, index, m)
 }

@@ -1,5 +1,6 @@
 -- `ffi::packets::cetskobi_deliver_packet` meets its contract.
 use Rattle.ffi.proofs.Arrivals.{arrived}
+use Rattle.ffi.proofs.Ends.{taken}
 use borrow.Author.Needs.{needs}
 use Rattle.ffi.proofs.packets.cetskobi_deliver_packet.Statement.{statement}
 use Rattle.ffi.proofs.packets.cetskobi_deliver_packet.Tie as tie
@@ -10,14 +11,8 @@ fetch-requires c κs = search needs
 index-of-requires : tie.Need-index-of-requires
 index-of-requires c κs = search needs
 
-record-at-requires : tie.Need-record-at-requires
-record-at-requires c κs = search needs
-
-count-requires : tie.Need-count-requires
-count-requires c κs = search needs
-
-replica-of-requires : tie.Need-replica-of-requires
-replica-of-requires c κs = search needs
+subject-of-requires : tie.Need-subject-of-requires
+subject-of-requires c κs = search needs
 
 deliver-fetched-requires : tie.Need-deliver-fetched-requires
 deliver-fetched-requires c κs = search needs
@@ -33,11 +28,10 @@ same-length-2 c = search needs
 
 returns : tie.Need-returns
 returns c =
-    let v = c .before .before .before .before .before .before .before .before .before .before .before .before .before .before .before .before .before .args in
-    let k = c .before .before .before .before .before .before .before .before .before .before .before .before .index-of .ensures in
-    rw (← c .before .before .before .before .before .before .before .before .before .before .before .before .before .fetch .ensures)
-    (arrived (v .me) (v .words .now) (v .store .now) (v .packet .now) _ _ _ _
-    (record { identity = c .before .before .before .before .before .before .before .before .replica-of .ensures; counted = c .before .before .before .before .before .before .before .before .before .count .ensures; found = rw k at (c .before .before .before .before .before .before .before .before .before .before .record-at .ensures) })
+    let v = c .before .before .before .before .before .before .before .before .before .before .before .before .before .before .before .args in
+    let k = c .before .before .before .before .before .before .before .before .before .before .index-of .ensures in
+    rw (← c .before .before .before .before .before .before .before .before .before .before .before .fetch .ensures)
+    (arrived (v .me) (v .words .now) (v .store .now) (v .packet .now) _ _ _ _ (taken _ _ _ _ (rw k at (c .before .before .before .before .before .before .before .before .subject-of .ensures)))
     _ _ _ _ (c .before .before .before .before .before .before .deliver-fetched .ensures) (rw k at (c .before .before .finish .ensures)))
 
 pub cetskobi-deliver-packet-spec : {M : Type 1} → statement M
@@ -46,9 +40,7 @@ cetskobi-deliver-packet-spec =
     (tie.spec
     fetch-requires
     index-of-requires
-    record-at-requires
-    count-requires
-    replica-of-requires
+    subject-of-requires
     deliver-fetched-requires
     finish-requires
     same-length
