@@ -3,7 +3,7 @@
 use std::fmt;
 
 use crate::sys::{Answer, WORDS};
-use crate::{engine, packet, Envelope, Members, Message, Record, Refusal, Replica, State};
+use crate::{packet, raw, Envelope, Members, Message, Record, Refusal, Replica, State};
 
 /// A laptop on memory that the caller lends: [`Laptop::start_in`] and
 /// [`Laptop::from_parts`].
@@ -53,7 +53,7 @@ impl<W: AsMut<[u32]>, S: AsMut<[u8]>> Laptop<W, S> {
     ///
     /// As [`Laptop::start`].
     pub fn start_in(number: u8, view: u16, mut words: W, mut store: S) -> Result<Self, Refusal> {
-        let admission = engine::start(number, view, words.as_mut(), store.as_mut());
+        let admission = raw::start(number, view, words.as_mut(), store.as_mut());
         Refusal::check(admission.number)?;
         let me = admission.replica;
         Ok(Laptop { me, words, store })
@@ -67,7 +67,7 @@ impl<W: AsMut<[u32]>, S: AsMut<[u8]>> Laptop<W, S> {
     /// [`ValueTooLong`](Refusal::ValueTooLong), [`LastVersion`](Refusal::LastVersion).
     pub fn write(&mut self, i: usize, value: &[u8]) -> Result<Option<Envelope>, Refusal> {
         let (me, words, store) = self.parts();
-        let answer = engine::write(me, words, store, i, value);
+        let answer = raw::write(me, words, store, i, value);
         self.answered(answer, i)
     }
 
@@ -79,7 +79,7 @@ impl<W: AsMut<[u32]>, S: AsMut<[u8]>> Laptop<W, S> {
     /// Questions 1 to 5, then [`NotReplayable`](Refusal::NotReplayable).
     pub fn replay(&mut self, i: usize) -> Result<Option<Envelope>, Refusal> {
         let (me, words, store) = self.parts();
-        let answer = engine::replay(me, words, store, i);
+        let answer = raw::replay(me, words, store, i);
         self.answered(answer, i)
     }
 
@@ -91,7 +91,7 @@ impl<W: AsMut<[u32]>, S: AsMut<[u8]>> Laptop<W, S> {
     /// Questions 1 to 5, then [`NotFinished`](Refusal::NotFinished).
     pub fn validate(&mut self, i: usize) -> Result<Option<Envelope>, Refusal> {
         let (me, words, store) = self.parts();
-        let answer = engine::validate(me, words, store, i);
+        let answer = raw::validate(me, words, store, i);
         self.answered(answer, i)
     }
 
@@ -102,7 +102,7 @@ impl<W: AsMut<[u32]>, S: AsMut<[u8]>> Laptop<W, S> {
     /// Questions 1 to 5, then [`NotResendable`](Refusal::NotResendable).
     pub fn resend(&mut self, i: usize) -> Result<Option<Envelope>, Refusal> {
         let (me, words, store) = self.parts();
-        let answer = engine::resend(me, words, store, i);
+        let answer = raw::resend(me, words, store, i);
         self.answered(answer, i)
     }
 
@@ -121,7 +121,7 @@ impl<W: AsMut<[u32]>, S: AsMut<[u8]>> Laptop<W, S> {
     ) -> Result<Option<Envelope>, Refusal> {
         let i = envelope.record;
         let (me, words, store) = self.parts();
-        let answer = engine::deliver(me, words, store, i, envelope.to_raw(), body);
+        let answer = raw::deliver(me, words, store, i, envelope.to_raw(), body);
         self.answered(answer, i)
     }
 
@@ -132,7 +132,7 @@ impl<W: AsMut<[u32]>, S: AsMut<[u8]>> Laptop<W, S> {
     /// Those of [`packet::fetch`], then those of [`deliver`](Laptop::deliver).
     pub fn deliver_packet(&mut self, packet: &[u8], i: usize) -> Result<Option<Envelope>, Refusal> {
         let (me, words, store) = self.parts();
-        let answer = engine::deliver_packet(me, words, store, packet, i);
+        let answer = raw::deliver_packet(me, words, store, packet, i);
         // The answer is about the record that the message names.
         let record = match answer.kind {
             0 => 0,
@@ -181,7 +181,7 @@ impl<W, S> Laptop<W, S> {
     /// A view without this laptop is accepted, and every later event refused
     /// as struck off.
     pub fn change_view(&mut self, epoch: u32, view: u16) -> Result<(), Refusal> {
-        let admission = engine::view(self.me, epoch, view);
+        let admission = raw::view(self.me, epoch, view);
         Refusal::check(admission.number)?;
         self.me = admission.replica;
         Ok(())
@@ -191,7 +191,7 @@ impl<W, S> Laptop<W, S> {
     /// the INV that it acknowledges, `inv_sender`; otherwise all others in the
     /// view, and `inv_sender` is not looked at.
     pub fn recipients(&self, envelope: &Envelope, inv_sender: u8) -> Members {
-        Members::from(engine::recipients(
+        Members::from(raw::recipients(
             self.me,
             envelope.message.kind(),
             inv_sender,
@@ -264,7 +264,7 @@ impl<W: AsRef<[u32]>, S: AsRef<[u8]>> Laptop<W, S> {
     ///
     /// Questions 1 to 5, then [`NotReadable`](Refusal::NotReadable).
     pub fn read(&self, i: usize) -> Result<&[u8], Refusal> {
-        let read = engine::read(self.me, self.words(), self.store(), i);
+        let read = raw::read(self.me, self.words(), self.store(), i);
         Refusal::check(read.number)?;
         Ok(self.part(i, read.len))
     }
@@ -273,7 +273,7 @@ impl<W: AsRef<[u32]>, S: AsRef<[u8]>> Laptop<W, S> {
     /// it: an INV's are the record's value, the others take none.
     pub fn body(&self, envelope: &Envelope) -> &[u8] {
         let i = envelope.record;
-        let len = engine::body(self.words(), self.store(), i, envelope.message.kind());
+        let len = raw::body(self.words(), self.store(), i, envelope.message.kind());
         self.part(i, len)
     }
 

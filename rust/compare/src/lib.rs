@@ -2,7 +2,6 @@
 //! damaged input. README.md says how to run it.
 
 pub mod bytes;
-pub mod engine;
 pub mod group;
 pub mod leaving;
 pub mod memory;

@@ -1,7 +1,7 @@
 //! The comparison can fail: wrong models are found, and the case that shows it
 //! is small.
 
-use cetskobi::sys::WORDS;
+use cetskobi::raw::WORDS;
 use compare::bytes::Bytes;
 use compare::memory::Memory;
 use compare::settings::Settings;
