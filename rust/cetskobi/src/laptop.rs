@@ -3,7 +3,7 @@
 use std::fmt;
 
 use crate::sys::{Answer, WORDS};
-use crate::{packet, raw, Envelope, Members, Message, Record, Refusal, Replica, State};
+use crate::{packet, raw, Envelope, Members, Message, Record, Refusal, Replica};
 
 /// A laptop on memory that the caller lends: [`Laptop::start_in`] and
 /// [`Laptop::from_parts`].
@@ -30,13 +30,13 @@ pub struct Laptop<W = Vec<u32>, S = Vec<u8>> {
 impl Laptop {
     /// A fresh start of laptop `number` with `count` records: epoch 0, every
     /// record valid and empty. All laptops of a group start with the same view,
-    /// bit n for laptop n, and the same count.
+    /// [`Members`] or 16 bits with bit n for laptop n, and the same count.
     ///
     /// # Errors
     ///
     /// [`Refusal::NoGroup`], [`Refusal::LentMemory`] (for the count) and
     /// [`Refusal::StruckOff`].
-    pub fn start(number: u8, view: u16, count: usize) -> Result<Laptop, Refusal> {
+    pub fn start(number: u8, view: impl Into<Members>, count: usize) -> Result<Laptop, Refusal> {
         // One record beyond the most is as wrong as a million.
         let count = count.min(Record::COUNT_MAX + 1);
         let words = vec![0; count * WORDS];
@@ -52,7 +52,13 @@ impl<W: AsMut<[u32]>, S: AsMut<[u8]>> Laptop<W, S> {
     /// # Errors
     ///
     /// As [`Laptop::start`].
-    pub fn start_in(number: u8, view: u16, mut words: W, mut store: S) -> Result<Self, Refusal> {
+    pub fn start_in(
+        number: u8,
+        view: impl Into<Members>,
+        mut words: W,
+        mut store: S,
+    ) -> Result<Self, Refusal> {
+        let view = view.into().bits();
         let admission = raw::start(number, view, words.as_mut(), store.as_mut());
         Refusal::check(admission.number)?;
         let me = admission.replica;
@@ -180,8 +186,8 @@ impl<W, S> Laptop<W, S> {
     /// [`OldEpoch`](Refusal::OldEpoch), [`ViewNotWithin`](Refusal::ViewNotWithin).
     /// A view without this laptop is accepted, and every later event refused
     /// as struck off.
-    pub fn change_view(&mut self, epoch: u32, view: u16) -> Result<(), Refusal> {
-        let admission = raw::view(self.me, epoch, view);
+    pub fn change_view(&mut self, epoch: u32, view: impl Into<Members>) -> Result<(), Refusal> {
+        let admission = raw::view(self.me, epoch, view.into().bits());
         Refusal::check(admission.number)?;
         self.me = admission.replica;
         Ok(())
@@ -249,13 +255,16 @@ impl<W: AsRef<[u32]>, S: AsRef<[u8]>> Laptop<W, S> {
 
     /// Record `i`; None beyond the table, or where its words are no record.
     pub fn record(&self, i: usize) -> Option<Record> {
-        let (records, _) = self.words().as_chunks::<WORDS>();
+        // Words over mean that there is no table.
+        let (records, []) = self.words().as_chunks::<WORDS>() else {
+            return None;
+        };
         records.get(i).and_then(|words| Record::from_words(*words))
     }
 
-    /// Whether record `i` is valid, so that the laptop shows it.
+    /// Whether the laptop shows record `i`: a read of it is accepted.
     pub fn shows_valid(&self, i: usize) -> bool {
-        self.record(i).is_some_and(|r| r.state == State::Valid)
+        self.read(i).is_ok()
     }
 
     /// The value of record `i`.
