@@ -53,7 +53,8 @@ fn same_text(group: &Group, members: &[&Laptop], i: usize) -> Result<(), Cause> 
     }
 }
 
-/// Nothing more comes of the record: every laptop is valid, hung, or waits for
+/// Nothing more comes of the record unless it is saved anew: every laptop is
+/// valid, hung, or waits for
 /// the VAL of one that will not send it, being hung or waiting itself.
 fn hangs(members: &[&Laptop], records: &[Record]) -> bool {
     let pairs = || members.iter().zip(records);
