@@ -3,7 +3,9 @@
 //!
 //! [`Laptop`](crate::Laptop) is the same with Rust's types. This is for software
 //! that wants the engine's own answers, for any words and any bytes: every input
-//! may be passed, also numbers of no laptop and words that are no record.
+//! may be passed, also numbers of no laptop and words that are no record. An
+//! answer's `number` is 0, or that of the question of document 01 that said no;
+//! then nothing that was lent has changed.
 //!
 //! A call is sound if each pointer and length come from one slice, and what is
 //! lent to be written overlaps nothing else. Rust's borrows say both.
@@ -16,7 +18,7 @@ pub use crate::sys::{Admission, Answer, Fetched, Message, Read, Replica, Written
 pub use crate::sys::{MESSAGE_WORDS, WORDS};
 
 /// Fresh start: the words and the store become those of fresh records, unless it
-/// is refused. The identity is epoch 0.
+/// is refused. The identity is of epoch 0.
 pub fn start(number: u8, view: u16, words: &mut [u32], store: &mut [u8]) -> Admission {
     let (w, w_len, s, s_len) = table_mut(words, store);
     // SAFETY: two slices, borrowed mutably at once, so apart.

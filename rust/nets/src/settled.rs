@@ -54,8 +54,8 @@ fn same_text(group: &Group, members: &[&Laptop], i: usize) -> Result<(), Cause> 
 }
 
 /// Nothing more comes of the record unless it is saved anew: every laptop is
-/// valid, hung, or waits for
-/// the VAL of one that will not send it, being hung or waiting itself.
+/// valid, hung, or waits for the VAL of one that will not send it, being hung or
+/// waiting itself.
 fn hangs(members: &[&Laptop], records: &[Record]) -> bool {
     let pairs = || members.iter().zip(records);
     let is_waiting = |r: &Record| matches!(r.state, State::Invalid | State::InvalidWrite);
