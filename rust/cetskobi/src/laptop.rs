@@ -3,7 +3,7 @@
 use std::fmt;
 
 use crate::sys::{Answer, WORDS};
-use crate::{engine, packet, Envelope, Members, Message, Record, Refusal, Replica, State};
+use crate::{packet, raw, Envelope, Members, Message, Record, Refusal, Replica};
 
 /// A laptop on memory that the caller lends: [`Laptop::start_in`] and
 /// [`Laptop::from_parts`].
@@ -30,13 +30,13 @@ pub struct Laptop<W = Vec<u32>, S = Vec<u8>> {
 impl Laptop {
     /// A fresh start of laptop `number` with `count` records: epoch 0, every
     /// record valid and empty. All laptops of a group start with the same view,
-    /// bit n for laptop n, and the same count.
+    /// [`Members`] or 16 bits with bit n for laptop n, and the same count.
     ///
     /// # Errors
     ///
     /// [`Refusal::NoGroup`], [`Refusal::LentMemory`] (for the count) and
     /// [`Refusal::StruckOff`].
-    pub fn start(number: u8, view: u16, count: usize) -> Result<Laptop, Refusal> {
+    pub fn start(number: u8, view: impl Into<Members>, count: usize) -> Result<Laptop, Refusal> {
         // One record beyond the most is as wrong as a million.
         let count = count.min(Record::COUNT_MAX + 1);
         let words = vec![0; count * WORDS];
@@ -52,8 +52,14 @@ impl<W: AsMut<[u32]>, S: AsMut<[u8]>> Laptop<W, S> {
     /// # Errors
     ///
     /// As [`Laptop::start`].
-    pub fn start_in(number: u8, view: u16, mut words: W, mut store: S) -> Result<Self, Refusal> {
-        let admission = engine::start(number, view, words.as_mut(), store.as_mut());
+    pub fn start_in(
+        number: u8,
+        view: impl Into<Members>,
+        mut words: W,
+        mut store: S,
+    ) -> Result<Self, Refusal> {
+        let view = view.into().bits();
+        let admission = raw::start(number, view, words.as_mut(), store.as_mut());
         Refusal::check(admission.number)?;
         let me = admission.replica;
         Ok(Laptop { me, words, store })
@@ -67,7 +73,7 @@ impl<W: AsMut<[u32]>, S: AsMut<[u8]>> Laptop<W, S> {
     /// [`ValueTooLong`](Refusal::ValueTooLong), [`LastVersion`](Refusal::LastVersion).
     pub fn write(&mut self, i: usize, value: &[u8]) -> Result<Option<Envelope>, Refusal> {
         let (me, words, store) = self.parts();
-        let answer = engine::write(me, words, store, i, value);
+        let answer = raw::write(me, words, store, i, value);
         self.answered(answer, i)
     }
 
@@ -79,7 +85,7 @@ impl<W: AsMut<[u32]>, S: AsMut<[u8]>> Laptop<W, S> {
     /// Questions 1 to 5, then [`NotReplayable`](Refusal::NotReplayable).
     pub fn replay(&mut self, i: usize) -> Result<Option<Envelope>, Refusal> {
         let (me, words, store) = self.parts();
-        let answer = engine::replay(me, words, store, i);
+        let answer = raw::replay(me, words, store, i);
         self.answered(answer, i)
     }
 
@@ -91,7 +97,7 @@ impl<W: AsMut<[u32]>, S: AsMut<[u8]>> Laptop<W, S> {
     /// Questions 1 to 5, then [`NotFinished`](Refusal::NotFinished).
     pub fn validate(&mut self, i: usize) -> Result<Option<Envelope>, Refusal> {
         let (me, words, store) = self.parts();
-        let answer = engine::validate(me, words, store, i);
+        let answer = raw::validate(me, words, store, i);
         self.answered(answer, i)
     }
 
@@ -102,7 +108,7 @@ impl<W: AsMut<[u32]>, S: AsMut<[u8]>> Laptop<W, S> {
     /// Questions 1 to 5, then [`NotResendable`](Refusal::NotResendable).
     pub fn resend(&mut self, i: usize) -> Result<Option<Envelope>, Refusal> {
         let (me, words, store) = self.parts();
-        let answer = engine::resend(me, words, store, i);
+        let answer = raw::resend(me, words, store, i);
         self.answered(answer, i)
     }
 
@@ -121,7 +127,7 @@ impl<W: AsMut<[u32]>, S: AsMut<[u8]>> Laptop<W, S> {
     ) -> Result<Option<Envelope>, Refusal> {
         let i = envelope.record;
         let (me, words, store) = self.parts();
-        let answer = engine::deliver(me, words, store, i, envelope.to_raw(), body);
+        let answer = raw::deliver(me, words, store, i, envelope.to_raw(), body);
         self.answered(answer, i)
     }
 
@@ -132,7 +138,7 @@ impl<W: AsMut<[u32]>, S: AsMut<[u8]>> Laptop<W, S> {
     /// Those of [`packet::fetch`], then those of [`deliver`](Laptop::deliver).
     pub fn deliver_packet(&mut self, packet: &[u8], i: usize) -> Result<Option<Envelope>, Refusal> {
         let (me, words, store) = self.parts();
-        let answer = engine::deliver_packet(me, words, store, packet, i);
+        let answer = raw::deliver_packet(me, words, store, packet, i);
         // The answer is about the record that the message names.
         let record = match answer.kind {
             0 => 0,
@@ -180,8 +186,8 @@ impl<W, S> Laptop<W, S> {
     /// [`OldEpoch`](Refusal::OldEpoch), [`ViewNotWithin`](Refusal::ViewNotWithin).
     /// A view without this laptop is accepted, and every later event refused
     /// as struck off.
-    pub fn change_view(&mut self, epoch: u32, view: u16) -> Result<(), Refusal> {
-        let admission = engine::view(self.me, epoch, view);
+    pub fn change_view(&mut self, epoch: u32, view: impl Into<Members>) -> Result<(), Refusal> {
+        let admission = raw::view(self.me, epoch, view.into().bits());
         Refusal::check(admission.number)?;
         self.me = admission.replica;
         Ok(())
@@ -191,7 +197,7 @@ impl<W, S> Laptop<W, S> {
     /// the INV that it acknowledges, `inv_sender`; otherwise all others in the
     /// view, and `inv_sender` is not looked at.
     pub fn recipients(&self, envelope: &Envelope, inv_sender: u8) -> Members {
-        Members::from(engine::recipients(
+        Members::from(raw::recipients(
             self.me,
             envelope.message.kind(),
             inv_sender,
@@ -249,13 +255,16 @@ impl<W: AsRef<[u32]>, S: AsRef<[u8]>> Laptop<W, S> {
 
     /// Record `i`; None beyond the table, or where its words are no record.
     pub fn record(&self, i: usize) -> Option<Record> {
-        let (records, _) = self.words().as_chunks::<WORDS>();
+        // Words over mean that there is no table.
+        let (records, []) = self.words().as_chunks::<WORDS>() else {
+            return None;
+        };
         records.get(i).and_then(|words| Record::from_words(*words))
     }
 
-    /// Whether record `i` is valid, so that the laptop shows it.
+    /// Whether the laptop shows record `i`: a read of it is accepted.
     pub fn shows_valid(&self, i: usize) -> bool {
-        self.record(i).is_some_and(|r| r.state == State::Valid)
+        self.read(i).is_ok()
     }
 
     /// The value of record `i`.
@@ -264,7 +273,7 @@ impl<W: AsRef<[u32]>, S: AsRef<[u8]>> Laptop<W, S> {
     ///
     /// Questions 1 to 5, then [`NotReadable`](Refusal::NotReadable).
     pub fn read(&self, i: usize) -> Result<&[u8], Refusal> {
-        let read = engine::read(self.me, self.words(), self.store(), i);
+        let read = raw::read(self.me, self.words(), self.store(), i);
         Refusal::check(read.number)?;
         Ok(self.part(i, read.len))
     }
@@ -273,7 +282,7 @@ impl<W: AsRef<[u32]>, S: AsRef<[u8]>> Laptop<W, S> {
     /// it: an INV's are the record's value, the others take none.
     pub fn body(&self, envelope: &Envelope) -> &[u8] {
         let i = envelope.record;
-        let len = engine::body(self.words(), self.store(), i, envelope.message.kind());
+        let len = raw::body(self.words(), self.store(), i, envelope.message.kind());
         self.part(i, len)
     }
 

@@ -11,6 +11,7 @@
 //!   event has changed nothing.
 //! * [`packet`] puts messages into the bytes that go on air, and takes them out.
 //! * [`play()`] plays a script of a small group, as the playing program does.
+//! * [`raw`] has the exported functions as they are, over slices and numbers.
 //!
 //! ```
 //! use cetskobi::{Laptop, Refusal};
@@ -46,12 +47,12 @@
 #![warn(missing_docs)]
 #![deny(unsafe_code)]
 
-mod engine;
 mod laptop;
 mod members;
 mod message;
 pub mod packet;
 mod player;
+pub mod raw;
 mod record;
 mod refusal;
 pub mod sys;

@@ -23,7 +23,7 @@
 use std::iter::FusedIterator;
 
 use crate::sys::MESSAGE_WORDS;
-use crate::{engine, Envelope, Message, Refusal};
+use crate::{raw, Envelope, Message, Refusal};
 
 /// The most bytes of a packet.
 pub const PACKET_MAX: usize = 1400;
@@ -51,7 +51,7 @@ pub struct Fetched<'a> {
 /// and [`PacketEntry`](Refusal::PacketEntry) for bytes that are no packet,
 /// [`PacketIndex`](Refusal::PacketIndex) for a packet with no message `i`.
 pub fn fetch(packet: &[u8], i: usize) -> Result<Fetched<'_>, Refusal> {
-    let f = engine::fetch(packet, i);
+    let f = raw::fetch(packet, i);
     Refusal::check(f.number)?;
     let message = Message::of(f.kind, f.version, f.tie).ok_or(Refusal::PacketEntry)?;
     Ok(Fetched {
@@ -115,7 +115,7 @@ pub fn pack(messages: &[(Envelope, &[u8])], out: &mut [u8]) -> Result<usize, Ref
         .flat_map(|(_, body)| *body)
         .copied()
         .collect();
-    let written = engine::pack(&words[..messages.len() * MESSAGE_WORDS], &bodies, out);
+    let written = raw::pack(&words[..messages.len() * MESSAGE_WORDS], &bodies, out);
     Refusal::check(written.number)?;
     Ok(written.len)
 }

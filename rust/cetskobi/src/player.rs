@@ -1,6 +1,6 @@
 //! The playing program as a function.
 
-use crate::engine;
+use crate::raw;
 use crate::Refusal;
 
 /// The most bytes of a script.
@@ -26,7 +26,7 @@ const PRINTED_MAX: (usize, usize) = (25, 2);
 pub fn play(script: &[u8]) -> Result<Vec<u8>, Refusal> {
     let (each, beside) = PRINTED_MAX;
     let mut out = vec![0; each * script.len().min(SCRIPT_MAX) + beside];
-    let written = engine::play(script, &mut out);
+    let written = raw::play(script, &mut out);
     Refusal::check(written.number)?;
     out.truncate(written.len);
     Ok(out)

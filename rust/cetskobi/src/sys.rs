@@ -1,7 +1,7 @@
 //! The exported functions as C has them: include/cetskobi.h, line by line.
 //!
-//! Only for who needs them raw; [`Laptop`](crate::Laptop) and the functions of
-//! this crate call them safely. Each pointer is to as many elements as the
+//! Only for who needs the pointers; [`raw`](crate::raw) has them over slices, and
+//! [`Laptop`](crate::Laptop) with Rust's types. Each pointer is to as many elements as the
 //! length beside it says, and what is written overlaps nothing else that is
 //! passed. Beyond that every input may be passed.
 

@@ -48,6 +48,16 @@ fn a_fresh_start() {
 }
 
 #[test]
+fn a_view_is_bits_or_a_set() {
+    let view: Members = [1, 2, 5].into_iter().collect();
+    let mut l = Laptop::start(2, view, 3).expect("a sound start");
+    assert_eq!(l, laptop());
+    let fewer: Members = [1, 2].into_iter().collect();
+    assert_eq!(l.change_view(1, fewer), Ok(()));
+    assert_eq!((l.view(), l.members()), (0b110, fewer));
+}
+
+#[test]
 fn a_refused_start() {
     assert_eq!(Laptop::start(16, 38, 1).err(), Some(Refusal::NoGroup));
     assert_eq!(Laptop::start(2, 4, 1).err(), Some(Refusal::NoGroup));
@@ -130,7 +140,8 @@ fn a_struck_off_laptop_is_refused() {
     l.change_view(1, 0b10_0010).unwrap();
     assert_eq!(l.read(0), Err(Refusal::StruckOff));
     assert_eq!(l.change_view(2, 0b10_0010), Err(Refusal::StruckOff));
-    assert!(l.shows_valid(0));
+    assert!(!l.shows_valid(0));
+    assert_eq!(l.record(0).map(|r| r.state), Some(State::Valid));
 }
 
 #[test]
@@ -198,6 +209,27 @@ fn lent_memory_keeps_what_an_event_left() {
         lent.resend(1).unwrap().unwrap().message,
         Message::Inv(stamp(1, 2))
     );
+}
+
+#[test]
+fn words_that_are_not_eight_for_each_record_are_no_table() {
+    let (me, mut words, store) = laptop().into_parts();
+    words.push(0);
+    let l = Laptop::from_parts(me, words, store);
+    assert_eq!((l.count(), l.record(0)), (0, None));
+    assert!(!l.shows_valid(0));
+    assert_eq!(l.read(0), Err(Refusal::LentMemory));
+}
+
+#[test]
+fn an_unsound_record_is_not_shown() {
+    let (me, mut words, store) = laptop().into_parts();
+    words[6] = 1 << 2; // its own acknowledgement
+    let l = Laptop::from_parts(me, words, store);
+    assert_eq!(l.record(0).map(|r| r.state), Some(State::Valid));
+    assert_eq!(l.read(0), Err(Refusal::UnsoundRecord));
+    assert!(!l.shows_valid(0));
+    assert!(l.shows_valid(1));
 }
 
 #[test]

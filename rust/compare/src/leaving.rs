@@ -1,10 +1,9 @@
 //! What leaves: who gets a message, and the bytes that it takes along.
 
-use cetskobi::sys::Replica;
+use cetskobi::raw::{self, Replica};
 use model::engine::body;
 use model::rng::Rng;
 
-use crate::engine;
 use crate::memory::Memory;
 use crate::settings::Settings;
 use crate::shrink::{less, shrink, Found, Smaller};
@@ -25,8 +24,8 @@ pub type Leaving = fn(Replica, &Memory, usize, u8, u8) -> (u16, usize);
 
 pub fn by_the_engine(me: Replica, memory: &Memory, i: usize, kind: u8, sender: u8) -> (u16, usize) {
     (
-        engine::recipients(me, kind, sender),
-        engine::body(memory.words(), memory.store(), i, kind),
+        raw::recipients(me, kind, sender),
+        raw::body(memory.words(), memory.store(), i, kind),
     )
 }
 

@@ -1,8 +1,9 @@
 //! The engine's exported functions against the model, on worked, random and
 //! damaged input. README.md says how to run it.
 
+#![forbid(unsafe_code)]
+
 pub mod bytes;
-pub mod engine;
 pub mod group;
 pub mod leaving;
 pub mod memory;

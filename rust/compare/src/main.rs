@@ -37,7 +37,12 @@ const PARTS: [(&str, Part); 8] = [
     }),
     ("fetch", |settings| {
         shown(fetch::compare(settings, fetch::by_model), |tally| {
-            format!("{} packets; {}", tally.packets, answers(&tally.answers))
+            format!(
+                "{} packets, {} damaged; {}",
+                tally.packets,
+                tally.damaged,
+                answers(&tally.answers)
+            )
         })
     }),
     ("pack", |settings| {
@@ -96,7 +101,7 @@ fn main() -> ExitCode {
         }
         return ExitCode::from(2);
     };
-    println!("seed {}, {} times", settings.seed, settings.times);
+    println!("{settings}");
     let mut code = ExitCode::SUCCESS;
     for (name, part) in PARTS {
         if !chosen.is_empty() && !chosen.iter().any(|other| other == name) {
@@ -109,7 +114,7 @@ fn main() -> ExitCode {
         match result {
             Ok(counts) => println!("{counts}\nalike, in {seconds:.1} s"),
             Err(found) => {
-                println!("DIFFERENT, seed {}\n{found}", settings.seed);
+                println!("DIFFERENT with {settings}\n{found}");
                 code = ExitCode::FAILURE;
             }
         }

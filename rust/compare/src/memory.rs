@@ -1,7 +1,7 @@
 //! Lent memory: the words of a table and a store, each between guards that
 //! nobody may touch.
 
-use cetskobi::sys::WORDS;
+use cetskobi::raw::WORDS;
 use model::engine::{Record, Slot};
 use model::rng::Rng;
 

@@ -1,5 +1,7 @@
 //! Where the random cases begin, and how many there are.
 
+use std::fmt;
+
 use model::rng::Rng;
 
 #[derive(Clone, Copy, Debug)]
@@ -27,6 +29,14 @@ impl Settings {
     pub fn rng(&self, part: &str) -> Rng {
         let mix = |sum: u64, byte| (sum ^ u64::from(byte)).wrapping_mul(0x100_0000_01b3);
         Rng::new(part.bytes().fold(self.seed, mix))
+    }
+}
+
+impl fmt::Display for Settings {
+    /// What to set to run the same cases again.
+    fn fmt(&self, f: &mut fmt::Formatter<'_>) -> fmt::Result {
+        let Settings { seed, times } = self;
+        write!(f, "CETSKOBI_SEED={seed} CETSKOBI_TIMES={times}")
     }
 }
 

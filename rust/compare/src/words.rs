@@ -1,6 +1,6 @@
 //! Records as eight words (include/cetskobi.h), for the model's side.
 
-use cetskobi::sys::WORDS;
+use cetskobi::raw::WORDS;
 use model::engine::{Message, Record, State, Timestamp};
 
 /// The words of one record.

@@ -17,7 +17,7 @@ fn random_deliveries() {
                 assert!(times >= 100, "{answer}: only {times} times");
             }
         }
-        Err(found) => panic!("CETSKOBI_SEED={}\n{found}", settings.seed),
+        Err(found) => panic!("{settings}\n{found}"),
     }
 }
 
@@ -25,7 +25,7 @@ fn random_deliveries() {
 fn groups_by_packet() {
     let settings = Settings::from_env();
     if let Err(found) = group::compare(&settings, by_packet, on_table) {
-        panic!("CETSKOBI_SEED={}\n{found}", settings.seed);
+        panic!("{settings}\n{found}");
     }
 }
 

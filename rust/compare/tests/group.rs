@@ -67,7 +67,7 @@ fn random_groups() {
     let settings = Settings::from_env();
     match compare(&settings, by_hand, on_table) {
         Ok(tally) => often(&tally),
-        Err(found) => panic!("CETSKOBI_SEED={}\n{found}", settings.seed),
+        Err(found) => panic!("{settings}\n{found}"),
     }
 }
 

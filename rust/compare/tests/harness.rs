@@ -1,12 +1,21 @@
 //! The comparison can fail: wrong models are found, and the case that shows it
 //! is small.
 
-use cetskobi::sys::WORDS;
+use cetskobi::raw::WORDS;
 use compare::bytes::Bytes;
 use compare::memory::Memory;
 use compare::settings::Settings;
 use compare::shrink::{drops, less, shrink, Smaller};
 use compare::single::{by_model, compare, Case, Event, Outcome, Play};
+
+/// What a difference is printed with runs its case again: with the seed alone
+/// it may lie beyond the usual count.
+#[test]
+fn settings_to_run_again() {
+    let settings = Settings { seed: 7, times: 10 };
+    let shown = "CETSKOBI_SEED=7 CETSKOBI_TIMES=10";
+    assert_eq!(settings.to_string(), shown);
+}
 
 /// Finds the wrong model, and gives the shrunk case.
 fn caught(wrong: Play) -> Case {

@@ -14,14 +14,14 @@ fn after_random_events() {
             assert!(tally.sent[1..].iter().all(|&times| times >= 1000));
             assert!(tally.bodies >= 1000);
         }
-        Err(found) => panic!("CETSKOBI_SEED={}\n{found}", settings.seed),
+        Err(found) => panic!("{settings}\n{found}"),
     }
 }
 
 #[test]
 fn a_wrong_recipient_is_found() {
     fn wrong(
-        me: cetskobi::sys::Replica,
+        me: cetskobi::raw::Replica,
         memory: &Memory,
         i: usize,
         kind: u8,

@@ -2,13 +2,33 @@
 
 use std::ptr::{null, null_mut};
 
-use cetskobi::sys::{self, Answer, Replica};
+use cetskobi::sys::{self, Answer, Message, Replica};
 
 const ME: Replica = Replica {
     number: 0,
     view: 3,
     epoch: 0,
 };
+
+const INV: Message = Message {
+    kind: 1,
+    sender: 1,
+    tie: 1,
+    epoch: 0,
+    version: 1,
+};
+
+/// The same in a packet, for record 0, with no bytes.
+const PACKET: [u8; 20] = [1, 1, 0, 20, 1, 1, 0, 0, 0, 0, 0, 0, 0, 0, 0, 1, 1, 0, 20, 0];
+
+fn sent(kind: u8, version: u32, tie: u8) -> Answer {
+    Answer {
+        number: 0,
+        kind,
+        tie,
+        version,
+    }
+}
 
 #[test]
 fn no_memory() {
@@ -20,6 +40,13 @@ fn no_memory() {
         assert_eq!(sys::cetskobi_replay(ME, w, 0, s, 0, 0).number, 2);
         assert_eq!(sys::cetskobi_validate(ME, w, 0, s, 0, 0).number, 2);
         assert_eq!(sys::cetskobi_resend(ME, w, 0, s, 0, 0).number, 2);
+        let delivered = sys::cetskobi_deliver(ME, w, 0, s, 0, 0, INV, null(), 0);
+        assert_eq!(delivered.number, 2);
+        let delivered = sys::cetskobi_deliver_packet(ME, w, 0, s, 0, PACKET.as_ptr(), 20, 0);
+        assert_eq!(delivered.number, 2);
+        for kind in 0..5 {
+            assert_eq!(sys::cetskobi_body(w, 0, s, 0, 0, kind), 0);
+        }
     }
 }
 
@@ -29,13 +56,17 @@ fn an_empty_value() {
     let mut store = [7; 192];
     let (w, s) = (words.as_mut_ptr(), store.as_mut_ptr());
     let answer = unsafe { sys::cetskobi_write(ME, w, 8, s, 192, 0, null(), 0) };
-    let inv = Answer {
-        number: 0,
-        kind: 1,
-        tie: 0,
-        version: 1,
-    };
-    assert_eq!((answer, store), (inv, [0; 192]));
+    assert_eq!((answer, store), (sent(1, 1, 0), [0; 192]));
+}
+
+#[test]
+fn a_message_without_bytes() {
+    let mut words = [0; 8];
+    let mut store = [7; 192];
+    let (w, s) = (words.as_mut_ptr(), store.as_mut_ptr());
+    let answer = unsafe { sys::cetskobi_deliver(ME, w, 8, s, 192, 0, INV, null(), 0) };
+    assert_eq!((answer, store), (sent(2, 1, 1), [0; 192]));
+    assert_eq!(words, [1, 1, 1, 1, 0, 0, 0, 0]);
 }
 
 #[test]
@@ -43,9 +74,16 @@ fn no_packet_no_script() {
     let mut out = [7; 2];
     unsafe {
         assert_eq!(sys::cetskobi_fetch(null(), 0, 0).number, 20);
+        let (w, s) = (null_mut(), null_mut());
+        let delivered = sys::cetskobi_deliver_packet(ME, w, 0, s, 0, null(), 0, 0);
+        assert_eq!(delivered.number, 20);
         let packed = sys::cetskobi_pack(null(), 0, null(), 0, null_mut(), 0);
         assert_eq!(packed.number, 24);
         let played = sys::cetskobi_play(null(), 0, out.as_mut_ptr(), 2);
         assert_eq!((played.number, played.len, &out), (0, 2, b"?\n"));
+        let nowhere = sys::cetskobi_play(null(), 0, null_mut(), 0);
+        assert_eq!((nowhere.number, nowhere.len), (255, 0));
+        let nowhere = sys::cetskobi_play(b"group 2".as_ptr(), 7, null_mut(), 0);
+        assert_eq!((nowhere.number, nowhere.len), (255, 0));
     }
 }

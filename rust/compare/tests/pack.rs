@@ -1,6 +1,6 @@
 //! Messages, good and bad, packed into outputs of any size.
 
-use cetskobi::sys::Written;
+use cetskobi::raw::Written;
 use compare::packet::pack::{by_engine, by_model, compare};
 use compare::settings::Settings;
 
@@ -18,7 +18,7 @@ fn random_lists() {
             println!("{:8} of 1,401 bytes", tally.over);
             assert!(tally.full >= 100 && tally.over >= 100);
         }
-        Err(found) => panic!("CETSKOBI_SEED={}\n{found}", settings.seed),
+        Err(found) => panic!("{settings}\n{found}"),
     }
 }
 

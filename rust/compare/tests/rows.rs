@@ -1,7 +1,7 @@
 //! The rows of document 01, "From the ringing table", one by one, in the engine
-//! and in the model. The rows of packets are in `packet_rows`.
+//! and in the model. The rows of packets stand in `fetch` and `pack`.
 
-use cetskobi::sys::{Message, Replica};
+use cetskobi::raw::{Message, Replica};
 use compare::bytes::Bytes;
 use compare::memory::Memory;
 use compare::single::{by_engine, by_model, Case, Event, Outcome};

@@ -1,6 +1,6 @@
 //! Scripts of the playing program, with wrong lines and at the limits.
 
-use cetskobi::sys::Written;
+use cetskobi::raw::Written;
 use compare::script::{by_engine, by_model, compare, BEYOND};
 use compare::settings::Settings;
 
@@ -43,7 +43,7 @@ fn random_scripts() {
                 assert!(times >= 100, "{word}: only {times} times");
             }
         }
-        Err(found) => panic!("CETSKOBI_SEED={}\n{found}", settings.seed),
+        Err(found) => panic!("{settings}\n{found}"),
     }
 }
 

@@ -13,6 +13,6 @@ fn random_events() {
             assert_eq!(tally.stray(), 0);
             assert!(tally.least() >= 100, "some answer is rare:\n{tally}");
         }
-        Err(found) => panic!("CETSKOBI_SEED={}\n{found}", settings.seed),
+        Err(found) => panic!("{settings}\n{found}"),
     }
 }

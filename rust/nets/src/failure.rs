@@ -9,8 +9,8 @@ use crate::agreement::Disagreement;
 pub enum Cause {
     /// Agreement, after an event.
     Disagreement(Disagreement),
-    /// A record that did not settle though the link has healed, and that does
-    /// not hang in invalid-write by a dead writer.
+    /// A record that did not settle though the link has healed: somebody could
+    /// still finish it, replay it or send again.
     Unsettled {
         /// The record.
         record: usize,

@@ -41,7 +41,7 @@ impl Group {
         let view: Members = (0..settings.laptops).collect();
         let laptops: Result<Vec<Laptop>, Refusal> = view
             .into_iter()
-            .map(|n| Laptop::start(n, view.bits(), settings.records))
+            .map(|n| Laptop::start(n, view, settings.records))
             .collect();
         Ok(Group {
             laptops: laptops?,
@@ -128,7 +128,7 @@ impl Group {
     pub fn change_view(&mut self, number: u8, epoch: u32, view: Members) -> Watched {
         let answer = self
             .laptop_mut(number)
-            .change_view(epoch, view.bits())
+            .change_view(epoch, view)
             .map(|()| None);
         self.count(Kind::View, answer);
         let event = self.event(number, Kind::View, None, answer, None);

@@ -1,6 +1,6 @@
 //! What is left when the link has healed.
 
-use cetskobi::{Laptop, Record, State};
+use cetskobi::{Laptop, Members, Record, State};
 
 use crate::failure::Cause;
 use crate::group::Group;
@@ -28,7 +28,7 @@ pub(crate) fn look(group: &Group, members: &[&Laptop]) -> Result<Settled, Cause>
         if records.iter().all(|r| r.state == State::Valid) {
             same_text(group, members, i)?;
             found.settled += 1;
-        } else if members.iter().zip(&records).any(|(l, r)| is_hung(l, r)) {
+        } else if hangs(members, &records) {
             found.hung.push(i);
         } else {
             return Err(unsettled);
@@ -53,6 +53,27 @@ fn same_text(group: &Group, members: &[&Laptop], i: usize) -> Result<(), Cause> 
     }
 }
 
+/// Nothing more comes of the record unless it is saved anew: every laptop is
+/// valid, hung, or waits for the VAL of one that will not send it, being hung or
+/// waiting itself.
+fn hangs(members: &[&Laptop], records: &[Record]) -> bool {
+    let pairs = || members.iter().zip(records);
+    let is_waiting = |r: &Record| matches!(r.state, State::Invalid | State::InvalidWrite);
+    let mut silent = Members::default();
+    loop {
+        let more: Members = pairs()
+            .filter(|(l, r)| is_hung(l, r) || is_waiting(r) && silent.contains(r.writer))
+            .map(|(l, _)| l.number())
+            .collect();
+        if more == silent {
+            break;
+        }
+        silent = more;
+    }
+    pairs().all(|(l, r)| r.state == State::Valid || silent.contains(l.number()))
+}
+
+/// In invalid-write, and the last writer was struck off.
 fn is_hung(laptop: &Laptop, r: &Record) -> bool {
     r.state == State::InvalidWrite && !laptop.members().contains(r.writer)
 }
@@ -71,7 +92,7 @@ fn lost(group: &Group, members: &[&Laptop]) -> usize {
 mod tests {
     use super::*;
     use crate::settings::Settings;
-    use cetskobi::Timestamp;
+    use cetskobi::{Replica, Timestamp};
 
     const SAVED: Timestamp = Timestamp { version: 1, tie: 0 };
 
@@ -123,6 +144,74 @@ mod tests {
     fn an_open_save_is_not() {
         let cause = Cause::Unsettled { record: 0 };
         assert_eq!(looked(&saved()), Err(cause));
+    }
+
+    /// Laptops 0, 1, .. of a view {0,1,2}, as no event need have left them; 5
+    /// was struck off.
+    fn left(records: [(State, u8); 3]) -> bool {
+        let laptop = |(number, (state, writer)): (u8, (State, u8))| {
+            let r = Record {
+                state,
+                timestamp: SAVED,
+                writer,
+                written: SAVED,
+                acks: 0,
+                len: 0,
+            };
+            let me = Replica {
+                number,
+                view: 0b111,
+                epoch: 1,
+            };
+            let store = vec![0; Record::VALUE_MAX];
+            Laptop::from_parts(me, r.to_words().to_vec(), store)
+        };
+        let laptops: Vec<Laptop> = (0..).zip(records).map(laptop).collect();
+        let members: Vec<&Laptop> = laptops.iter().collect();
+        let settings = Settings {
+            laptops: 3,
+            records: 1,
+            ..Settings::default()
+        };
+        let group = Group::start(&settings).expect("a group of three");
+        match look(&group, &members) {
+            Ok(found) => found.hung == [0],
+            Err(cause) => {
+                assert_eq!(cause, Cause::Unsettled { record: 0 });
+                false
+            }
+        }
+    }
+
+    const HUNG: (State, u8) = (State::InvalidWrite, 5);
+
+    #[test]
+    fn a_record_that_hangs() {
+        assert!(left([HUNG, HUNG, HUNG]));
+        assert!(left([HUNG, (State::Valid, 2), (State::Valid, 2)]));
+        // The VAL of 0, whose own save was overtaken, never comes; nor that of
+        // 1, which waits for it.
+        for waiting in [State::Invalid, State::InvalidWrite] {
+            assert!(left([HUNG, (waiting, 0), (State::Valid, 2)]));
+            assert!(left([HUNG, (waiting, 0), (waiting, 1)]));
+        }
+    }
+
+    #[test]
+    fn a_laptop_that_waits_beside_a_hung_one_is_not_settled() {
+        for stuck in [
+            (State::Write, 1),
+            (State::Replay, 1),
+            // It could replay.
+            (State::Invalid, 5),
+            // Laptop 2 could send its VAL again.
+            (State::Invalid, 2),
+            (State::InvalidWrite, 2),
+            // No laptop waits for itself.
+            (State::Invalid, 1),
+        ] {
+            assert!(!left([HUNG, stuck, (State::Valid, 2)]), "{stuck:?}");
+        }
     }
 
     #[test]

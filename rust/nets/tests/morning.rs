@@ -142,6 +142,49 @@ fn other_groups() {
     }
 }
 
+/// Few records, many saves at once, laptops that die: records hang, also by one
+/// that hangs itself, and nobody else is left waiting.
+#[test]
+fn small_hard_groups() {
+    let three = Settings {
+        laptops: 3,
+        late: 1,
+        records: 20,
+        rings: 20,
+        recaptures: 20,
+        ticks: 150,
+        ..Settings::default()
+    };
+    let five = Settings {
+        laptops: 5,
+        deaths: 2,
+        records: 4,
+        rings: 4,
+        recaptures: 40,
+        ..three.clone()
+    };
+    let eight = Settings {
+        laptops: 8,
+        deaths: 5,
+        sleepers: 2,
+        late: 3,
+        loss: 50,
+        ..five.clone()
+    };
+    for settings in [three, five, eight] {
+        let hung = (1..500).map(|seed| {
+            let settings = Settings {
+                seed,
+                ..settings.clone()
+            };
+            let report = agreed(&settings);
+            all_saved(&settings, &report);
+            report.hung()
+        });
+        assert!(hung.sum::<usize>() > 0);
+    }
+}
+
 #[test]
 fn a_record_that_hangs_is_counted() {
     let small = Settings {

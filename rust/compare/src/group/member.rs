@@ -1,4 +1,4 @@
-use cetskobi::sys::{Replica, WORDS};
+use cetskobi::raw::{Replica, WORDS};
 use model::engine::Record;
 
 use super::Run;

@@ -1,12 +1,11 @@
 use std::collections::BTreeMap;
 
-use cetskobi::sys::{Answer, Message, Replica};
+use cetskobi::raw::{self, Answer, Message, Replica};
 use model::engine::{has, Record};
 
 use super::member::Member;
 use super::{Entry, Run, Tally, What};
 use crate::bytes::Bytes;
-use crate::engine;
 use crate::single::{by_engine, Case, Event, Kind, Outcome};
 
 /// A message that left, with the bytes it left with, and whom it is for.
@@ -23,7 +22,7 @@ pub type Carry = fn(&Post, Replica, &mut [u32], &mut [u8]) -> Answer;
 
 /// The delivery by itself.
 pub fn by_hand(post: &Post, me: Replica, words: &mut [u32], store: &mut [u8]) -> Answer {
-    engine::deliver(me, words, store, post.i, post.message, &post.value)
+    raw::deliver(me, words, store, post.i, post.message, &post.value)
 }
 
 /// The delivery out of a packet, where it is the second message.
@@ -40,9 +39,9 @@ pub fn by_packet(post: &Post, me: Replica, words: &mut [u32], store: &mut [u8]) 
         post.value.len() as u32,
     ];
     let mut packet = [0; 1400];
-    let written = engine::pack(&[ack, entry].concat(), &post.value, &mut packet);
+    let written = raw::pack(&[ack, entry].concat(), &post.value, &mut packet);
     assert_eq!(written.number, 0);
-    engine::deliver_packet(me, words, store, &packet[..written.len], 1)
+    raw::deliver_packet(me, words, store, &packet[..written.len], 1)
 }
 
 /// An event of the model on its own table and store.

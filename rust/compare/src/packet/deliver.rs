@@ -1,5 +1,6 @@
 //! Delivering message i of a packet, on lent memory of any kind.
 
+use cetskobi::raw;
 use model::engine::number;
 use model::packet;
 use model::rng::Rng;
@@ -7,7 +8,6 @@ use model::rng::Rng;
 use super::some::some_letter;
 use super::{damage, packet_of, Letter};
 use crate::bytes::Bytes;
-use crate::engine;
 use crate::memory::Memory;
 use crate::settings::Settings;
 use crate::shrink::{drops, less, shrink, Found, Smaller};
@@ -29,7 +29,7 @@ pub type Deliver = fn(&Case, &mut Memory) -> Outcome;
 pub fn by_engine(case: &Case, memory: &mut Memory) -> Outcome {
     let (words, store) = memory.lend();
     let me = case.lent.me;
-    let answer = engine::deliver_packet(me, words, store, &case.packet, case.i);
+    let answer = raw::deliver_packet(me, words, store, &case.packet, case.i);
     Outcome::of(me, answer)
 }
 

@@ -1,12 +1,11 @@
 //! Fetching message i of a packet of any bytes.
 
-use cetskobi::sys::Fetched;
+use cetskobi::raw::{self, Fetched};
 use model::engine::Refusal;
 use model::packet;
 
 use super::{damage, packet_of, set_total, some_packet, Letter};
 use crate::bytes::Bytes;
-use crate::engine;
 use crate::settings::Settings;
 use crate::shrink::{drops, less, plainer, shrink, Found, Smaller};
 use crate::words::sent_of;
@@ -16,6 +15,8 @@ use crate::words::sent_of;
 pub struct Tally {
     pub answers: [u64; 26],
     pub packets: u64,
+    /// Of these, whose bytes are not those of the whole packet they came from.
+    pub damaged: u64,
 }
 
 #[derive(Clone, Debug, PartialEq)]
@@ -28,7 +29,7 @@ pub struct Case {
 pub type Fetch = fn(&[u8], usize) -> Fetched;
 
 pub fn by_engine(packet: &[u8], i: usize) -> Fetched {
-    engine::fetch(packet, i)
+    raw::fetch(packet, i)
 }
 
 pub fn by_model(packet: &[u8], i: usize) -> Fetched {
@@ -80,8 +81,8 @@ struct Bench {
 type Differs = Result<(), Box<Found<Case>>>;
 
 impl Bench {
-    /// Every message of the packet, and the places past the last.
-    fn packet(&mut self, packet: &[u8]) -> Differs {
+    /// Every message of the packet, made of a whole one, and the places past the last.
+    fn packet(&mut self, packet: &[u8], whole: &[u8]) -> Differs {
         let count = packet.get(1).map_or(0, |&count| usize::from(count));
         let within = if by_engine(packet, 0).number == 0 {
             count
@@ -91,25 +92,26 @@ impl Bench {
         for i in 0..within {
             self.fetch(packet, i)?;
         }
-        self.ends(packet)
+        self.ends(packet, whole)
     }
 
     /// The same, but of a packet of many messages some, each in its turn.
-    fn some_of(&mut self, packet: &[u8]) -> Differs {
+    fn some_of(&mut self, packet: &[u8], whole: &[u8]) -> Differs {
         let count = packet.get(1).map_or(0, |&count| usize::from(count));
         if count <= FEW {
-            return self.packet(packet);
+            return self.packet(packet, whole);
         }
         let turn = self.tally.packets as usize % count;
         for i in [0, turn, count - 1] {
             self.fetch(packet, i)?;
         }
-        self.ends(packet)
+        self.ends(packet, whole)
     }
 
     /// The last message, and the places past it.
-    fn ends(&mut self, packet: &[u8]) -> Differs {
+    fn ends(&mut self, packet: &[u8], whole: &[u8]) -> Differs {
         self.tally.packets += 1;
+        self.tally.damaged += u64::from(packet != whole);
         let count = packet.get(1).map_or(0, |&count| usize::from(count));
         for i in [count.wrapping_sub(1), count, count + 1, usize::MAX] {
             self.fetch(packet, i)?;
@@ -132,27 +134,27 @@ impl Bench {
     /// Every byte with every value; every length, with and without its total;
     /// and more bytes behind.
     fn around(&mut self, whole: &[u8]) -> Differs {
-        self.packet(whole)?;
+        self.packet(whole, whole)?;
         let mut packet = whole.to_vec();
         for at in 0..whole.len() {
             for value in 0..=255 {
                 packet[at] = value;
-                self.some_of(&packet)?;
+                self.some_of(&packet, whole)?;
             }
             packet[at] = whole[at];
         }
         for len in 0..whole.len() {
-            self.packet(&whole[..len])?;
+            self.packet(&whole[..len], whole)?;
             let mut packet = whole[..len].to_vec();
             set_total(&mut packet);
-            self.packet(&packet)?;
+            self.packet(&packet, whole)?;
         }
         for more in 1..40 {
             let mut packet = whole.to_vec();
             packet.resize(whole.len() + more, 1);
-            self.packet(&packet)?;
+            self.packet(&packet, whole)?;
             set_total(&mut packet);
-            self.packet(&packet)?;
+            self.packet(&packet, whole)?;
         }
         Ok(())
     }
@@ -176,11 +178,12 @@ pub fn compare(settings: &Settings, other: Fetch) -> Result<Tally, Box<Found<Cas
         bench.around(&whole[..])?;
     }
     for _ in 0..DAMAGED * settings.times {
-        let mut packet = some_packet(&mut rng);
+        let whole = some_packet(&mut rng);
+        let mut packet = whole.clone();
         for _ in 0..1 + rng.below(3) {
             damage(&mut rng, &mut packet);
         }
-        bench.packet(&packet)?;
+        bench.packet(&packet, &whole)?;
     }
     Ok(bench.tally)
 }

@@ -1,6 +1,6 @@
 //! Packing messages, good and bad, into outputs of any size.
 
-use cetskobi::sys::Written;
+use cetskobi::raw::{self, Written};
 use model::engine::Refusal;
 use model::packet::{self, Entry, PACKET_LIMIT};
 use model::rng::Rng;
@@ -8,7 +8,6 @@ use model::rng::Rng;
 use super::some::{some_letter, some_letters};
 use super::{entry_of, EntryWords};
 use crate::bytes::Bytes;
-use crate::engine;
 use crate::settings::Settings;
 use crate::shrink::{drops, less, plainer, shrink, Found, Smaller};
 use crate::single::{some_bytes, some_word};
@@ -28,7 +27,7 @@ pub struct Case {
 pub type Pack = fn(&[u32], &[u8], &mut [u8]) -> Written;
 
 pub fn by_engine(words: &[u32], bodies: &[u8], out: &mut [u8]) -> Written {
-    engine::pack(words, bodies, out)
+    raw::pack(words, bodies, out)
 }
 
 /// Words that are no messages are refused by question 24.
@@ -81,7 +80,7 @@ fn round_trip(case: &Case, packet: &[u8]) -> Result<(), String> {
     let mut at = 0;
     for (i, words) in case.words.as_chunks().0.iter().enumerate() {
         let [kind, sender, epoch, record, version, tie, len]: EntryWords = *words;
-        let f = engine::fetch(packet, i);
+        let f = raw::fetch(packet, i);
         let fetched = [
             f.kind.into(),
             f.sender.into(),

@@ -7,11 +7,10 @@ pub use some::some_script;
 use std::collections::BTreeMap;
 use std::fmt;
 
-use cetskobi::sys::Written;
+use cetskobi::raw::{self, Written};
 use model::player::{self, INPUT_LIMIT};
 
 use crate::bytes::Bytes;
-use crate::engine;
 use crate::settings::Settings;
 use crate::shrink::{drops, shrink, Found, Smaller};
 
@@ -63,7 +62,7 @@ impl fmt::Debug for Script {
 pub type Play = fn(&[u8], &mut [u8]) -> Written;
 
 pub fn by_engine(script: &[u8], out: &mut [u8]) -> Written {
-    engine::play(script, out)
+    raw::play(script, out)
 }
 
 pub fn by_model(script: &[u8], out: &mut [u8]) -> Written {

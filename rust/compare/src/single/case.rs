@@ -1,4 +1,4 @@
-use cetskobi::sys::{Message, Replica, WORDS};
+use cetskobi::raw::{Message, Replica, WORDS};
 use model::engine::Record;
 
 use crate::bytes::Bytes;

@@ -1,9 +1,8 @@
-use cetskobi::sys::{Admission, Answer, Replica};
+use cetskobi::raw::{self, Admission, Answer, Replica};
 use model::engine::{number, Envelope, Record};
 use model::rng::Rng;
 
 use super::{Case, Event};
-use crate::engine;
 use crate::memory::{Memory, Pool};
 use crate::words::{message_of, sent_of, table_of, words_of};
 
@@ -27,10 +26,10 @@ pub fn by_engine(case: &Case, memory: &mut Memory) -> Outcome {
     let (me, i) = (case.me, case.i);
     let (words, store) = memory.lend();
     match &case.event {
-        Event::Start => admitted(engine::start(me.number, me.view, words, store)),
-        Event::View { epoch, set } => admitted(engine::view(me, *epoch, *set)),
+        Event::Start => admitted(raw::start(me.number, me.view, words, store)),
+        Event::View { epoch, set } => admitted(raw::view(me, *epoch, *set)),
         Event::Read => {
-            let read = engine::read(me, words, store, i);
+            let read = raw::read(me, words, store, i);
             // A refused read gives the empty part, wherever that is.
             let at = if read.number == 0 {
                 Record::VALUE_LIMIT * i
@@ -44,13 +43,13 @@ pub fn by_engine(case: &Case, memory: &mut Memory) -> Outcome {
                 me,
             }
         }
-        Event::Write { value } => Outcome::of(me, engine::write(me, words, store, i, value)),
-        Event::Replay => Outcome::of(me, engine::replay(me, words, store, i)),
+        Event::Write { value } => Outcome::of(me, raw::write(me, words, store, i, value)),
+        Event::Replay => Outcome::of(me, raw::replay(me, words, store, i)),
         Event::Deliver { message, value } => {
-            Outcome::of(me, engine::deliver(me, words, store, i, *message, value))
+            Outcome::of(me, raw::deliver(me, words, store, i, *message, value))
         }
-        Event::Validate => Outcome::of(me, engine::validate(me, words, store, i)),
-        Event::Resend => Outcome::of(me, engine::resend(me, words, store, i)),
+        Event::Validate => Outcome::of(me, raw::validate(me, words, store, i)),
+        Event::Resend => Outcome::of(me, raw::resend(me, words, store, i)),
     }
 }
 

@@ -1,7 +1,7 @@
 //! Random cases: mostly an event that is accepted, with a few things made
 //! wrong, so that every answer comes often; now and then anything at all.
 
-use cetskobi::sys::{Message, Replica, WORDS};
+use cetskobi::raw::{Message, Replica, WORDS};
 use model::engine::{bit, has, Record};
 use model::rng::Rng;
 

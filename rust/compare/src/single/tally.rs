@@ -1,6 +1,6 @@
 use std::fmt;
 
-use cetskobi::sys::WORDS;
+use cetskobi::raw::WORDS;
 
 use super::{Case, Event, Kind, Outcome};
 

@@ -1,43 +1,52 @@
-//! The exported functions on slices: all the unsafe code of this crate.
+//! The exported functions over slices and numbers: all the unsafe code of this
+//! crate, one call a function.
 //!
-//! The engine takes every input, so a call is sound if each pointer and length
-//! come from one slice, and what is lent to be written overlaps nothing else.
-//! Rust's borrows say both.
+//! [`Laptop`](crate::Laptop) is the same with Rust's types. This is for software
+//! that wants the engine's own answers, for any words and any bytes: every input
+//! may be passed, also numbers of no laptop and words that are no record. An
+//! answer's `number` is 0, or that of the question of document 01 that said no;
+//! then nothing that was lent has changed.
+//!
+//! A call is sound if each pointer and length come from one slice, and what is
+//! lent to be written overlaps nothing else. Rust's borrows say both.
 
 #![allow(unsafe_code)]
 
-use crate::sys::{self, Admission, Answer, Fetched, Message, Read, Replica, Written};
+use crate::sys;
 
-pub(crate) fn start(number: u8, view: u16, words: &mut [u32], store: &mut [u8]) -> Admission {
+pub use crate::sys::{Admission, Answer, Fetched, Message, Read, Replica, Written};
+pub use crate::sys::{MESSAGE_WORDS, WORDS};
+
+/// Fresh start: the words and the store become those of fresh records, unless it
+/// is refused. The identity is of epoch 0.
+pub fn start(number: u8, view: u16, words: &mut [u32], store: &mut [u8]) -> Admission {
     let (w, w_len, s, s_len) = table_mut(words, store);
     // SAFETY: two slices, borrowed mutably at once, so apart.
     unsafe { sys::cetskobi_start(number, view, w, w_len, s, s_len) }
 }
 
-pub(crate) fn view(me: Replica, epoch: u32, set: u16) -> Admission {
+/// Change of view: the identity from then on, the old one if it is refused.
+pub fn view(me: Replica, epoch: u32, set: u16) -> Admission {
     // SAFETY: numbers only.
     unsafe { sys::cetskobi_view(me, epoch, set) }
 }
 
-pub(crate) fn read(me: Replica, words: &[u32], store: &[u8], i: usize) -> Read {
+/// Read of record `i`: the length of its value, which begins at 192 times `i`.
+pub fn read(me: Replica, words: &[u32], store: &[u8], i: usize) -> Read {
     let (w, w_len, s, s_len) = table(words, store);
     // SAFETY: two slices that are only read.
     unsafe { sys::cetskobi_read(me, w, w_len, s, s_len, i) }
 }
 
-pub(crate) fn write(
-    me: Replica,
-    words: &mut [u32],
-    store: &mut [u8],
-    i: usize,
-    value: &[u8],
-) -> Answer {
+/// Write of a value to record `i`.
+pub fn write(me: Replica, words: &mut [u32], store: &mut [u8], i: usize, value: &[u8]) -> Answer {
     let (w, w_len, s, s_len) = table_mut(words, store);
     // SAFETY: three slices; the two that are written are borrowed mutably, so apart from all.
     unsafe { sys::cetskobi_write(me, w, w_len, s, s_len, i, value.as_ptr(), value.len()) }
 }
 
-pub(crate) fn deliver(
+/// Delivery of a message about record `i`, with the bytes that came along.
+pub fn deliver(
     me: Replica,
     words: &mut [u32],
     store: &mut [u8],
@@ -62,7 +71,8 @@ pub(crate) fn deliver(
     }
 }
 
-pub(crate) fn replay(me: Replica, words: &mut [u32], store: &[u8], i: usize) -> Answer {
+/// Replay of record `i`. Of the store only the length is looked at.
+pub fn replay(me: Replica, words: &mut [u32], store: &[u8], i: usize) -> Answer {
     // SAFETY: two slices; the words are borrowed mutably, so apart.
     unsafe {
         sys::cetskobi_replay(
@@ -76,7 +86,8 @@ pub(crate) fn replay(me: Replica, words: &mut [u32], store: &[u8], i: usize) -> 
     }
 }
 
-pub(crate) fn validate(me: Replica, words: &mut [u32], store: &[u8], i: usize) -> Answer {
+/// Validation of record `i`. Of the store only the length is looked at.
+pub fn validate(me: Replica, words: &mut [u32], store: &[u8], i: usize) -> Answer {
     // SAFETY: two slices; the words are borrowed mutably, so apart.
     unsafe {
         sys::cetskobi_validate(
@@ -90,7 +101,8 @@ pub(crate) fn validate(me: Replica, words: &mut [u32], store: &[u8], i: usize) -
     }
 }
 
-pub(crate) fn resend(me: Replica, words: &mut [u32], store: &[u8], i: usize) -> Answer {
+/// Resend of record `i`; no word changes.
+pub fn resend(me: Replica, words: &mut [u32], store: &[u8], i: usize) -> Answer {
     // SAFETY: two slices; the words are borrowed mutably, so apart.
     unsafe {
         sys::cetskobi_resend(
@@ -104,29 +116,37 @@ pub(crate) fn resend(me: Replica, words: &mut [u32], store: &[u8], i: usize) -> 
     }
 }
 
-pub(crate) fn body(words: &[u32], store: &[u8], i: usize, kind: u8) -> usize {
+/// How many bytes of record `i` a message of this kind takes along, right after
+/// the event that sent it.
+pub fn body(words: &[u32], store: &[u8], i: usize, kind: u8) -> usize {
     let (w, w_len, s, s_len) = table(words, store);
     // SAFETY: two slices that are only read.
     unsafe { sys::cetskobi_body(w, w_len, s, s_len, i, kind) }
 }
 
-pub(crate) fn recipients(me: Replica, kind: u8, sender: u8) -> u16 {
+/// Who gets a message of this kind, bit n for replica n: an ACK goes to the
+/// sender of the delivered message, `sender`.
+pub fn recipients(me: Replica, kind: u8, sender: u8) -> u16 {
     // SAFETY: numbers only.
     unsafe { sys::cetskobi_recipients(me, kind, sender) }
 }
 
-pub(crate) fn fetch(packet: &[u8], i: usize) -> Fetched {
+/// Message `i` of a packet.
+pub fn fetch(packet: &[u8], i: usize) -> Fetched {
     // SAFETY: one slice that is only read.
     unsafe { sys::cetskobi_fetch(packet.as_ptr(), packet.len(), i) }
 }
 
-pub(crate) fn pack(messages: &[u32], bodies: &[u8], out: &mut [u8]) -> Written {
+/// Messages, of seven words each, with their bodies one behind the other, as a
+/// packet at the front of `out`.
+pub fn pack(messages: &[u32], bodies: &[u8], out: &mut [u8]) -> Written {
     let (m, m_len, b, b_len) = table(messages, bodies);
     // SAFETY: three slices; the output is borrowed mutably, so apart from both.
     unsafe { sys::cetskobi_pack(m, m_len, b, b_len, out.as_mut_ptr(), out.len()) }
 }
 
-pub(crate) fn deliver_packet(
+/// Delivery of message `i` of a packet.
+pub fn deliver_packet(
     me: Replica,
     words: &mut [u32],
     store: &mut [u8],
@@ -140,7 +160,9 @@ pub(crate) fn deliver_packet(
     }
 }
 
-pub(crate) fn play(script: &[u8], out: &mut [u8]) -> Written {
+/// The playing program on one script: what it prints stands at the front of
+/// `out`, which has 25 bytes for each of the script and 2 more.
+pub fn play(script: &[u8], out: &mut [u8]) -> Written {
     // SAFETY: two slices; the output is borrowed mutably, so apart.
     unsafe { sys::cetskobi_play(script.as_ptr(), script.len(), out.as_mut_ptr(), out.len()) }
 }
