@@ -1,10 +1,19 @@
 -- How the answers of the packet's reader and writer cross as numbers.
 use Prim.Native.Nat.{ℕ}
+use mathlib.Core.List.{List}
+use lib.ListN.{length}
 use Rattle.packet.specs.declared.entry.Fields.{Fields}
 use Rattle.packet.specs.declared.answer.Fetched.{Fetched}
 use Rattle.packet.specs.declared.answer.Fetched.the-variants.{Found, Refused}
+use Rattle.packet.specs.declared.answer.Written.{Written}
+use Rattle.packet.specs.declared.answer.Written.the-variants as answer
 use Rattle.packet.specs.Entry.{fieldsFor}
+use Rattle.packet.specs.Writing.{written}
+use Rattle.entries.specs.Words.{messagesIn}
 use Rattle.ffi.specs.declared.packets.CetskobiFetched.{CetskobiFetched}
+use Rattle.ffi.specs.declared.packets.CetskobiWritten.{CetskobiWritten}
+
+-- ---- reading
 
 -- an answer with these fields, whose body begins at the offset
 abbrev pub fieldsOut : ℕ → Fields → CetskobiFetched
@@ -28,3 +37,14 @@ noFields = record { kind = 0; sender = 0; epoch = 0; index = 0; version = 0; tie
 abbrev pub fetchedOut : Fetched → CetskobiFetched
 fetchedOut (Found e at) = fieldsOut 0 (fieldsFor e at)
 fetchedOut (Refused k) = fieldsOut k noFields
+
+-- ---- writing
+
+-- 01, "Writing takes messages and their bodies": what the writer answers to the messages that the words hold
+abbrev pub packed : List ℕ → List ℕ → ℕ → Written
+packed words bodies room = written (messagesIn words) (length (messagesIn words)) bodies room
+
+-- 0 with the packet's total length, or the number of the question that said no
+abbrev pub writtenOut : Written → CetskobiWritten
+writtenOut (answer.Total n) = record { number = 0; len = n }
+writtenOut (answer.Refused k) = record { number = k; len = 0 }

@@ -22,4 +22,5 @@ pub use membership::cetskobi_view;
 pub use packets::CetskobiFetched;
 pub use packets::CetskobiWritten;
 pub use packets::cetskobi_fetch;
+pub use packets::cetskobi_pack;
 pub use playing::cetskobi_play;

@@ -1,8 +1,12 @@
 // Packets, for C and Rust.
 ghost use mathlib.Core.Path.{_≡_};
+ghost use lib.ListN.{length};
 ghost use Rattle.packet.specs.Reading.{fetched};
-ghost use Rattle.ffi.specs.Packets.{fetchedOut};
+ghost use Rattle.packet.specs.Writing.{outputOf};
+ghost use Rattle.entries.specs.Words.{messagesIn};
+ghost use Rattle.ffi.specs.Packets.{fetchedOut, writtenOut, packed};
 use packet::Fetched;
+use packet::Written;
 
 // The answer to a fetch: 0 or the number of the question that said no; and the message, whose body is the len bytes of the packet from at on.
 #[repr(C)]
@@ -64,4 +68,25 @@ pub extern "C" fn cetskobi_fetch(packet: &[u8], i: usize) -> CetskobiFetched
     ensures { λ r. ⌜ r ≡ fetchedOut (fetched (now (packet .entry)) i) ⌝ }
 {
     fetched_out(packet::fetch(packet, i))
+}
+
+fn written_out(written: Written) -> CetskobiWritten
+    ensures { λ r. ⌜ r ≡ writtenOut written ⌝ }
+{
+    match written {
+        Written::Total(n) => CetskobiWritten { number: 0, len: n },
+        Written::Refused(k) => CetskobiWritten { number: k, len: 0 },
+    }
+}
+
+// A packet of messages, seven words for each, whose bodies stand end to end.
+#[no_mangle]
+pub extern "C" fn cetskobi_pack(messages: &[u32], bodies: &[u8], out: &mut [u8]) -> CetskobiWritten
+    ensures { λ r. ⌜ (r ≡ writtenOut (packed (now (messages .entry)) (now (bodies .entry)) (length (now (out .entry)))))
+        × (now (out .exit) ≡ outputOf (packed (now (messages .entry)) (now (bodies .entry)) (length (now (out .entry)))) (messagesIn (now (messages .entry))) (now (bodies .entry)) (now (out .entry))) ⌝ }
+{
+    let count = entries::count_in(messages.len());
+    let array = entries::array_in(messages);
+    let written = packet_writer::write(array, count, bodies, out);
+    written_out(written)
 }

@@ -1,0 +1,2 @@
+-- How messages cross as words.
+pub mod Words
