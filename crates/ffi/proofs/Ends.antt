@@ -10,7 +10,7 @@ use Rattle.hermes.specs.declared.event.Event.the-variants as event
 use Rattle.hermes.specs.declared.event.Answer.{Answer}
 use Rattle.hermes.specs.declared.event.Moved.{Moved}
 use Rattle.hermes.specs.Order.{higher}
-use Rattle.hermes.specs.Event.{Effect, effect, moved, numberOf, partOf, readPart, refusal}
+use Rattle.hermes.specs.Event.{Effect, effect, moved, step, numberOf, partOf, readPart, refusal}
 use Rattle.hermes.specs.Store.{valueAt}
 use Rattle.hermes.specs.Node.{recordAt, effectOf, apply, read}
 use Rattle.replica.proofs.Asked.{quiet}
@@ -18,9 +18,10 @@ use Rattle.ffi.specs.declared.crossing.CetskobiReplica.{CetskobiReplica}
 use Rattle.ffi.specs.declared.crossing.CetskobiAnswer.{CetskobiAnswer}
 use Rattle.ffi.specs.declared.crossing.CetskobiRead.{CetskobiRead}
 use Rattle.ffi.specs.Crossing.{replicaOf, answerOut}
-use Rattle.ffi.specs.Words.{countOf, tableOf, wordsAfter}
-use Rattle.ffi.specs.Events.{nodeOf, Done, ReadDone}
-use Rattle.ffi.proofs.Lent.{length-table}
+use Rattle.words.specs.Words.{countOf, tableOf, wordsAfter, tableAfter}
+use Rattle.ffi.specs.Events.{nodeOf, Finished, Done, ReadDone}
+use Rattle.words.proofs.Lent.{length-table}
+use Rattle.words.proofs.Table.{settled-step}
 
 -- what the code takes out of the words and hands to the engine
 pub record Taken (me : CetskobiReplica) (words : List ℕ) (i : ℕ) (who : Replica) (count : ℕ) (r : Record) : Type 0 where
@@ -36,13 +37,14 @@ module _ (me : CetskobiReplica) (words : List ℕ) (i : ℕ) (who : Replica) (co
   -- an event that stores
   pub done : (store : List ℕ) (e : Event) (v : List ℕ) (m : Moved) (a : CetskobiAnswer) (words′ store′ : List ℕ)
       → (m ≡ effect higher who count i r store e v .moved) × (store′ ≡ effect higher who count i r store e v .store)
-      → (a ≡ answerOut (m .answer)) × (words′ ≡ wordsAfter m words i) → Done (nodeOf me words store) words i e v a words′ store′
-  unfolding apply
-  done store e v m a words′ store′ (hm, hs) (ha, hw) =
+      → Finished words i m a words′ → Done (nodeOf me words store) words i e v a words′ store′
+  unfolding apply effect
+  done store e v m a words′ store′ (hm, hs) f =
       let moves : m ≡ effectOf higher (nodeOf me words store) i e v .moved = hm ∙ ap (λ (x : Effect). x .moved) (same store e v) in
       record {
-        answer = ha ∙ ap (λ (x : Moved). answerOut (x .answer)) moves;
-        words = hw ∙ ap (λ (x : Moved). wordsAfter x words i) moves;
+        answer = f .answer ∙ ap (λ (x : Moved). answerOut (x .answer)) moves;
+        words = f .words ∙ ap (λ (x : Moved). wordsAfter x words i) moves;
+        table = f .table ∙ ap (λ (x : Moved). tableAfter x (tableOf words) i) moves ∙ settled-step (refusal (replicaOf me) (length (tableOf words)) (length store) i (recordAt (tableOf words) i) e (length v)) (tableOf words) i (step higher (replicaOf me) i (recordAt (tableOf words) i) e v);
         store = hs ∙ ap (λ (x : Effect). x .store) (same store e v);
       }
 
@@ -50,7 +52,7 @@ module _ (me : CetskobiReplica) (words : List ℕ) (i : ℕ) (who : Replica) (co
   pub done-quiet : (store : List ℕ) (e : Event) (m : Moved) (a : CetskobiAnswer) (words′ : List ℕ)
       → effect higher who count i r store e [] ≡ record { moved = moved higher who count (length store) i r e []; store = store }
       → m ≡ moved higher who count (length store) i r e []
-      → (a ≡ answerOut (m .answer)) × (words′ ≡ wordsAfter m words i) → Done (nodeOf me words store) words i e [] a words′ store
+      → Finished words i m a words′ → Done (nodeOf me words store) words i e [] a words′ store
   done-quiet store e m a words′ q hm h =
       done store e [] m a words′ store (hm ∙ ap (λ (x : Effect). x .moved) (sym q), ap (λ (x : Effect). x .store) (sym q)) h
 

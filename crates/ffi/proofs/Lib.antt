@@ -1,4 +1,3 @@
+pub mod Arrivals
 pub mod Ends
-pub mod Lent
-pub mod RoundTrip
 pub mod Started

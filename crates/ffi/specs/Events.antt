@@ -5,6 +5,7 @@ use mathlib.Core.List.{List, []}
 use lib.ListN.{take, drop}
 use Rattle.hermes.specs.declared.event.Event.{Event}
 use Rattle.hermes.specs.declared.event.Event.the-variants.{Read}
+use Rattle.hermes.specs.declared.event.Moved.{Moved}
 use Rattle.hermes.specs.Order.{higher}
 use Rattle.hermes.specs.Event.{numberOf}
 use Rattle.hermes.specs.Node.{Node, lent, effectOf, apply, read}
@@ -12,16 +13,23 @@ use Rattle.ffi.specs.declared.crossing.CetskobiReplica.{CetskobiReplica}
 use Rattle.ffi.specs.declared.crossing.CetskobiAnswer.{CetskobiAnswer}
 use Rattle.ffi.specs.declared.crossing.CetskobiRead.{CetskobiRead}
 use Rattle.ffi.specs.Crossing.{replicaOf, answerOut}
-use Rattle.ffi.specs.Words.{tableOf, wordsAfter}
+use Rattle.words.specs.Words.{tableOf, wordsAfter, tableAfter}
 
 -- the replica with the memory that came from outside
 abbrev pub nodeOf : CetskobiReplica → List ℕ → List ℕ → Node
 nodeOf me words store = lent (replicaOf me) (tableOf words) store
 
--- the answer, the words and the store after event e on record i, with the value v
+-- the answer, the words and the table that they hold, after an event that moved record i so
+pub record Finished (before : List ℕ) (i : ℕ) (m : Moved) (a : CetskobiAnswer) (words′ : List ℕ) : Type 0 where
+  pub answer : a ≡ answerOut (m .answer)
+  pub words : words′ ≡ wordsAfter m before i
+  pub table : tableOf words′ ≡ tableAfter m (tableOf before) i
+
+-- the answer, the words, the table that they hold, and the store after event e on record i, with the value v
 pub record Done (n : Node) (before : List ℕ) (i : ℕ) (e : Event) (v : List ℕ) (a : CetskobiAnswer) (words′ store′ : List ℕ) : Type 0 where
   pub answer : a ≡ answerOut (apply higher n i e v .answer)
   pub words : words′ ≡ wordsAfter (effectOf higher n i e v .moved) before i
+  pub table : tableOf words′ ≡ apply higher n i e v .node .table
   pub store : store′ ≡ apply higher n i e v .node .store
 
 -- 01, Read: its number, and the value as that part of the store that begins at 192 times the record's number; of a refused read the empty part

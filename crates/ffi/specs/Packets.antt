@@ -1,17 +1,26 @@
--- How the answers of the packet's reader and writer cross as numbers.
+-- How the answers of the packet's reader and writer cross as numbers, and what an exported delivery from a packet does.
 use Prim.Native.Nat.{ℕ}
+use mathlib.Core.Path.{_≡_}
 use mathlib.Core.List.{List}
 use lib.ListN.{length}
+use Rattle.hermes.specs.declared.event.Event.the-variants.{Deliver}
+use Rattle.hermes.specs.Order.{higher}
+use Rattle.hermes.specs.Node.{Node, effectOf}
 use Rattle.packet.specs.declared.entry.Fields.{Fields}
 use Rattle.packet.specs.declared.answer.Fetched.{Fetched}
 use Rattle.packet.specs.declared.answer.Fetched.the-variants.{Found, Refused}
 use Rattle.packet.specs.declared.answer.Written.{Written}
 use Rattle.packet.specs.declared.answer.Written.the-variants as answer
 use Rattle.packet.specs.Entry.{fieldsFor}
+use Rattle.packet.specs.Reading.{bodyOf}
 use Rattle.packet.specs.Writing.{written}
 use Rattle.entries.specs.Words.{messagesIn}
+use Rattle.inbox.specs.Arrival.{receivedOf, receiptOf}
+use Rattle.words.specs.Words.{tableOf, wordsAfter}
+use Rattle.ffi.specs.declared.crossing.CetskobiAnswer.{CetskobiAnswer}
 use Rattle.ffi.specs.declared.packets.CetskobiFetched.{CetskobiFetched}
 use Rattle.ffi.specs.declared.packets.CetskobiWritten.{CetskobiWritten}
+use Rattle.ffi.specs.Crossing.{answerOut}
 
 -- ---- reading
 
@@ -48,3 +57,23 @@ packed words bodies room = written (messagesIn words) (length (messagesIn words)
 abbrev pub writtenOut : Written → CetskobiWritten
 writtenOut (answer.Total n) = record { number = 0; len = n }
 writtenOut (answer.Refused k) = record { number = k; len = 0 }
+
+-- ---- delivery
+
+-- the record that a fetched message is about; a refused fetch changes no record
+abbrev pub indexOf : Fetched → ℕ
+indexOf (Found e at) = e .header .index
+indexOf (Refused k) = 0
+
+-- the words after the delivery of what a fetch from the packet p answered
+abbrev pub wordsArrived : Node → List ℕ → List ℕ → Fetched → List ℕ
+wordsArrived n before p (Found e at) =
+    wordsAfter (effectOf higher n (e .header .index) (Deliver (receivedOf e)) (bodyOf p (Found e at)) .moved) before (e .header .index)
+wordsArrived n before p (Refused k) = before
+
+-- the answer, the words, the table that they hold, and the store after it
+pub record Arrived (n : Node) (before p : List ℕ) (f : Fetched) (a : CetskobiAnswer) (words′ store′ : List ℕ) : Type 0 where
+  pub answer : a ≡ answerOut (receiptOf higher n p f .answer)
+  pub words : words′ ≡ wordsArrived n before p f
+  pub table : tableOf words′ ≡ receiptOf higher n p f .node .table
+  pub store : store′ ≡ receiptOf higher n p f .node .store

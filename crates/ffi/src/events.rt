@@ -4,20 +4,18 @@ ghost use mathlib.Core.List.{[]};
 ghost use lib.ListN.{length, take, drop};
 ghost use Prim.Native.Nat.{_*_};
 ghost use Rattle.hermes.specs.declared.event.Event.the-variants.{Write, Replay, Deliver, Validate, Resend};
-ghost use Rattle.ffi.specs.Crossing.{answerOut, receivedIn};
-ghost use Rattle.ffi.specs.Words.{wordsAfter};
-ghost use Rattle.ffi.specs.Events.{nodeOf, Done, ReadDone};
+ghost use Rattle.ffi.specs.Crossing.{receivedIn};
+ghost use Rattle.ffi.specs.Events.{nodeOf, Finished, Done, ReadDone};
 use crate::crossing;
 use crate::crossing::CetskobiAnswer;
 use crate::crossing::CetskobiMessage;
 use crate::crossing::CetskobiRead;
 use crate::crossing::CetskobiReplica;
-use crate::words;
 use hermes::Moved;
 
 // The end of an event on record i: its answer, and the words.
-fn finish(words: &mut [u32], i: usize, m: Moved) -> CetskobiAnswer
-    ensures { λ a. ⌜ (a ≡ answerOut (m .answer)) × (now (words .exit) ≡ wordsAfter m (now (words .entry)) i) ⌝ }
+pub(crate) fn finish(words: &mut [u32], i: usize, m: Moved) -> CetskobiAnswer
+    ensures { λ a. ⌜ Finished (now (words .entry)) i m a (now (words .exit)) ⌝ }
 {
     words::settle(words, i, m);
     let a = m.answer;

@@ -4,7 +4,6 @@ mod events;
 mod membership;
 mod packets;
 mod playing;
-mod words;
 
 pub use crossing::CetskobiAdmission;
 pub use crossing::CetskobiAnswer;
@@ -21,6 +20,7 @@ pub use membership::cetskobi_start;
 pub use membership::cetskobi_view;
 pub use packets::CetskobiFetched;
 pub use packets::CetskobiWritten;
+pub use packets::cetskobi_deliver_packet;
 pub use packets::cetskobi_fetch;
 pub use packets::cetskobi_pack;
 pub use playing::cetskobi_play;

@@ -1,17 +1,12 @@
 // Fresh start and view, for C and Rust.
 ghost use mathlib.Core.Path.{_≡_};
-ghost use lib.ListN.{length, replicate};
-ghost use Prim.Native.Nat.{_≤_};
 ghost use Rattle.hermes.specs.Node.{view};
 ghost use Rattle.ffi.specs.Crossing.{replicaOf, admissionOut};
-ghost use Rattle.ffi.specs.Words.{countOf, fill};
 ghost use Rattle.ffi.specs.Membership.{StartDone};
 use crate::crossing;
 use crate::crossing::CetskobiAdmission;
 use crate::crossing::CetskobiReplica;
-use crate::words;
 use hermes::Admission;
-use hermes::Record;
 
 // A change of view. A refused one gives the identity as it was.
 #[no_mangle]
@@ -20,29 +15,6 @@ pub extern "C" fn cetskobi_view(me: CetskobiReplica, epoch: u32, set: u16) -> Ce
 {
     let a = replica::view(crossing::replica_of(me), epoch, set);
     crossing::admission_out(a, me)
-}
-
-// Every byte of the store becomes zero.
-fn zero(store: &mut [u8])
-    ensures { λ _. ⌜ now (store .exit) ≡ replicate (length (now (store .entry))) 0 ⌝ }
-{
-    let mut k: usize = 0;
-    while k < store.len() {
-        store[k] = 0;
-        k += 1;
-    }
-}
-
-// Every record of the table becomes r.
-fn fill(words: &mut [u32], count: usize, r: Record)
-    requires { ⌜ count ≤ countOf (length (now words)) ⌝ }
-    ensures { λ _. ⌜ now (words .exit) ≡ fill count (now (words .entry)) r ⌝ }
-{
-    let mut k: usize = 0;
-    while k < count {
-        words::put_record(words, k, r);
-        k += 1;
-    }
 }
 
 // A fresh start of the replica of this number, with this first view: every record fresh, the store zero. A refused one changes nothing.
@@ -64,8 +36,8 @@ pub extern "C" fn cetskobi_start(
     };
     match a {
         Admission::Admitted(_) => {
-            fill(words, count, replica::fresh_record(view));
-            zero(store);
+            words::fill(words, replica::fresh_record(view));
+            words::zero(store);
             crossing::admission_out(a, old)
         }
         Admission::Refused(_) => crossing::admission_out(a, old),

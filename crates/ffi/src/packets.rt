@@ -4,7 +4,12 @@ ghost use lib.ListN.{length};
 ghost use Rattle.packet.specs.Reading.{fetched};
 ghost use Rattle.packet.specs.Writing.{outputOf};
 ghost use Rattle.entries.specs.Words.{messagesIn};
-ghost use Rattle.ffi.specs.Packets.{fetchedOut, writtenOut, packed};
+ghost use Rattle.ffi.specs.Packets.{fetchedOut, writtenOut, packed, indexOf, Arrived};
+ghost use Rattle.ffi.specs.Events.{nodeOf};
+use crate::crossing;
+use crate::crossing::CetskobiAnswer;
+use crate::crossing::CetskobiReplica;
+use crate::events;
 use packet::Fetched;
 use packet::Written;
 
@@ -89,4 +94,33 @@ pub extern "C" fn cetskobi_pack(messages: &[u32], bodies: &[u8], out: &mut [u8])
     let array = entries::array_in(messages);
     let written = packet_writer::write(array, count, bodies, out);
     written_out(written)
+}
+
+// The record that a fetched message is about. A refused fetch is about none, and changes none.
+fn index_of(fetched: Fetched) -> usize
+    ensures { λ k. ⌜ k ≡ indexOf fetched ⌝ }
+{
+    match fetched {
+        Fetched::Found(entry, _) => entry.header.index,
+        Fetched::Refused(_) => 0,
+    }
+}
+
+// Delivery of message i of a packet, with its body, to the record that it is about.
+#[no_mangle]
+pub extern "C" fn cetskobi_deliver_packet(
+    me: CetskobiReplica,
+    words: &mut [u32],
+    store: &mut [u8],
+    packet: &[u8],
+    i: usize,
+) -> CetskobiAnswer
+    ensures { λ a. ⌜ Arrived (nodeOf me (now (words .entry)) (now (store .entry))) (now (words .entry)) (now (packet .entry)) (fetched (now (packet .entry)) i) a (now (words .exit)) (now (store .exit)) ⌝ }
+{
+    let fetched = packet::fetch(packet, i);
+    let index = index_of(fetched);
+    let r = words::record_at(words, index);
+    let count = words::count(words.len());
+    let m = inbox::deliver_fetched(crossing::replica_of(me), count, r, store, packet, fetched);
+    events::finish(words, index, m)
 }

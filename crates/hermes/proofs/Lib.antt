@@ -8,6 +8,7 @@ pub mod Words
 pub mod Steps
 pub mod Apply
 pub mod Start
+pub mod Filling
 pub mod Protocol
 pub mod Refine
 pub mod Agreement

@@ -1,7 +1,7 @@
 // Delivery from a packet, on one record: message i is fetched, and delivered with its body.
 ghost use mathlib.Core.Path.{_≡_};
 ghost use Rattle.hermes.specs.Order.{higher};
-ghost use Rattle.inbox.specs.Arrival.{arrival, receivedOf};
+ghost use Rattle.inbox.specs.Arrival.{arrival, arrivalOf, receivedOf};
 use hermes::Answer;
 use hermes::Moved;
 use hermes::Received;
@@ -22,6 +22,32 @@ pub(crate) fn received(entry: Entry) -> Received
     }
 }
 
+// What a fetch from this packet answered is delivered to r, the record that it is about, of replica me with count records and this store.
+// A refused fetch changes nothing.
+pub fn deliver_fetched(
+    me: Replica,
+    count: usize,
+    r: Record,
+    store: &mut [u8],
+    bytes: &[u8],
+    fetched: Fetched,
+) -> Moved
+    ensures { λ m. ⌜ (m ≡ arrivalOf higher me count r (now (store .entry)) (now (bytes .entry)) fetched .moved)
+        × (now (store .exit) ≡ arrivalOf higher me count r (now (store .entry)) (now (bytes .entry)) fetched .store) ⌝ }
+{
+    match fetched {
+        Fetched::Found(entry, _) => {
+            let value = packet::body(bytes, fetched);
+            let m = received(entry);
+            replica::deliver(me, count, entry.header.index, r, store, m, value)
+        }
+        Fetched::Refused(k) => Moved {
+            answer: Answer::Refused(k),
+            after: r,
+        },
+    }
+}
+
 // Message i of a packet is delivered to r, the record that it is about, of replica me with count records and this store.
 // A packet that the reader refuses changes nothing.
 pub fn deliver_packet(
@@ -36,15 +62,5 @@ pub fn deliver_packet(
         × (now (store .exit) ≡ arrival higher me count r (now (store .entry)) (now (bytes .entry)) i .store) ⌝ }
 {
     let fetched = packet::fetch(bytes, i);
-    match fetched {
-        Fetched::Found(entry, _) => {
-            let value = packet::body(bytes, fetched);
-            let m = received(entry);
-            replica::deliver(me, count, entry.header.index, r, store, m, value)
-        }
-        Fetched::Refused(k) => Moved {
-            answer: Answer::Refused(k),
-            after: r,
-        },
-    }
+    deliver_fetched(me, count, r, store, bytes, fetched)
 }

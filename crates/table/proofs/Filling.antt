@@ -1,31 +1,17 @@
 -- Laws of the fresh start: what its admission, the filled records and the zeroed store come to.
-use mathlib.Core.Path.{_≡_, refl, ap, _∙_}
-use Prim.Native.Nat.{ℕ, zero, suc, _<_, _≤_}
-use native.Mathlib.Nat.{not-suc-le-zero, le-of-suc-le-suc}
+use mathlib.Core.Path.{_≡_, refl}
+use Prim.Native.Nat.{ℕ, zero, suc, _≤_}
 use native.Mathlib.Omega.{arith}
-use mathlib.Core.List.{List, [], _∷_, _++_, append-nil}
-use lib.ListN.{length, set, replicate, drop}
-use lib.Seq.{drop-length}
+use mathlib.Core.List.{List}
+use lib.ListN.{length}
 use Rattle.hermes.specs.declared.record.Record.{Record}
 use Rattle.hermes.specs.declared.event.Replica.{Replica}
 use Rattle.hermes.specs.declared.event.Admission.{Admission}
 use Rattle.hermes.specs.declared.event.Admission.the-variants.{Admitted, Refused}
 use Rattle.hermes.specs.Guards.{firstNo}
 use Rattle.hermes.specs.Node.{newcomer, startQuestions, admissionOf, admit, firstRecord, begin, start}
+use Rattle.hermes.proofs.Filling.{filled, filled-all}
 use Rattle.table.specs.Filling.{filledBy, zeroedBy}
-
--- the first i of a list are r, and the others are as they were
-module _ {A : Type 0} where
-  abbrev pub filled : A → List A → ℕ → List A
-  filled r xs i = replicate i r ++ drop i xs
-
-  pub filled-suc : (r : A) (xs : List A) (i : ℕ) → i < length xs → set (filled r xs i) i r ≡ filled r xs (suc i)
-  filled-suc r [] i l = absurd (not-suc-le-zero l)
-  filled-suc r (x ∷ xs) zero l = refl
-  filled-suc r (x ∷ xs) (suc i) l = ap (λ (t : List A). r ∷ t) (filled-suc r xs i (le-of-suc-le-suc l))
-
-  pub filled-all : (r : A) (xs : List A) → filled r xs (length xs) ≡ replicate (length xs) r
-  filled-all r xs = ap (λ (l : List A). replicate (length xs) r ++ l) (drop-length xs) ∙ append-nil (replicate (length xs) r)
 
 pub filled-within : (a : Admission) (n : ℕ) → filledBy a n ≤ n
 filled-within (Admitted me) n = omega arith
@@ -41,20 +27,12 @@ begins-store : (k : ℕ) (me : Replica) (table : List Record) (store : List ℕ)
 begins-store zero me table store = refl
 begins-store (suc k) me table store = refl
 
-begins-admission : (k : ℕ) (me : Replica) (table : List Record) (store : List ℕ) → admissionOf k me ≡ begin k me table store .admission
-begins-admission zero me table store = refl
-begins-admission (suc k) me table store = refl
-
 module _ (number view : ℕ) (table : List Record) (store : List ℕ) where
   abbrev me : Replica
   me = newcomer number view
 
   abbrev no : ℕ
   no = firstNo (startQuestions me (length table) (length store))
-
-  pub start-admission : admit number view (length table) (length store) ≡ start number view table store .admission
-  unfolding start
-  start-admission = begins-admission no me table store
 
   pub start-table : filled (firstRecord view) table (filledBy (admit number view (length table) (length store)) (length table)) ≡ start number view table store .table
   unfolding start

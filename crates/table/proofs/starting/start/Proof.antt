@@ -58,8 +58,9 @@ use Rattle.hermes.proofs.event.Admission.Laws as Ad′
 use Rattle.hermes.specs.Node.{admit, firstRecord}
 use Rattle.hermes.specs.Node as node
 use Rattle.table.specs.declared.starting.Begun.{Begun}
+use Rattle.hermes.proofs.Filling.{filled, filled-suc, start-admission}
 use Rattle.table.specs.Filling.{filledBy, zeroedBy}
-use Rattle.table.proofs.Filling.{filled, filled-suc, filled-within, start-admission, start-table, start-store}
+use Rattle.table.proofs.Filling.{filled-within, start-table, start-store}
 use Rattle.table.proofs.starting.Begun as B
 use Rattle.table.proofs.starting.Begun.Laws as B′
 use Rattle.table.proofs.starting.begin as begin

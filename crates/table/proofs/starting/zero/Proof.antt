@@ -6,7 +6,7 @@ use native.Mathlib.Numerals.{add-one}
 use native.Mathlib.Omega.{arith}
 use borrow.Author.Needs.{needs}
 use lib.ListN.{length, set, length-set}
-use Rattle.table.proofs.Filling.{filled, filled-suc, filled-all}
+use Rattle.hermes.proofs.Filling.{filled, filled-suc, filled-all}
 use Rattle.table.proofs.starting.zero.Statement.{statement}
 use Rattle.table.proofs.starting.zero.Tie as tie
 use Rattle.table.proofs.starting.zero.Reads as reads

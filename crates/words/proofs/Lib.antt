@@ -1,0 +1,4 @@
+-- Laws of records as words.
+pub mod Lent
+pub mod RoundTrip
+pub mod Table

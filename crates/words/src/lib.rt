@@ -1,0 +1,11 @@
+// The table as words, eight for each record, for callers that cannot lend records.
+mod decoding;
+mod filling;
+mod putting;
+mod reading;
+
+pub use filling::fill;
+pub use filling::zero;
+pub use putting::settle;
+pub use reading::count;
+pub use reading::record_at;
