@@ -19,8 +19,10 @@ use Rattle.ffi.specs.declared.crossing.CetskobiAnswer.{CetskobiAnswer}
 use Rattle.ffi.specs.declared.crossing.CetskobiRead.{CetskobiRead}
 use Rattle.ffi.specs.Crossing.{replicaOf, answerOut}
 use Rattle.words.specs.Words.{countOf, tableOf, wordsAfter, tableAfter}
+use Rattle.ffi.specs.Leaving.{PartAt}
 use Rattle.ffi.specs.Events.{nodeOf, Finished, Done, ReadDone}
 use Rattle.words.proofs.Lent.{length-table}
+use Rattle.ffi.proofs.Parts.{cut, no-part}
 use Rattle.words.proofs.Table.{settled-step}
 
 -- what the code takes out of the words and hands to the engine
@@ -56,14 +58,9 @@ module _ (me : CetskobiReplica) (words : List ℕ) (i : ℕ) (who : Replica) (co
   done-quiet store e m a words′ q hm h =
       done store e [] m a words′ store (hm ∙ ap (λ (x : Effect). x .moved) (sym q), ap (λ (x : Effect). x .store) (sym q)) h
 
-take-length : (n : ℕ) (xs : List ℕ) → take (length (take n xs)) xs ≡ take n xs
-take-length zero xs = refl
-take-length (suc n) [] = refl
-take-length (suc n) (x ∷ xs) = ap (λ (l : List ℕ). x ∷ l) (take-length n xs)
-
-part-length : (k n : ℕ) (xs : List ℕ) → take (length (partOf k (take n xs))) xs ≡ partOf k (take n xs)
-part-length zero n xs = take-length n xs
-part-length (suc k) n xs = refl
+part-read : (store : List ℕ) (i k n : ℕ) → PartAt store i (partOf k (valueAt i n store)) (length (partOf k (valueAt i n store)))
+part-read store i zero n = cut store i n
+part-read store i (suc k) n = no-part store i
 
 module _ (me : CetskobiReplica) (words : List ℕ) (i : ℕ) (who : Replica) (count : ℕ) (r : Record) (t : Taken me words i who count r) where
   -- a read: its number and its part
@@ -75,5 +72,5 @@ module _ (me : CetskobiReplica) (words : List ℕ) (i : ℕ) (who : Replica) (co
       let q = quiet higher who count i r store event.Read [] tt in
       record {
         number = hn ∙ ap numberOf (ha ∙ ap (λ (x : Effect). x .moved .answer) (sym q ∙ same me words i who count r t store event.Read []));
-        part = rw (hl, hp, part-length (refusal who count (length store) i r event.Read 0) (r .len) (drop (192 * i) store), t .identity, t .counted, t .found, length-table words);
+        part = rw (hl, hp, t .identity, t .counted, t .found, length-table words) (part-read store i (refusal (replicaOf me) (countOf (length words)) (length store) i (recordAt (tableOf words) i) event.Read 0) (recordAt (tableOf words) i .len));
       }

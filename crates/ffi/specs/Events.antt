@@ -1,8 +1,7 @@
 -- What an exported event does: that of hermes's `apply` on the replica whose table the words hold.
-use Prim.Native.Nat.{ℕ, _*_}
+use Prim.Native.Nat.{ℕ}
 use mathlib.Core.Path.{_≡_}
 use mathlib.Core.List.{List, []}
-use lib.ListN.{take, drop}
 use Rattle.hermes.specs.declared.event.Event.{Event}
 use Rattle.hermes.specs.declared.event.Event.the-variants.{Read}
 use Rattle.hermes.specs.declared.event.Moved.{Moved}
@@ -13,6 +12,7 @@ use Rattle.ffi.specs.declared.crossing.CetskobiReplica.{CetskobiReplica}
 use Rattle.ffi.specs.declared.crossing.CetskobiAnswer.{CetskobiAnswer}
 use Rattle.ffi.specs.declared.crossing.CetskobiRead.{CetskobiRead}
 use Rattle.ffi.specs.Crossing.{replicaOf, answerOut}
+use Rattle.ffi.specs.Leaving.{PartAt}
 use Rattle.words.specs.Words.{tableOf, wordsAfter, tableAfter}
 
 -- the replica with the memory that came from outside
@@ -35,4 +35,4 @@ pub record Done (n : Node) (before : List ℕ) (i : ℕ) (e : Event) (v : List �
 -- 01, Read: its number, and the value as that part of the store that begins at 192 times the record's number; of a refused read the empty part
 pub record ReadDone (n : Node) (i : ℕ) (p : CetskobiRead) : Type 0 where
   pub number : p .number ≡ numberOf (apply higher n i Read [] .answer)
-  pub part : take (p .len) (drop (192 * i) (n .store)) ≡ read n i
+  pub part : PartAt (n .store) i (read n i) (p .len)

@@ -1,4 +1,5 @@
 pub mod Crossing
+pub mod Leaving
 pub mod Events
 pub mod Membership
 pub mod Packets

@@ -1,6 +1,7 @@
 // The engine for C and Rust: exported functions over numbers, slices of numbers and structs of numbers.
 mod crossing;
 mod events;
+mod leaving;
 mod membership;
 mod packets;
 mod playing;
@@ -16,6 +17,8 @@ pub use events::cetskobi_replay;
 pub use events::cetskobi_resend;
 pub use events::cetskobi_validate;
 pub use events::cetskobi_write;
+pub use leaving::cetskobi_body;
+pub use leaving::cetskobi_recipients;
 pub use membership::cetskobi_start;
 pub use membership::cetskobi_view;
 pub use packets::CetskobiFetched;

@@ -22,12 +22,12 @@
 //!
 //! // The net saves. Until the hut has acknowledged, neither shows the record.
 //! let inv = net.write(0, b"Blue tit, wing 62")?.expect("a write sends an INV");
-//! let ack = hut.deliver(&inv, b"Blue tit, wing 62")?.expect("an INV is acknowledged");
+//! let ack = hut.deliver(&inv, net.body(&inv))?.expect("an INV is acknowledged");
 //! assert_eq!(hut.read(0), Err(Refusal::NotReadable));
 //!
-//! net.deliver(&ack, b"")?;
+//! net.deliver(&ack, hut.body(&ack))?;
 //! let val = net.validate(0)?.expect("a validation sends a VAL");
-//! hut.deliver(&val, b"")?;
+//! hut.deliver(&val, net.body(&val))?;
 //! assert_eq!(net.read(0)?, b"Blue tit, wing 62");
 //! assert_eq!(hut.read(0)?, b"Blue tit, wing 62");
 //! # Ok(())

@@ -1,0 +1,109 @@
+-- What the exported functions say of a kind is what hermes says of the message that left: who gets it, and the bytes that it takes along.
+use Prim.Native.Nat.{ℕ, zero, suc, _*_}
+use mathlib.Core.Path.{_≡_, refl, sym, ap, _∙_}
+use mathlib.Core.Bool.{Bool, true, false}
+use mathlib.Core.List.{List}
+use lib.Dec.{eqb, ltb}
+use lib.ListN.{length, drop}
+use Rattle.hermes.specs.declared.timestamp.Timestamp.{Timestamp}
+use Rattle.hermes.specs.declared.record.Record.{Record}
+use Rattle.hermes.specs.declared.record.State.{State}
+use Rattle.hermes.specs.declared.record.State.the-variants as state
+use Rattle.hermes.specs.declared.message.Message.{Message}
+use Rattle.hermes.specs.declared.message.Message.the-variants.{Inv, Ack, Val}
+use Rattle.hermes.specs.declared.message.Outgoing.{Outgoing}
+use Rattle.hermes.specs.declared.message.Outgoing.the-variants.{None, Sent}
+use Rattle.hermes.specs.declared.message.Received.{Received}
+use Rattle.hermes.specs.declared.event.Replica.{Replica}
+use Rattle.hermes.specs.declared.event.Answer.{Answer}
+use Rattle.hermes.specs.declared.event.Answer.the-variants.{Accepted}
+use Rattle.hermes.specs.declared.event.Event.{Event}
+use Rattle.hermes.specs.declared.event.Event.the-variants.{Read, Write, Replay, Deliver, Validate, Resend}
+use Rattle.hermes.specs.Members.{with}
+use Rattle.hermes.specs.Order.{higher, later}
+use Rattle.hermes.specs.Event.{leavingBody, recipients, sentBy, send, Step, step, movedBy, deliverStep, invStep, resent, refusal, effect}
+use Rattle.hermes.specs.Node.{Node, recordAt, recordOf, leaving, apply}
+use Rattle.words.specs.Words.{tableOf}
+use Rattle.ffi.specs.declared.crossing.CetskobiAnswer.{CetskobiAnswer}
+use Rattle.ffi.specs.Crossing.{messageIn, answerOut}
+use Rattle.ffi.specs.Leaving.{pickLeft, leftOf, recipientsOf, bodyOf, Delivered, PartAt}
+use Rattle.ffi.specs.Events.{Done}
+use Rattle.ffi.proofs.Parts.{cut, no-part}
+
+-- ---- the part of the store
+
+part-of : (b c : Bool) (m : Message) (store : List ℕ) (i : ℕ) (r : Record) (o : Outgoing)
+    → o ≡ pickLeft b None (pickLeft c None (Sent m (record { sender = 0; epoch = 0; index = i })))
+    → PartAt store i (leavingBody o r store) (length (leavingBody o r store))
+part-of true c m store i r o e = rw e (no-part store i)
+part-of false true m store i r o e = rw e (no-part store i)
+part-of false false (Inv t) store i r o e = rw e (cut store i (r .len))
+part-of false false (Ack t) store i r o e = rw e (no-part store i)
+part-of false false (Val t) store i r o e = rw e (no-part store i)
+
+pub part-left : (words store : List ℕ) (i kind : ℕ) (r : Record) (o : Outgoing) (part : List ℕ) → r ≡ recordAt (tableOf words) i → o ≡ leftOf kind i
+    → part ≡ leavingBody o r store → PartAt store i (bodyOf words store i kind) (length part)
+part-left words store i kind r o part hr ho hp =
+    rw (hp, ho, hr) (part-of (eqb kind 0) (ltb 3 kind) (messageIn kind 0 0) store i (recordAt (tableOf words) i) (leftOf kind i) refl)
+
+-- ---- what left an event
+
+-- the kind in an answer tells who gets what left, and what it takes along out of any memory
+abbrev Tells : Replica → Event → ℕ → ℕ → Answer → Type 0
+Tells me e sender i a =
+    (recipientsOf me (answerOut a .kind) sender ≡ recipients me e (sentBy a))
+    × ((table : List Record) (store : List ℕ) → leavingBody (leftOf (answerOut a .kind) i) (recordAt table i) store ≡ leaving (sentBy a) table store)
+
+module _ (me : Replica) (i sender : ℕ) where
+  nothing : (e : Event) → Tells me e sender i (Accepted None)
+  nothing e = (refl, λ table store. refl)
+
+  inv : (e : Event) (t : Timestamp) → Tells me e sender i (Accepted (send me i (Inv t)))
+  inv e t = (refl, λ table store. refl)
+
+  val : (e : Event) (t : Timestamp) → Tells me e sender i (Accepted (send me i (Val t)))
+  val e t = (refl, λ table store. refl)
+
+  again : (s : State) (t : Timestamp) → Tells me Resend sender i (Accepted (resent me i s t))
+  again state.Valid t = val Resend t
+  again state.Invalid t = nothing Resend
+  again state.InvalidWrite t = nothing Resend
+  again state.Write t = inv Resend t
+  again state.Replay t = inv Resend t
+
+  module _ (r : Record) (m : Received) (v : List ℕ) (from : sender ≡ m .sender) where
+    ack : (b : Bool) (t : Timestamp) → Tells me (Deliver m) sender i (Accepted (invStep b me i r t (m .sender) v .sent))
+    ack true t = (ap (with 0) from, λ table store. refl)
+    ack false t = (ap (with 0) from, λ table store. refl)
+
+    delivered : (x : Message) → Tells me (Deliver m) sender i (Accepted (deliverStep higher me i r (m .sender) x v .sent))
+    delivered (Inv t) = ack (later higher t (r .timestamp)) t
+    delivered (Ack t) = nothing (Deliver m)
+    delivered (Val t) = nothing (Deliver m)
+
+  steps : (r : Record) (e : Event) (v : List ℕ) → Delivered e sender → Tells me e sender i (Accepted (step higher me i r e v .sent))
+  steps r Read v d = nothing Read
+  steps r Write v d = inv Write (step higher me i r Write v .after .timestamp)
+  steps r Replay v d = inv Replay (r .timestamp)
+  steps r (Deliver m) v d = delivered r m v d (m .message)
+  steps r Validate v d = val Validate (r .timestamp)
+  steps r Resend v d = again (r .state) (r .timestamp)
+
+  answers : (k : ℕ) (r : Record) (e : Event) (s : Step) → Tells me e sender i (Accepted (s .sent)) → Tells me e sender i (movedBy k r s .answer)
+  answers zero r e s h = h
+  answers (suc k) r e s h = (refl, λ table store. refl)
+
+module _ (n : Node) (i : ℕ) (e : Event) (v : List ℕ) (sender : ℕ) (d : Delivered e sender) where
+  applied : Tells (n .me) e sender i (apply higher n i e v .answer)
+  unfolding apply effect
+  applied =
+      answers (n .me) i sender (refusal (n .me) (length (n .table)) (length (n .store)) i (recordOf i n) e (length v)) (recordOf i n) e (step higher (n .me) i (recordOf i n) e v) (steps (n .me) i sender (recordOf i n) e v d)
+
+  module _ (before : List ℕ) (a : CetskobiAnswer) (words′ store′ : List ℕ) (done : Done n before i e v a words′ store′) where
+    -- cetskobi_recipients, asked with an event's answer, gives those who get what left it
+    pub recipients-after : recipientsOf (n .me) (a .kind) sender ≡ recipients (n .me) e (sentBy (apply higher n i e v .answer))
+    recipients-after = rw (done .answer) (applied .0)
+
+    -- cetskobi_body, asked with an event's answer on the memory that the event left, gives the bytes that what left it takes along
+    pub body-after : bodyOf words′ store′ i (a .kind) ≡ leaving (sentBy (apply higher n i e v .answer)) (apply higher n i e v .node .table) (apply higher n i e v .node .store)
+    body-after = rw (done .answer, done .table, done .store) (applied .1 (apply higher n i e v .node .table) (apply higher n i e v .node .store))
