@@ -140,7 +140,6 @@ fn events(n: usize, visit: &mut impl Visit) {
             call: |m: &mut Plain<()>, i| m.replica.resend(&m.table, &m.store, i),
         },
     );
-    #[cfg(leaving)]
     leaving(n, visit);
 }
 
@@ -201,7 +200,6 @@ fn deliver(about: About, record: Words, m: Message, body: Vec<u8>, visit: &mut i
     );
 }
 
-#[cfg(leaving)]
 fn leaving(n: usize, visit: &mut impl Visit) {
     let sent = plain::envelope(message(1, 8, 2), 0).message;
     visit.case(

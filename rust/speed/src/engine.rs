@@ -89,14 +89,12 @@ pub fn resend(me: Replica, words: &mut [u32], store: &[u8], i: usize) -> Answer 
     unsafe { sys::cetskobi_resend(me, w, words.len(), s, store.len(), i) }
 }
 
-#[cfg(leaving)]
 #[inline(always)]
 pub fn body(words: &[u32], store: &[u8], i: usize, kind: u8) -> usize {
     let (w, s) = (words.as_ptr(), store.as_ptr());
     unsafe { sys::cetskobi_body(w, words.len(), s, store.len(), i, kind) }
 }
 
-#[cfg(leaving)]
 #[inline(always)]
 pub fn recipients(me: Replica, kind: u8, sender: u8) -> u16 {
     unsafe { sys::cetskobi_recipients(me, kind, sender) }
@@ -113,7 +111,6 @@ pub fn pack(messages: &[u32], bodies: &[u8], out: &mut [u8]) -> Written {
     unsafe { sys::cetskobi_pack(m, messages.len(), b, bodies.len(), o, out.len()) }
 }
 
-#[cfg(delivery)]
 #[inline(always)]
 pub fn deliver_packet(
     me: Replica,

@@ -5,16 +5,10 @@ use std::hint::black_box;
 use cetskobi::sys::Message;
 use model::packet::Entry;
 
-use crate::cases::{other, Visit};
-use crate::engine;
-use crate::plain;
+use crate::cases::{event, other, Visit, ME, TEXT, VALID};
+use crate::engine::{self, Engine};
+use crate::plain::{self, Plain};
 use crate::side::{About, On};
-#[cfg(delivery)]
-use crate::{
-    cases::{event, ME, TEXT, VALID},
-    engine::Engine,
-    plain::Plain,
-};
 
 /// Messages that go into a packet, for both sides.
 #[derive(Clone)]
@@ -103,17 +97,12 @@ pub fn all(n: usize, visit: &mut impl Visit) {
         texts,
         visit,
     );
-    #[cfg(delivery)]
-    {
-        let title = "delivery of the last message of a full packet";
-        deliver(event("packet-64", title, n), full(n), visit);
-        let single = Parcel::new(n, &[TEXT.len()]);
-        deliver(
-            event("packet-1", "delivery from a packet of one, 32 bytes", n),
-            single,
-            visit,
-        );
-    }
+    let title = "delivery of the last message of a full packet";
+    deliver(event("packet-64", title, n), &[full(n)], visit);
+    let title = "delivery from a packet of one message, 32 bytes";
+    let single = |k: usize| Parcel::new((n + k + 1).saturating_sub(64).max(1), &[TEXT.len()]);
+    let singles: Vec<Parcel> = (0..64).map(single).collect();
+    deliver(event("packet-1", title, n), &singles, visit);
 }
 
 fn pack(about: About, parcel: Parcel, visit: &mut impl Visit) {
@@ -136,29 +125,33 @@ fn pack(about: About, parcel: Parcel, visit: &mut impl Visit) {
     );
 }
 
-/// Record i gets the message as far from the packet's end as i is from the table's.
-#[cfg(delivery)]
-fn deliver(about: About, parcel: Parcel, visit: &mut impl Visit) {
+/// Packets, and for each of 64 calls its packet and its message there.
+type Post = (Vec<Vec<u8>>, Vec<(usize, usize)>);
+
+/// Packets with 64 messages in all: the last is delivered to the last record, and so on back.
+fn deliver(about: About, parcels: &[Parcel], visit: &mut impl Visit) {
     let n = about.records;
-    let count = parcel.entries.len();
-    let packet = parcel.packet();
-    let message = move |i: usize| count + i - n;
+    let count = 64 / parcels.len();
+    let packets: Vec<Vec<u8>> = parcels.iter().map(Parcel::packet).collect();
+    let post: Post = (packets, (0..64).map(|k| (k / count, k % count)).collect());
     visit.case(
         about,
         On {
-            lent: Engine::new(ME, n, VALID, packet.clone()),
-            prepare: |e: &mut Engine<Vec<u8>>, i| e.set(i, VALID),
-            call: |e: &mut Engine<Vec<u8>>, i| {
-                let k = message(i);
-                engine::deliver_packet(e.me, &mut e.words, &mut e.store, &e.input, k)
+            lent: Engine::new(ME, n, VALID, post.clone()),
+            prepare: |e: &mut Engine<Post>, i| e.set(i, VALID),
+            call: |e: &mut Engine<Post>, i| {
+                let (p, k) = e.input.1[i + 64 - n];
+                let packet = e.input.0[p].as_slice();
+                engine::deliver_packet(e.me, &mut e.words, &mut e.store, packet, k)
             },
         },
         On {
-            lent: Plain::new(ME, n, VALID, packet),
-            prepare: |m: &mut Plain<Vec<u8>>, i| m.table[i] = plain::record(VALID),
-            call: |m: &mut Plain<Vec<u8>>, i| {
-                let k = message(i);
-                model::packet::deliver(&m.replica, &mut m.table, &mut m.store, &m.input, k)
+            lent: Plain::new(ME, n, VALID, post),
+            prepare: |m: &mut Plain<Post>, i| m.table[i] = plain::record(VALID),
+            call: |m: &mut Plain<Post>, i| {
+                let (p, k) = m.input.1[i + 64 - n];
+                let packet = m.input.0[p].as_slice();
+                model::packet::deliver(&m.replica, &mut m.table, &mut m.store, packet, k)
             },
         },
     );
