@@ -139,7 +139,7 @@ fn deliver(about: About, parcels: &[Parcel], visit: &mut impl Visit) {
         On {
             lent: Engine::new(ME, n, VALID, post.clone()),
             prepare: |e: &mut Engine<Post>, i| e.set(i, VALID),
-            call: |e: &mut Engine<Post>, i| {
+            call: |e: &mut Engine<Post>, i: usize| {
                 let (p, k) = e.input.1[i + 64 - n];
                 let packet = e.input.0[p].as_slice();
                 engine::deliver_packet(e.me, &mut e.words, &mut e.store, packet, k)
@@ -148,7 +148,7 @@ fn deliver(about: About, parcels: &[Parcel], visit: &mut impl Visit) {
         On {
             lent: Plain::new(ME, n, VALID, post),
             prepare: |m: &mut Plain<Post>, i| m.table[i] = plain::record(VALID),
-            call: |m: &mut Plain<Post>, i| {
+            call: |m: &mut Plain<Post>, i: usize| {
                 let (p, k) = m.input.1[i + 64 - n];
                 let packet = m.input.0[p].as_slice();
                 model::packet::deliver(&m.replica, &mut m.table, &mut m.store, packet, k)
