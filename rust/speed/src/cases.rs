@@ -10,7 +10,13 @@ use crate::side::{About, On, Side};
 
 /// What is done with each case.
 pub trait Visit {
-    fn case(&mut self, about: About, engine: impl Side, model: impl Side);
+    /// The sides are made only where they are asked for.
+    fn case<E: Side, M: Side>(
+        &mut self,
+        about: About,
+        engine: impl FnOnce() -> E,
+        model: impl FnOnce() -> M,
+    );
 }
 
 /// Laptop 2 with view {1,2,5} at epoch 9.
@@ -72,12 +78,12 @@ pub fn all(records: usize, visit: &mut impl Visit) {
 fn events(n: usize, visit: &mut impl Visit) {
     visit.case(
         event("read", "read", n),
-        On {
+        || On {
             lent: Engine::new(ME, n, VALID, ()),
             prepare: |_: &mut _, _| (),
             call: |e: &mut Engine<()>, i| engine::read(e.me, &e.words, &e.store, i),
         },
-        On {
+        || On {
             lent: Plain::new(ME, n, VALID, ()),
             prepare: |_: &mut _, _| (),
             call: |m: &mut Plain<()>, i| m.replica.read(&m.table, &m.store, i).map(<[u8]>::len),
@@ -103,12 +109,12 @@ fn events(n: usize, visit: &mut impl Visit) {
     );
     visit.case(
         event("validate", "validate", n),
-        On {
+        || On {
             lent: Engine::new(ME, n, VALID, ()),
             prepare: |e: &mut Engine<()>, i| e.set(i, ACKNOWLEDGED),
             call: |e: &mut Engine<()>, i| engine::validate(e.me, &mut e.words, &e.store, i),
         },
-        On {
+        || On {
             lent: Plain::new(ME, n, VALID, ()),
             prepare: |m: &mut Plain<()>, i| m.table[i] = plain::record(ACKNOWLEDGED),
             call: |m: &mut Plain<()>, i| m.replica.validate(&mut m.table, &m.store, i),
@@ -116,12 +122,12 @@ fn events(n: usize, visit: &mut impl Visit) {
     );
     visit.case(
         event("replay", "replay", n),
-        On {
+        || On {
             lent: Engine::new(ME, n, VALID, ()),
             prepare: |e: &mut Engine<()>, i| e.set(i, ORPHAN),
             call: |e: &mut Engine<()>, i| engine::replay(e.me, &mut e.words, &e.store, i),
         },
-        On {
+        || On {
             lent: Plain::new(ME, n, VALID, ()),
             prepare: |m: &mut Plain<()>, i| m.table[i] = plain::record(ORPHAN),
             call: |m: &mut Plain<()>, i| m.replica.replay(&mut m.table, &m.store, i),
@@ -129,12 +135,12 @@ fn events(n: usize, visit: &mut impl Visit) {
     );
     visit.case(
         event("resend", "resend", n),
-        On {
+        || On {
             lent: Engine::new(ME, n, WRITING, ()),
             prepare: |_: &mut _, _| (),
             call: |e: &mut Engine<()>, i| engine::resend(e.me, &mut e.words, &e.store, i),
         },
-        On {
+        || On {
             lent: Plain::new(ME, n, WRITING, ()),
             prepare: |_: &mut _, _| (),
             call: |m: &mut Plain<()>, i| m.replica.resend(&m.table, &m.store, i),
@@ -147,16 +153,16 @@ fn write(about: About, record: Words, value: Vec<u8>, visit: &mut impl Visit) {
     let n = about.records;
     visit.case(
         about,
-        On {
+        || On {
             lent: Engine::new(ME, n, VALID, value.clone()),
-            prepare: |e: &mut Engine<Vec<u8>>, i| e.set(i, record),
+            prepare: move |e: &mut Engine<Vec<u8>>, i| e.set(i, record),
             call: |e: &mut Engine<Vec<u8>>, i| {
                 engine::write(e.me, &mut e.words, &mut e.store, i, &e.input)
             },
         },
-        On {
-            lent: Plain::new(ME, n, VALID, value),
-            prepare: |m: &mut Plain<Vec<u8>>, i| m.table[i] = plain::record(record),
+        || On {
+            lent: Plain::new(ME, n, VALID, value.clone()),
+            prepare: move |m: &mut Plain<Vec<u8>>, i| m.table[i] = plain::record(record),
             call: |m: &mut Plain<Vec<u8>>, i| {
                 m.replica.write(&mut m.table, &mut m.store, i, &m.input)
             },
@@ -179,17 +185,17 @@ fn deliver(about: About, record: Words, m: Message, body: Vec<u8>, visit: &mut i
     let n = about.records;
     visit.case(
         about,
-        On {
+        || On {
             lent: Engine::new(ME, n, VALID, (m, body.clone())),
-            prepare: |e: &mut Engine<(Message, Vec<u8>)>, i| e.set(i, record),
+            prepare: move |e: &mut Engine<(Message, Vec<u8>)>, i| e.set(i, record),
             call: |e: &mut Engine<(Message, Vec<u8>)>, i| {
                 let (message, body) = &e.input;
                 engine::deliver(e.me, &mut e.words, &mut e.store, i, *message, body)
             },
         },
-        On {
-            lent: Plain::new(ME, n, VALID, (plain::envelope(m, 0), body)),
-            prepare: |m: &mut Plain<_>, i| m.table[i] = plain::record(record),
+        || On {
+            lent: Plain::new(ME, n, VALID, (plain::envelope(m, 0), body.clone())),
+            prepare: move |m: &mut Plain<_>, i| m.table[i] = plain::record(record),
             call: |m: &mut Plain<(model::engine::Envelope, Vec<u8>)>, i| {
                 let (envelope, body) = &mut m.input;
                 envelope.record = i;
@@ -204,12 +210,12 @@ fn leaving(n: usize, visit: &mut impl Visit) {
     let sent = plain::envelope(message(1, 8, 2), 0).message;
     visit.case(
         event("body", "bytes that an INV takes along", n),
-        On {
+        || On {
             lent: Engine::new(ME, n, WRITING, 1),
             prepare: |_: &mut _, _| (),
             call: |e: &mut Engine<u8>, i| engine::body(&e.words, &e.store, i, e.input),
         },
-        On {
+        || On {
             lent: Plain::new(ME, n, WRITING, sent),
             prepare: |_: &mut _, _| (),
             call: |m: &mut Plain<model::engine::Message>, i| {
@@ -219,12 +225,12 @@ fn leaving(n: usize, visit: &mut impl Visit) {
     );
     visit.case(
         other("recipients", "who gets an INV", n),
-        On {
+        || On {
             lent: (ME, 1u8, 5u8),
             prepare: |_: &mut _, _| (),
             call: |e: &mut (Replica, u8, u8), _| engine::recipients(e.0, e.1, e.2),
         },
-        On {
+        || On {
             lent: (plain::replica(ME), sent, 5u8),
             prepare: |_: &mut _, _| (),
             call: |m: &mut (model::engine::Replica, model::engine::Message, u8), _| {
@@ -237,12 +243,12 @@ fn leaving(n: usize, visit: &mut impl Visit) {
 fn membership(n: usize, visit: &mut impl Visit) {
     visit.case(
         other("view", "view", n),
-        On {
+        || On {
             lent: (ME, 10u32, 0b110u16),
             prepare: |_: &mut _, _| (),
             call: |e: &mut (Replica, u32, u16), _| engine::view(e.0, e.1, e.2),
         },
-        On {
+        || On {
             lent: (plain::replica(ME), 10u32, 0b110u16),
             prepare: |_: &mut _, _| (),
             call: |m: &mut (model::engine::Replica, u32, u16), _| {
@@ -262,14 +268,14 @@ fn membership(n: usize, visit: &mut impl Visit) {
 fn start(about: About, n: usize, visit: &mut impl Visit) {
     visit.case(
         about,
-        On {
+        || On {
             lent: Engine::new(ME, n, VALID, ()),
             prepare: |_: &mut _, _| (),
             call: |e: &mut Engine<()>, _| {
                 engine::start(e.me.number, e.me.view, &mut e.words, &mut e.store)
             },
         },
-        On {
+        || On {
             lent: Plain::new(ME, n, VALID, ()),
             prepare: |_: &mut _, _| (),
             call: |m: &mut Plain<()>, _| {

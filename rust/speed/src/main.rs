@@ -48,14 +48,19 @@ struct Calls<'a> {
 }
 
 impl Visit for Calls<'_> {
-    fn case(&mut self, about: About, mut engine: impl Side, mut model: impl Side) {
+    fn case<E: Side, M: Side>(
+        &mut self,
+        about: About,
+        engine: impl FnOnce() -> E,
+        model: impl FnOnce() -> M,
+    ) {
         if about.name != self.name {
             return;
         }
         self.found = true;
         match self.which {
-            Which::Engine => count::calls(&about, &mut engine, self.calls),
-            Which::Model => count::calls(&about, &mut model, self.calls),
+            Which::Engine => count::calls(&about, &mut engine(), self.calls),
+            Which::Model => count::calls(&about, &mut model(), self.calls),
         }
     }
 }

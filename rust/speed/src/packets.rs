@@ -67,7 +67,7 @@ pub fn all(n: usize, visit: &mut impl Visit) {
             "fetch of each of the 64 messages of a full packet",
             n,
         ),
-        On {
+        || On {
             lent: packet.clone(),
             prepare: |_: &mut _, _| (),
             call: |packet: &mut Vec<u8>, _| {
@@ -76,8 +76,8 @@ pub fn all(n: usize, visit: &mut impl Visit) {
                     .count()
             },
         },
-        On {
-            lent: packet,
+        || On {
+            lent: packet.clone(),
             prepare: |_: &mut _, _| (),
             call: |packet: &mut Vec<u8>, _| {
                 (0..64)
@@ -108,15 +108,15 @@ pub fn all(n: usize, visit: &mut impl Visit) {
 fn pack(about: About, parcel: Parcel, visit: &mut impl Visit) {
     visit.case(
         about,
-        On {
+        || On {
             lent: (parcel.clone(), vec![0; 1400]),
             prepare: |_: &mut _, _| (),
             call: |(parcel, out): &mut (Parcel, Vec<u8>), _| {
                 engine::pack(&parcel.words, &parcel.bodies, out)
             },
         },
-        On {
-            lent: (parcel, vec![0; 1400]),
+        || On {
+            lent: (parcel.clone(), vec![0; 1400]),
             prepare: |_: &mut _, _| (),
             call: |(parcel, out): &mut (Parcel, Vec<u8>), _| {
                 model::packet::write(&parcel.entries, &parcel.bodies, out)
@@ -136,19 +136,19 @@ fn deliver(about: About, parcels: &[Parcel], visit: &mut impl Visit) {
     let post: Post = (packets, (0..64).map(|k| (k / count, k % count)).collect());
     visit.case(
         about,
-        On {
+        || On {
             lent: Engine::new(ME, n, VALID, post.clone()),
             prepare: |e: &mut Engine<Post>, i| e.set(i, VALID),
-            call: |e: &mut Engine<Post>, i: usize| {
+            call: move |e: &mut Engine<Post>, i: usize| {
                 let (p, k) = e.input.1[i + 64 - n];
                 let packet = e.input.0[p].as_slice();
                 engine::deliver_packet(e.me, &mut e.words, &mut e.store, packet, k)
             },
         },
-        On {
-            lent: Plain::new(ME, n, VALID, post),
+        || On {
+            lent: Plain::new(ME, n, VALID, post.clone()),
             prepare: |m: &mut Plain<Post>, i| m.table[i] = plain::record(VALID),
-            call: |m: &mut Plain<Post>, i: usize| {
+            call: move |m: &mut Plain<Post>, i: usize| {
                 let (p, k) = m.input.1[i + 64 - n];
                 let packet = m.input.0[p].as_slice();
                 model::packet::deliver(&m.replica, &mut m.table, &mut m.store, packet, k)

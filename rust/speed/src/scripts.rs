@@ -60,13 +60,13 @@ fn play(about: About, script: &str, visit: &mut impl Visit) {
     let room = 25 * script.len() + 2;
     visit.case(
         about,
-        On {
+        || On {
             lent: (script.clone(), vec![0; room]),
             prepare: |_: &mut _, _| (),
             call: |(script, out): &mut (Vec<u8>, Vec<u8>), _| engine::play(script, out),
         },
-        On {
-            lent: script,
+        || On {
+            lent: script.clone(),
             prepare: |_: &mut _, _| (),
             call: |script: &mut Vec<u8>, _| Played(model::player::play(script)),
         },

@@ -19,7 +19,13 @@ const PERCENT: u64 = 2;
 struct Times(Vec<(About, Ratio)>);
 
 impl Visit for Times {
-    fn case(&mut self, about: About, mut engine: impl Side, mut model: impl Side) {
+    fn case<E: Side, M: Side>(
+        &mut self,
+        about: About,
+        engine: impl FnOnce() -> E,
+        model: impl FnOnce() -> M,
+    ) {
+        let (mut engine, mut model) = (engine(), model());
         agree(about.name, about.records - 1, &mut engine, &mut model);
         let ratio = ratio(&about, &mut engine, &mut model);
         self.0.push((about, ratio));
