@@ -14,13 +14,14 @@ use Rattle.hermes.specs.Event.{Effect, effect, moved, step, numberOf, partOf, r
 use Rattle.hermes.specs.Store.{valueAt}
 use Rattle.hermes.specs.Node.{recordAt, effectOf, apply, read}
 use Rattle.replica.proofs.Asked.{quiet}
+use Rattle.ffi.specs.declared.events.Subject.{Subject}
 use Rattle.ffi.specs.declared.crossing.CetskobiReplica.{CetskobiReplica}
 use Rattle.ffi.specs.declared.crossing.CetskobiAnswer.{CetskobiAnswer}
 use Rattle.ffi.specs.declared.crossing.CetskobiRead.{CetskobiRead}
 use Rattle.ffi.specs.Crossing.{replicaOf, answerOut}
 use Rattle.words.specs.Words.{countOf, tableOf, wordsAfter, tableAfter}
 use Rattle.ffi.specs.Leaving.{PartAt}
-use Rattle.ffi.specs.Events.{nodeOf, Finished, Done, ReadDone}
+use Rattle.ffi.specs.Events.{nodeOf, subjectOf, Finished, Done, ReadDone}
 use Rattle.words.proofs.Lent.{length-table}
 use Rattle.ffi.proofs.Parts.{cut, no-part}
 use Rattle.words.proofs.Table.{settled-step}
@@ -30,6 +31,10 @@ pub record Taken (me : CetskobiReplica) (words : List ℕ) (i : ℕ) (who : Repl
   pub identity : who ≡ replicaOf me
   pub counted : count ≡ countOf (length words)
   pub found : r ≡ recordAt (tableOf words) i
+
+pub taken : (me : CetskobiReplica) (words : List ℕ) (i : ℕ) (s : Subject) → s ≡ subjectOf me words i → Taken me words i (s .who) (s .count) (s .found)
+taken me words i s e =
+    record { identity = ap (λ (x : Subject). x .who) e; counted = ap (λ (x : Subject). x .count) e; found = ap (λ (x : Subject). x .found) e }
 
 module _ (me : CetskobiReplica) (words : List ℕ) (i : ℕ) (who : Replica) (count : ℕ) (r : Record) (t : Taken me words i who count r) where
   -- the engine's effect is that of the node

@@ -2,22 +2,28 @@
 use Prim.Native.Nat.{ℕ}
 use mathlib.Core.Path.{_≡_}
 use mathlib.Core.List.{List, []}
+use lib.ListN.{length}
 use Rattle.hermes.specs.declared.event.Event.{Event}
 use Rattle.hermes.specs.declared.event.Event.the-variants.{Read}
 use Rattle.hermes.specs.declared.event.Moved.{Moved}
 use Rattle.hermes.specs.Order.{higher}
 use Rattle.hermes.specs.Event.{numberOf}
-use Rattle.hermes.specs.Node.{Node, lent, effectOf, apply, read}
+use Rattle.hermes.specs.Node.{Node, lent, recordAt, effectOf, apply, read}
 use Rattle.ffi.specs.declared.crossing.CetskobiReplica.{CetskobiReplica}
 use Rattle.ffi.specs.declared.crossing.CetskobiAnswer.{CetskobiAnswer}
 use Rattle.ffi.specs.declared.crossing.CetskobiRead.{CetskobiRead}
+use Rattle.ffi.specs.declared.events.Subject.{Subject}
 use Rattle.ffi.specs.Crossing.{replicaOf, answerOut}
 use Rattle.ffi.specs.Leaving.{PartAt}
-use Rattle.words.specs.Words.{tableOf, wordsAfter, tableAfter}
+use Rattle.words.specs.Words.{countOf, tableOf, wordsAfter, tableAfter}
 
 -- the replica with the memory that came from outside
 abbrev pub nodeOf : CetskobiReplica → List ℕ → List ℕ → Node
 nodeOf me words store = lent (replicaOf me) (tableOf words) store
+
+-- whom an event is asked of, of how many records, and on which
+abbrev pub subjectOf : CetskobiReplica → List ℕ → ℕ → Subject
+subjectOf me words i = record { who = replicaOf me; count = countOf (length words); found = recordAt (tableOf words) i }
 
 -- the answer, the words and the table that they hold, after an event that moved record i so
 pub record Finished (before : List ℕ) (i : ℕ) (m : Moved) (a : CetskobiAnswer) (words′ : List ℕ) : Type 0 where

@@ -1,17 +1,36 @@
 // The events on one record, for C and Rust. Each takes the identity, the table as words, eight for each record, and the store.
 ghost use mathlib.Core.Path.{_≡_};
 ghost use mathlib.Core.List.{[]};
-ghost use lib.ListN.{length, take, drop};
-ghost use Prim.Native.Nat.{_*_};
 ghost use Rattle.hermes.specs.declared.event.Event.the-variants.{Write, Replay, Deliver, Validate, Resend};
 ghost use Rattle.ffi.specs.Crossing.{receivedIn};
-ghost use Rattle.ffi.specs.Events.{nodeOf, Finished, Done, ReadDone};
+ghost use Rattle.ffi.specs.Events.{nodeOf, subjectOf, Finished, Done, ReadDone};
 use crate::crossing;
 use crate::crossing::CetskobiAnswer;
 use crate::crossing::CetskobiMessage;
 use crate::crossing::CetskobiRead;
 use crate::crossing::CetskobiReplica;
 use hermes::Moved;
+use hermes::Record;
+use hermes::Replica;
+
+// Whom an event is asked of, of how many records, and on which.
+struct Subject {
+    who: Replica,
+    count: usize,
+    found: Record,
+}
+
+fn subject_of(me: CetskobiReplica, words: &[u32], i: usize) -> Subject
+    ensures { λ s. ⌜ s ≡ subjectOf me (now (words .entry)) i ⌝ }
+{
+    let who = crossing::replica_of(me);
+    let found = words::record_at(words, i);
+    Subject {
+        who: who,
+        count: words::count(words.len()),
+        found: found,
+    }
+}
 
 // The end of an event on record i: its answer, and the words.
 pub(crate) fn finish(words: &mut [u32], i: usize, m: Moved) -> CetskobiAnswer
@@ -33,9 +52,8 @@ pub extern "C" fn cetskobi_write(
 ) -> CetskobiAnswer
     ensures { λ a. ⌜ Done (nodeOf me (now (words .entry)) (now (store .entry))) (now (words .entry)) i Write (now (value .entry)) a (now (words .exit)) (now (store .exit)) ⌝ }
 {
-    let r = words::record_at(words, i);
-    let count = words::count(words.len());
-    let m = replica::write(crossing::replica_of(me), count, i, r, store, value);
+    let s = subject_of(me, words, i);
+    let m = replica::write(s.who, s.count, i, s.found, store, value);
     finish(words, i, m)
 }
 
@@ -51,17 +69,9 @@ pub extern "C" fn cetskobi_deliver(
 ) -> CetskobiAnswer
     ensures { λ a. ⌜ Done (nodeOf me (now (words .entry)) (now (store .entry))) (now (words .entry)) i (Deliver (receivedIn message)) (now (value .entry)) a (now (words .exit)) (now (store .exit)) ⌝ }
 {
-    let r = words::record_at(words, i);
-    let count = words::count(words.len());
-    let m = replica::deliver(
-        crossing::replica_of(me),
-        count,
-        i,
-        r,
-        store,
-        crossing::received_in(message),
-        value,
-    );
+    let s = subject_of(me, words, i);
+    let received = crossing::received_in(message);
+    let m = replica::deliver(s.who, s.count, i, s.found, store, received, value);
     finish(words, i, m)
 }
 
@@ -75,9 +85,8 @@ pub extern "C" fn cetskobi_replay(
 ) -> CetskobiAnswer
     ensures { λ a. ⌜ Done (nodeOf me (now (words .entry)) (now (store .entry))) (now (words .entry)) i Replay [] a (now (words .exit)) (now (store .entry)) ⌝ }
 {
-    let r = words::record_at(words, i);
-    let count = words::count(words.len());
-    let m = replica::replay(crossing::replica_of(me), count, store.len(), i, r);
+    let s = subject_of(me, words, i);
+    let m = replica::replay(s.who, s.count, store.len(), i, s.found);
     finish(words, i, m)
 }
 
@@ -91,9 +100,8 @@ pub extern "C" fn cetskobi_validate(
 ) -> CetskobiAnswer
     ensures { λ a. ⌜ Done (nodeOf me (now (words .entry)) (now (store .entry))) (now (words .entry)) i Validate [] a (now (words .exit)) (now (store .entry)) ⌝ }
 {
-    let r = words::record_at(words, i);
-    let count = words::count(words.len());
-    let m = replica::validate(crossing::replica_of(me), count, store.len(), i, r);
+    let s = subject_of(me, words, i);
+    let m = replica::validate(s.who, s.count, store.len(), i, s.found);
     finish(words, i, m)
 }
 
@@ -107,9 +115,8 @@ pub extern "C" fn cetskobi_resend(
 ) -> CetskobiAnswer
     ensures { λ a. ⌜ Done (nodeOf me (now (words .entry)) (now (store .entry))) (now (words .entry)) i Resend [] a (now (words .exit)) (now (store .entry)) ⌝ }
 {
-    let r = words::record_at(words, i);
-    let count = words::count(words.len());
-    let m = replica::resend(crossing::replica_of(me), count, store.len(), i, r);
+    let s = subject_of(me, words, i);
+    let m = replica::resend(s.who, s.count, store.len(), i, s.found);
     finish(words, i, m)
 }
 
@@ -123,11 +130,10 @@ pub extern "C" fn cetskobi_read(
 ) -> CetskobiRead
     ensures { λ p. ⌜ ReadDone (nodeOf me (now (words .entry)) (now (store .entry))) i p ⌝ }
 {
-    let r = words::record_at(words, i);
-    let count = words::count(words.len());
-    let who = crossing::replica_of(me);
-    let number = crossing::number_out(replica::read_number(who, count, store.len(), i, r));
-    let part = replica::read(who, count, i, r, store);
+    let s = subject_of(me, words, i);
+    let answer = replica::read_number(s.who, s.count, store.len(), i, s.found);
+    let number = crossing::number_out(answer);
+    let part = replica::read(s.who, s.count, i, s.found, store);
     CetskobiRead {
         number: number,
         len: part.len(),

@@ -33,7 +33,7 @@ use Rattle.hermes.specs.Locality.{body}
 use Rattle.hermes.specs.Source as source
 use Rattle.hermes.specs.Source.{Vars, Sending, In, HInit, HReadGuard, HWriteGuard, HReplayWriteGuard, HRcvInvGuard, HRcvInv, HRcvAckGuard, HRcvValGuard, HSendValsGuard, NodeFailureGuard, ResendGuard, Resent, sendInv}
 use Rattle.hermes.specs.Conformance.{varsOf, fiveAnd, delivered, message, Follows, ViewFollows, StartFollows, Demand2By, Demand2}
-use Rattle.hermes.proofs.Tests.{both, either, is-false, or-true}
+use Rattle.hermes.proofs.Tests.{both, and-both, either, is-false, or-true}
 use Rattle.hermes.proofs.Members.{Has, has-small, has-zero, within-members, members-within, others-members, members-others, with-members, members-with}
 use Rattle.hermes.proofs.Store.{value-slot, take-padded}
 use Rattle.hermes.proofs.Guards.{all-yes, none-says-no}
@@ -120,9 +120,6 @@ module _ (wins : ℕ → ℕ → Bool) (n : Node) (i : ℕ) (e : Event) (v : Lis
 
 -- ---- the actions
 
-and-yes : (a b : Bool) → a ≡ true → b ≡ true → (a && b) ≡ true
-and-yes a b p q = rw (p, q)
-
 follower : (s : State) → In s (state.Valid ∷ state.Invalid ∷ state.Replay ∷ []) → invalidatedState s ≡ state.Invalid
 follower s (inl e) = rw e
 follower s (inr (inl e)) = rw e
@@ -161,7 +158,7 @@ module _ (wins : ℕ → ℕ → Bool) (n : Node) (i : ℕ) (v : List ℕ) where
   follows-replay = follows wins n i Replay v (fiveAnd n i []) (HReplayWriteGuard (n .me)) (source.HReplayWrite (n .me) i)
       (λ y. let (p, q) = both (oneOf (recordOf i n .state) (state.Invalid ∷ [])) (not (has (n .me .view) (recordOf i n .writer))) (its-own n i Replay v y .0) in
       (five wins n i Replay v [] y tt, (is-state (recordOf i n .state) state.Invalid p, λ h. false≢true (sym (not-true _ q) ∙ h))))
-      (λ g. back wins n i Replay v [] (g .0) (and-yes _ _ (state-is (recordOf i n .state) state.Invalid (g .1 .0)) (ap not (is-false (has (n .me .view) (recordOf i n .writer)) (g .1 .1))), tt))
+      (λ g. back wins n i Replay v [] (g .0) (and-both _ _ (state-is (recordOf i n .state) state.Invalid (g .1 .0)) (ap not (is-false (has (n .me .view) (recordOf i n .writer)) (g .1 .1))), tt))
       (λ y. record { nodeLastWriter = refl; nodeState = refl; nodeRcvdAcks = has-zero; nodeLastWriteTS = refl; nodeTS = refl; value = refl; send = refl })
 
   follows-validate : Follows wins n i Validate v (fiveAnd n i []) (HSendValsGuard (n .me)) (source.HSendVals (n .me) i)
@@ -169,7 +166,7 @@ module _ (wins : ℕ → ℕ → Bool) (n : Node) (i : ℕ) (v : List ℕ) where
       (λ y. let (p, q) = both (oneOf (recordOf i n .state) (state.Write ∷ state.Replay ∷ [])) (othersIn (n .me .number) (n .me .view) (recordOf i n .acks)) (its-own n i Validate v y .0) in
       (five wins n i Validate v [] y tt, (one-in (recordOf i n .state) (state.Write ∷ state.Replay ∷ []) p, λ k a d. other k d (others-members (n .me .number) (n .me .view) (recordOf i n .acks) q k a))))
       (λ g. back wins n i Validate v [] (g .0)
-      (and-yes _ _ (in-one (recordOf i n .state) (state.Write ∷ state.Replay ∷ []) (g .1 .0)) (members-others (n .me .number) (n .me .view) (recordOf i n .acks) (λ k a. which k (g .1 .1 k a) (ℕ-discrete k (n .me .number)))), tt))
+      (and-both _ _ (in-one (recordOf i n .state) (state.Write ∷ state.Replay ∷ []) (g .1 .0)) (members-others (n .me .number) (n .me .view) (recordOf i n .acks) (λ k a. which k (g .1 .1 k a) (ℕ-discrete k (n .me .number)))), tt))
       (λ y. record { valid = record { nodeState = refl; nodeTS = refl; nodeLastWriter = refl; nodeLastWriteTS = refl; nodeRcvdAcks = refl; value = refl }; send = refl })
     where
       other : (k : ℕ) → k ≢ n .me .number → (k ≡ n .me .number) ⊎ Has (recordOf i n .acks) k → Has (recordOf i n .acks) k
@@ -261,7 +258,7 @@ module _ (wins : ℕ → ℕ → Bool) (n : Node) (i sender epoch : ℕ) (t : Ti
           both-eleven (g .0 .1 .1 .1 .1 .1 .1 .0) (g .1 .0),
           (
             g .0 .1 .1 .1 .1 .1 .1 .1 .0,
-            (and-yes (waits && same) fresh (and-yes waits same (in-one (recordOf i n .state) (state.Write ∷ state.InvalidWrite ∷ state.Replay ∷ []) (g .1 .3)) (ts-same t (recordOf i n .written) (g .1 .2))) (ap not (g .1 .1)), tt),
+            (and-both (waits && same) fresh (and-both waits same (in-one (recordOf i n .state) (state.Write ∷ state.InvalidWrite ∷ state.Replay ∷ []) (g .1 .3)) (ts-same t (recordOf i n .written) (g .1 .2))) (ap not (g .1 .1)), tt),
           ),
         ),
       ))
@@ -301,7 +298,7 @@ module _ (wins : ℕ → ℕ → Bool) (n : Node) (i sender epoch : ℕ) (t : Ti
           g .0 .1 .1 .1 .1 .1 .1 .0,
           (
             g .0 .1 .1 .1 .1 .1 .1 .1 .0,
-            (and-yes (not valid) same (ap not (is-false valid (λ h. g .1 .0 (is-state (recordOf i n .state) state.Valid h)))) (ts-same t (recordOf i n .timestamp) (g .1 .1)), tt),
+            (and-both (not valid) same (ap not (is-false valid (λ h. g .1 .0 (is-state (recordOf i n .state) state.Valid h)))) (ts-same t (recordOf i n .timestamp) (g .1 .1)), tt),
           ),
         ),
       ))
@@ -366,7 +363,7 @@ view-follows n epoch alive = record { accepted = (to (firstNo questions) refl, f
 
     from : AllYes (question1 (n .me) ∷ question3 (n .me) ∷ []) × NodeFailureGuard (n .me) epoch alive
         → numberOf (answerOf (admissionNumber (admissionOf (firstNo questions) next)) None) ≡ 0
-    from (y, g) = rw (none-says-no questions (y .0, (y .1 .0, (lt-ltb (n .me .epoch) epoch (g .later), (and-yes _ _ (members-within alive (n .me .view) (g .fewer)) (two-size alive (g .one) (g .two) (g .apart) (g .oneStays) (g .twoStays)), tt)))))
+    from (y, g) = rw (none-says-no questions (y .0, (y .1 .0, (lt-ltb (n .me .epoch) epoch (g .later), (and-both _ _ (members-within alive (n .me .view) (g .fewer)) (two-size alive (g .one) (g .two) (g .apart) (g .oneStays) (g .twoStays)), tt)))))
 
 -- ---- the theorems
 

@@ -20,7 +20,7 @@ use Rattle.hermes.specs.Order.{sameTimestamp}
 use Rattle.hermes.specs.Record.{oneOf}
 use Rattle.hermes.specs.Guards.{Question, AllYes, firstNo, question5, shapely, question13, question14}
 use Rattle.hermes.specs.Event.{common, ofKind, own, refusal}
-use Rattle.hermes.proofs.Tests.{both, not-true, and-false}
+use Rattle.hermes.proofs.Tests.{both, not-true}
 use Rattle.hermes.proofs.Order.{same-equal}
 
 -- ---- lists of questions
@@ -205,16 +205,10 @@ slot-fits p = omega (arith, p .whole, p .inside)
 
 -- question 13: the timestamp is the last-write timestamp
 pub acked-written : (t : Timestamp) (sender : ℕ) (r : Record) → question13 t sender r .yes ≡ true → t ≡ r .written
-acked-written t sender r h = go (sameTimestamp t (r .written)) refl
-  where
-    go : (b : Bool) → sameTimestamp t (r .written) ≡ b → t ≡ r .written
-    go true e = same-equal t (r .written) e
-    go false e = absurd (false≢true (simp (e, and-false) at h))
+acked-written t sender r h =
+    same-equal t (r .written) (both (oneOf (r .state) (state.Write ∷ state.InvalidWrite ∷ state.Replay ∷ [])) (sameTimestamp t (r .written)) (both _ (not (has (r .acks) sender)) h .0) .1)
 
 -- question 14: the timestamp is the record's
 pub validated-timestamp : (t : Timestamp) (r : Record) → question14 t r .yes ≡ true → t ≡ r .timestamp
-validated-timestamp t r h = go (sameTimestamp t (r .timestamp)) refl
-  where
-    go : (b : Bool) → sameTimestamp t (r .timestamp) ≡ b → t ≡ r .timestamp
-    go true e = same-equal t (r .timestamp) e
-    go false e = absurd (false≢true (simp (e, and-false) at h))
+validated-timestamp t r h =
+    same-equal t (r .timestamp) (both (not (oneOf (r .state) (state.Valid ∷ []))) (sameTimestamp t (r .timestamp)) h .1)

@@ -9,7 +9,7 @@ use lib.Dec.{ltb, eqb}
 use borrow.Author.Tests.{ltb-true, ltb-false, eqb-true, eqb-false, lt-ltb, le-ltb, eq-eqb}
 use Rattle.hermes.specs.declared.timestamp.Timestamp.{Timestamp}
 use Rattle.hermes.specs.Order.{TieOrder, higher, later, sameTimestamp, NotAfter, equal, rises}
-use Rattle.hermes.proofs.Tests.{both, either, neither}
+use Rattle.hermes.proofs.Tests.{both, and-both, or-right, either, neither}
 
 pub timestamp-path : {s t : Timestamp} → s .version ≡ t .version → s .tie ≡ t .tie → s ≡ t
 timestamp-path p q = λ i. record { version = p i; tie = q i }
@@ -43,7 +43,7 @@ module _ (wins : ℕ → ℕ → Bool) where
 
   later-tied : (s t : Timestamp) → s .version ≡ t .version → wins (t .tie) (s .tie) ≡ true → later wins t s ≡ true
   unfolding later
-  later-tied s t p q = rw (le-ltb (s .version) (t .version) (omega arith), eq-eqb (t .version) (s .version) (sym p), q)
+  later-tied s t p q = or-right (ltb (s .version) (t .version)) _ (and-both (eqb (t .version) (s .version)) (wins (t .tie) (s .tie)) (eq-eqb (t .version) (s .version) (sym p)) q)
 
   test : {s t : Timestamp} → Before wins s t → NotAfter wins s t
   test (one e) = equal e

@@ -13,7 +13,7 @@ use Rattle.hermes.specs.declared.event.Answer.the-variants as answer
 use Rattle.hermes.specs.declared.event.Admission.the-variants as admission
 use Rattle.hermes.specs.declared.event.Replica.{Replica}
 use Rattle.hermes.specs.declared.event.Event.{Event}
-use Rattle.hermes.specs.Guards.{Question, firstNo}
+use Rattle.hermes.specs.Guards.{Question, ask, firstNo}
 use Rattle.hermes.specs.declared.event.Event.the-variants.{Read, Write, Replay, Deliver, Validate, Resend}
 use Rattle.hermes.specs.Event.{Step, kept, partOf, common, own, refusal, movedBy, storedBy, storing, decide, moved, effect, readStep, replayStep, validateStep, resendStep}
 use Rattle.hermes.specs.Node.{admissionOf}
@@ -31,6 +31,13 @@ the-record e = cc
 
 the-number : {k n : ℕ} → Refused k ≡ Refused n → k ≡ n
 the-number e = cc
+
+-- a question asked of equal answers
+pub alike : (k : ℕ) (r : Record) {a b : Bool} → a ≡ b → asked (ask k a ∷ []) r ≡ asked (ask k b ∷ []) r
+alike k r e = ap (λ (x : Bool). asked (ask k x ∷ []) r) e
+
+pub both-alike : {a a′ b b′ : Bool} → a ≡ a′ → b ≡ b′ → (a && b) ≡ (a′ && b′)
+both-alike {a′ = a′} {b = b} p q = ap (λ (x : Bool). x && b) p ∙ ap (λ (x : Bool). a′ && x) q
 
 -- after questions that passed the record on, the next are asked of that record
 pub then : (qs : List Question) (more : Record → List Question) (r s : Record) → asked qs r ≡ Passed s → asked (qs ++ more r) r ≡ asked (more s) s

@@ -1,3 +1,4 @@
 -- What the proofs share.
 pub mod Lending
 pub mod Arrays
+pub mod Reading

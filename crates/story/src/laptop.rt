@@ -1,10 +1,14 @@
-// A laptop of the story: one record and its bytes of store, lent to the engine for one call.
+// A laptop of the story: one record and its bytes of store, lent to the engine for a call, or for as long as a part of them is used.
 ghost use mathlib.Core.Path.{_≡_};
+ghost use mathlib.Core.List.{[]};
 ghost use Rattle.hermes.specs.Order.{higher};
-ghost use Rattle.hermes.specs.Node.{lent, start, apply};
+ghost use Rattle.hermes.specs.declared.event.Event.the-variants.{Read};
+ghost use Rattle.hermes.specs.Node.{lent, start, apply, leaving};
+use crate::telling::text;
 use hermes::Admission;
 use hermes::Answer;
 use hermes::Event;
+use hermes::Outgoing;
 use hermes::Record;
 use hermes::Replica;
 
@@ -57,4 +61,35 @@ pub(crate) fn turn(
         records: records,
         bytes: bytes,
     }
+}
+
+// The number of a read of the record.
+pub(crate) fn read_number(me: Replica, records: [Record; 1], bytes: [u8; 192]) -> Answer
+    ensures { λ a. ⌜ a ≡ apply higher (lent me records bytes) 0 Read [] .answer ⌝ }
+{
+    table::read_number(me, &records, &bytes, 0)
+}
+
+// What is read, told out of the store itself: the part that the engine hands out, while the arrays are lent.
+pub(crate) fn tell(me: Replica, records: [Record; 1], bytes: [u8; 192]) {
+    let part = table::read(me, &records, &bytes, 0);
+    text(part);
+}
+
+// A message of another laptop, with the bytes that it takes along out of that laptop's arrays.
+pub(crate) fn deliver(
+    out: Outgoing,
+    theirs: [Record; 1],
+    store: [u8; 192],
+    me: Replica,
+    records: [Record; 1],
+    bytes: [u8; 192],
+    e: Event,
+) -> Turned
+    ensures { λ t. ⌜ (t .answer ≡ apply higher (lent me records bytes) 0 e (leaving out theirs store) .answer)
+        × ((t .records ≡ apply higher (lent me records bytes) 0 e (leaving out theirs store) .node .table)
+        × (t .bytes ≡ apply higher (lent me records bytes) 0 e (leaving out theirs store) .node .store)) ⌝ }
+{
+    let body = table::body(out, &theirs, &store);
+    turn(me, records, bytes, e, body)
 }

@@ -2,6 +2,8 @@
 mod laptop;
 mod telling;
 
+ghost use mathlib.Core.Path.{_≡_};
+ghost use Rattle.hermes.specs.Event.{sentBy};
 use crate::laptop::Started;
 use crate::laptop::Turned;
 use hermes::Admission;
@@ -12,18 +14,36 @@ use hermes::Received;
 use hermes::Record;
 use hermes::Replica;
 
-// What is delivered of an answer: the message that left. Where none left nothing is delivered, and a read stands for it.
-fn delivery(a: Answer) -> Event {
+// What left with an answer.
+fn left(a: Answer) -> Outgoing
+    ensures { λ out. ⌜ out ≡ sentBy a ⌝ }
+{
     match a {
-        Answer::Accepted(out) => match out {
-            Outgoing::Sent(message, header) => Event::Deliver(Received {
-                sender: header.sender,
-                epoch: header.epoch,
-                message: message,
-            }),
-            Outgoing::None => Event::Read,
-        },
-        Answer::Refused(_) => Event::Read,
+        Answer::Accepted(out) => out,
+        Answer::Refused(_) => Outgoing::None,
+    }
+}
+
+// The message that left, as an event where it arrives. Where none left nothing is delivered, and a read stands for it.
+fn delivery(out: Outgoing) -> Event {
+    match out {
+        Outgoing::Sent(message, header) => Event::Deliver(Received {
+            sender: header.sender,
+            epoch: header.epoch,
+            message: message,
+        }),
+        Outgoing::None => Event::Read,
+    }
+}
+
+// A laptop that has just started: nothing has left it.
+fn fresh(s: Started) -> Turned {
+    let r = s.records;
+    let b = s.bytes;
+    Turned {
+        answer: Answer::Accepted(Outgoing::None),
+        records: r,
+        bytes: b,
     }
 }
 
@@ -37,15 +57,27 @@ fn next(me: Replica, last: Turned, what: &[u8], e: Event, value: &[u8]) -> Turne
     t
 }
 
-// A laptop that has just started: nothing has left it.
-fn fresh(s: Started) -> Turned {
-    let r = s.records;
-    let b = s.bytes;
-    Turned {
-        answer: Answer::Accepted(Outgoing::None),
-        records: r,
-        bytes: b,
-    }
+// The same where the event is the delivery of what left another laptop, which still has the bytes that go with it.
+fn takes(me: Replica, last: Turned, what: &[u8], other: Turned) -> Turned {
+    let a = other.answer;
+    let out = left(a);
+    let theirs = other.records;
+    let store = other.bytes;
+    let r = last.records;
+    let b = last.bytes;
+    let t = laptop::deliver(out, theirs, store, me, r, b, delivery(out));
+    let answer = t.answer;
+    telling::line(what, answer);
+    t
+}
+
+// A read, which leaves the laptop as it is: the value between quotes, and the read's number.
+fn reads(me: Replica, last: Turned, what: &[u8]) {
+    let r = last.records;
+    let b = last.bytes;
+    telling::words(what);
+    laptop::tell(me, r, b);
+    telling::answer(laptop::read_number(me, r, b));
 }
 
 fn main() {
@@ -60,16 +92,18 @@ fn main() {
     let Admission::Admitted(one) = a1 else {
         return;
     };
-    let wrote = next(zero, fresh(s0), b"0 writes    ", Event::Write, b"A1");
-    let inv = wrote.answer;
-    let took = next(one, fresh(s1), b"1 takes it  ", delivery(inv), b"A1");
-    let ack = took.answer;
-    let counted = next(zero, wrote, b"0 counts it ", delivery(ack), b"");
-    let settled = next(zero, counted, b"0 validates ", Event::Validate, b"");
-    let val = settled.answer;
-    let early = next(one, took, b"1 reads     ", Event::Read, b"");
-    let valid = next(one, early, b"1 validates ", delivery(val), b"");
-    let read = next(one, valid, b"1 reads     ", Event::Read, b"");
-    let bytes = read.bytes;
-    telling::text(bytes);
+    telling::words(b"laptops 0 and 1 start with one empty record\n");
+    let wrote = next(zero, fresh(s0), b"laptop 0 writes A1", Event::Write, b"A1");
+    let took = takes(
+        one,
+        fresh(s1),
+        b"laptop 1 takes the INV and its bytes",
+        wrote,
+    );
+    reads(one, took, b"laptop 1 reads ");
+    let counted = takes(zero, wrote, b"laptop 0 takes the ACK", took);
+    let settled = next(zero, counted, b"laptop 0 validates", Event::Validate, b"");
+    let valid = takes(one, took, b"laptop 1 takes the VAL", settled);
+    reads(zero, settled, b"laptop 0 reads ");
+    reads(one, valid, b"laptop 1 reads ");
 }

@@ -1,43 +1,54 @@
-// A line for each event: its number, and what left.
+// A line for each event: what happens, whether it is accepted, and what leaves.
 use hermes::Answer;
 use hermes::Message;
 use hermes::Outgoing;
+
+pub(crate) fn words(what: &[u8]) {
+    io::write_all(1, what);
+}
 
 fn sent(out: Outgoing) {
     match out {
         Outgoing::Sent(message, _) => match message {
             Message::Inv(_) => {
-                io::write_all(1, b" INV\n");
+                words(b", sends INV\n");
             }
             Message::Ack(_) => {
-                io::write_all(1, b" ACK\n");
+                words(b", sends ACK\n");
             }
             Message::Val(_) => {
-                io::write_all(1, b" VAL\n");
+                words(b", sends VAL\n");
             }
         },
         Outgoing::None => {
-            io::write_all(1, b" -\n");
+            words(b"\n");
+        }
+    }
+}
+
+// The end of a line: the answer, by its number.
+pub(crate) fn answer(a: Answer) {
+    match a {
+        Answer::Accepted(out) => {
+            words(b": accepted");
+            sent(out);
+        }
+        Answer::Refused(k) => {
+            words(b": refused by question ");
+            io::print_decimal(1, k as u64);
+            words(b"\n");
         }
     }
 }
 
 pub(crate) fn line(what: &[u8], a: Answer) {
-    io::write_all(1, what);
-    match a {
-        Answer::Accepted(out) => {
-            io::write_all(1, b"0");
-            sent(out);
-        }
-        Answer::Refused(k) => {
-            io::print_decimal(1, k as u64);
-            io::write_all(1, b" -\n");
-        }
-    }
+    words(what);
+    answer(a);
 }
 
-// The two bytes of a value, on a line.
-pub(crate) fn text(bytes: [u8; 192]) {
-    let line = [bytes[0], bytes[1], b'\n'];
-    io::write_all(1, &line);
+// A value, between quotes.
+pub(crate) fn text(value: &[u8]) {
+    words(b"\"");
+    words(value);
+    words(b"\"");
 }

@@ -12,10 +12,10 @@ pub fn fill(words: &mut [u32], r: Record)
         × (tableOf (now (words .exit)) ≡ replicate (length (tableOf (now (words .entry)))) r) ⌝ }
 {
     let n = count(words.len());
-    let mut k: usize = 0;
-    while k < n {
-        put_record(words, k, r);
-        k += 1;
+    let mut i: usize = 0;
+    while i < n {
+        put_record(words, i, r);
+        i += 1;
     }
 }
 

@@ -1,1 +1,14 @@
-//! The engine against the model.
+//! The engine's exported functions against the model, on worked, random and
+//! damaged input. README.md says how to run it.
+
+pub mod bytes;
+pub mod engine;
+pub mod group;
+pub mod leaving;
+pub mod memory;
+pub mod packet;
+pub mod script;
+pub mod settings;
+pub mod shrink;
+pub mod single;
+pub mod words;

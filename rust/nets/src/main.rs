@@ -1,1 +1,85 @@
-fn main() {}
+//! The program: one morning with its report, or many with a line each.
+
+use std::io::{self, IsTerminal, Write};
+use std::process::ExitCode;
+use std::time::Instant;
+
+use nets::{run, Command, Failure, Report, Settings, HELP};
+
+/// Wrong options, or nobody who reads what is printed.
+const TROUBLE: u8 = 2;
+
+fn main() -> ExitCode {
+    let done = match Command::parse(std::env::args().skip(1)) {
+        Ok(Command::Help) => say(HELP).map(|()| ExitCode::SUCCESS),
+        Ok(Command::Run { settings, seeds }) => match seeds {
+            None => one(&settings),
+            Some(seeds) => many(&settings, seeds),
+        },
+        Err(wrong) => {
+            eprintln!("{wrong}; --help lists the options");
+            Ok(ExitCode::from(TROUBLE))
+        }
+    };
+    done.unwrap_or(ExitCode::from(TROUBLE))
+}
+
+fn one(settings: &Settings) -> io::Result<ExitCode> {
+    let begun = Instant::now();
+    match played(settings) {
+        Ok(report) => {
+            let seconds = begun.elapsed().as_secs_f64();
+            say(&format!("{report}wall time      {seconds:>8.2} s\n"))?;
+            Ok(ExitCode::SUCCESS)
+        }
+        Err(failure) => failed(&failure),
+    }
+}
+
+fn many(settings: &Settings, seeds: u64) -> io::Result<ExitCode> {
+    let begun = Instant::now();
+    for n in 0..seeds {
+        let seed = settings.seed.wrapping_add(n);
+        let settings = Settings {
+            seed,
+            ..settings.clone()
+        };
+        match played(&settings) {
+            Ok(report) => say(&format!("{}\n", report.line()))?,
+            Err(failure) => return failed(&failure),
+        }
+    }
+    let seconds = begun.elapsed().as_secs_f64();
+    say(&format!(
+        "{seeds} mornings, agreement held throughout; {seconds:.2} s\n"
+    ))?;
+    Ok(ExitCode::SUCCESS)
+}
+
+fn failed(failure: &Failure) -> io::Result<ExitCode> {
+    say(&failure.to_string())?;
+    Ok(ExitCode::FAILURE)
+}
+
+fn say(text: &str) -> io::Result<()> {
+    io::stdout().write_all(text.as_bytes())
+}
+
+/// One morning, with its ticks on a terminal.
+fn played(settings: &Settings) -> Result<Report, Box<Failure>> {
+    let terminal = io::stderr().is_terminal();
+    let result = run(settings, |tick| {
+        if terminal && tick % 50 == 0 {
+            eprint!(
+                "\rseed {}, tick {tick} of about {}  ",
+                settings.seed, settings.ticks
+            );
+            // A terminal that does not take it is no reason to stop.
+            let _ = io::stderr().flush();
+        }
+    });
+    if terminal {
+        eprint!("\r\x1b[K");
+    }
+    result
+}

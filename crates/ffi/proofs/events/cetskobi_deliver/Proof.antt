@@ -1,19 +1,13 @@
 -- `ffi::events::cetskobi_deliver` meets its contract.
-use Rattle.ffi.proofs.Ends.{done}
+use Rattle.ffi.proofs.Ends.{taken, done}
 use Rattle.ffi.specs.Crossing.{receivedIn}
 use Rattle.hermes.specs.declared.event.Event.the-variants as event
 use borrow.Author.Needs.{needs}
 use Rattle.ffi.proofs.events.cetskobi_deliver.Statement.{statement}
 use Rattle.ffi.proofs.events.cetskobi_deliver.Tie as tie
 
-record-at-requires : tie.Need-record-at-requires
-record-at-requires c κs = search needs
-
-count-requires : tie.Need-count-requires
-count-requires c κs = search needs
-
-replica-of-requires : tie.Need-replica-of-requires
-replica-of-requires c κs = search needs
+subject-of-requires : tie.Need-subject-of-requires
+subject-of-requires c κs = search needs
 
 received-in-requires : tie.Need-received-in-requires
 received-in-requires c κs = search needs
@@ -31,18 +25,7 @@ same-length-2 : tie.Need-same-length-2
 same-length-2 c = search needs
 
 returns : tie.Need-returns
-returns c = let v = c .before .before .before .before .before .before .before .before .before .before .before .before .before .before .before .before .args in done (v .me) (v .words .now) (v .i) _ _ _ (record { identity = c .before .before .before .before .before .before .before .before .before .replica-of .ensures; counted = c .before .before .before .before .before .before .before .before .before .before .count .ensures; found = c .before .before .before .before .before .before .before .before .before .before .before .record-at .ensures }) (v .store .now) (event.Deliver (receivedIn (v .message))) (v .value .now) _ _ _ _ (rw (c .before .before .before .before .before .before .before .received-in .ensures) at (c .before .before .before .before .before .before .deliver .ensures)) (c .before .before .finish .ensures)
+returns c = let v = c .before .before .before .before .before .before .before .before .before .before .before .before .before .before .args in done (v .me) (v .words .now) (v .i) _ _ _ (taken _ _ _ _ (c .before .before .before .before .before .before .before .before .before .subject-of .ensures)) (v .store .now) (event.Deliver (receivedIn (v .message))) (v .value .now) _ _ _ _ (rw (c .before .before .before .before .before .before .before .before .received-in .ensures) at (c .before .before .before .before .before .before .deliver .ensures)) (c .before .before .finish .ensures)
 
 pub cetskobi-deliver-spec : {M : Type 1} → statement M
-cetskobi-deliver-spec =
-    tie.close
-    (tie.spec
-    record-at-requires
-    count-requires
-    replica-of-requires
-    received-in-requires
-    deliver-requires
-    finish-requires
-    same-length
-    same-length-2
-    returns)
+cetskobi-deliver-spec = tie.close (tie.spec subject-of-requires received-in-requires deliver-requires finish-requires same-length same-length-2 returns)

@@ -1,18 +1,12 @@
 -- `ffi::events::cetskobi_write` meets its contract.
-use Rattle.ffi.proofs.Ends.{done}
+use Rattle.ffi.proofs.Ends.{taken, done}
 use Rattle.hermes.specs.declared.event.Event.the-variants as event
 use borrow.Author.Needs.{needs}
 use Rattle.ffi.proofs.events.cetskobi_write.Statement.{statement}
 use Rattle.ffi.proofs.events.cetskobi_write.Tie as tie
 
-record-at-requires : tie.Need-record-at-requires
-record-at-requires c κs = search needs
-
-count-requires : tie.Need-count-requires
-count-requires c κs = search needs
-
-replica-of-requires : tie.Need-replica-of-requires
-replica-of-requires c κs = search needs
+subject-of-requires : tie.Need-subject-of-requires
+subject-of-requires c κs = search needs
 
 write-requires : tie.Need-write-requires
 write-requires c κs = search needs
@@ -27,17 +21,7 @@ same-length-2 : tie.Need-same-length-2
 same-length-2 c = search needs
 
 returns : tie.Need-returns
-returns c = let v = c .before .before .before .before .before .before .before .before .before .before .before .before .before .before .before .args in done (v .me) (v .words .now) (v .i) _ _ _ (record { identity = c .before .before .before .before .before .before .before .before .replica-of .ensures; counted = c .before .before .before .before .before .before .before .before .before .count .ensures; found = c .before .before .before .before .before .before .before .before .before .before .record-at .ensures }) (v .store .now) event.Write (v .value .now) _ _ _ _ (c .before .before .before .before .before .before .write .ensures) (c .before .before .finish .ensures)
+returns c = let v = c .before .before .before .before .before .before .before .before .before .before .before .before .before .args in done (v .me) (v .words .now) (v .i) _ _ _ (taken _ _ _ _ (c .before .before .before .before .before .before .before .before .subject-of .ensures)) (v .store .now) event.Write (v .value .now) _ _ _ _ (c .before .before .before .before .before .before .write .ensures) (c .before .before .finish .ensures)
 
 pub cetskobi-write-spec : {M : Type 1} → statement M
-cetskobi-write-spec =
-    tie.close
-    (tie.spec
-    record-at-requires
-    count-requires
-    replica-of-requires
-    write-requires
-    finish-requires
-    same-length
-    same-length-2
-    returns)
+cetskobi-write-spec = tie.close (tie.spec subject-of-requires write-requires finish-requires same-length same-length-2 returns)

@@ -1,7 +1,10 @@
 -- `replica::guards::question13` meets its contract.
+use mathlib.Core.Path.{ap, _∙_}
+use mathlib.Core.Bool.{not}
 use borrow.Author.Needs.{needs}
 use Rattle.replica.proofs.guards.question13.Statement.{statement}
 use Rattle.replica.proofs.guards.question13.Tie as tie
+use Rattle.replica.proofs.Asked.{alike, both-alike}
 
 is-counting-requires : tie.Need-is-counting-requires
 is-counting-requires c κs = search needs
@@ -16,7 +19,7 @@ question-requires : tie.Need-question-requires
 question-requires c κs = search needs
 
 returns : tie.Need-returns
-returns c = cc
+returns c = c .question .ensures ∙ alike 13 (c .before .before .before .before .args .r) (both-alike (both-alike (c .before .before .before .is-counting .ensures) (c .before .before .same .ensures)) (ap not (c .before .has .ensures)))
 
 pub question13-spec : {M : Type 1} → statement M
 question13-spec =

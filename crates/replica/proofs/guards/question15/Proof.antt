@@ -1,7 +1,9 @@
 -- `replica::guards::question15` meets its contract.
+use mathlib.Core.Path.{_∙_}
 use borrow.Author.Needs.{needs}
 use Rattle.replica.proofs.guards.question15.Statement.{statement}
 use Rattle.replica.proofs.guards.question15.Tie as tie
+use Rattle.replica.proofs.Asked.{alike, both-alike}
 
 is-pending-requires : tie.Need-is-pending-requires
 is-pending-requires c κs = search needs
@@ -13,7 +15,7 @@ question-requires : tie.Need-question-requires
 question-requires c κs = search needs
 
 returns : tie.Need-returns
-returns c = cc
+returns c = c .question .ensures ∙ alike 15 (c .before .before .before .args .r) (both-alike (c .before .before .is-pending .ensures) (c .before .others-in .ensures))
 
 pub question15-spec : {M : Type 1} → statement M
 question15-spec =

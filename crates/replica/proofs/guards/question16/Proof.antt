@@ -1,7 +1,10 @@
 -- `replica::guards::question16` meets its contract.
+use mathlib.Core.Path.{ap, _∙_}
+use mathlib.Core.Bool.{not}
 use borrow.Author.Needs.{needs}
 use Rattle.replica.proofs.guards.question16.Statement.{statement}
 use Rattle.replica.proofs.guards.question16.Tie as tie
+use Rattle.replica.proofs.Asked.{alike, both-alike}
 
 is-invalid-requires : tie.Need-is-invalid-requires
 is-invalid-requires c κs = search needs
@@ -13,7 +16,7 @@ question-requires : tie.Need-question-requires
 question-requires c κs = search needs
 
 returns : tie.Need-returns
-returns c = cc
+returns c = c .question .ensures ∙ alike 16 (c .before .before .before .args .r) (both-alike (c .before .before .is-invalid .ensures) (ap not (c .before .has .ensures)))
 
 pub question16-spec : {M : Type 1} → statement M
 question16-spec = tie.close (tie.spec is-invalid-requires has-requires question-requires returns)

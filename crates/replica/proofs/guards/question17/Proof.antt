@@ -1,4 +1,11 @@
 -- `replica::guards::question17` meets its contract.
+use mathlib.Core.Path.{ap, _∙_}
+use mathlib.Core.Bool.{Bool, _&&_, _||_}
+use mathlib.Core.List.{[], _∷_}
+use lib.Dec.{eqb}
+use Rattle.hermes.specs.declared.record.State.the-variants.{Write, Replay}
+use Rattle.hermes.specs.Record.{oneOf}
+use Rattle.replica.proofs.Asked.{alike}
 use borrow.Author.Needs.{needs}
 use Rattle.replica.proofs.guards.question17.Statement.{statement}
 use Rattle.replica.proofs.guards.question17.Tie as tie
@@ -13,7 +20,10 @@ question-requires : tie.Need-question-requires
 question-requires c κs = search needs
 
 returns : tie.Need-returns
-returns c = cc
+returns c = let v = c .before .before .before .before .before .args in
+    c .question .ensures
+    ∙ alike 17 (v .r) (ap (λ (x : Bool). x || (c .before .before .before .is-valid .result && eqb (v .r .writer) (v .me .number))) (c .before .before .before .before .is-pending .ensures))
+    ∙ alike 17 (v .r) (ap (λ (x : Bool). oneOf (v .r .state) (Write ∷ Replay ∷ []) || (x && eqb (v .r .writer) (v .me .number))) (c .before .before .before .is-valid .ensures))
 
 pub question17-spec : {M : Type 1} → statement M
 question17-spec =

@@ -1,7 +1,9 @@
 -- `replica::guards::question19` meets its contract.
+use mathlib.Core.Path.{_∙_}
 use borrow.Author.Needs.{needs}
 use Rattle.replica.proofs.guards.question19.Statement.{statement}
 use Rattle.replica.proofs.guards.question19.Tie as tie
+use Rattle.replica.proofs.Asked.{alike, both-alike}
 
 within-requires : tie.Need-within-requires
 within-requires c κs = search needs
@@ -13,7 +15,7 @@ question-requires : tie.Need-question-requires
 question-requires c κs = search needs
 
 returns : tie.Need-returns
-returns c = cc
+returns c = c .question .ensures ∙ alike 19 (c .before .before .before .args .r) (both-alike (c .before .before .within .ensures) (c .before .plural .ensures))
 
 pub question19-spec : {M : Type 1} → statement M
 question19-spec = tie.close (tie.spec within-requires plural-requires question-requires returns)

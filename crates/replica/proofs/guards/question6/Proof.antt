@@ -1,7 +1,9 @@
 -- `replica::guards::question6` meets its contract.
+use mathlib.Core.Path.{_∙_}
 use borrow.Author.Needs.{needs}
 use Rattle.replica.proofs.guards.question6.Statement.{statement}
 use Rattle.replica.proofs.guards.question6.Tie as tie
+use Rattle.replica.proofs.Asked.{alike}
 
 is-valid-requires : tie.Need-is-valid-requires
 is-valid-requires c κs = search needs
@@ -10,7 +12,7 @@ question-requires : tie.Need-question-requires
 question-requires c κs = search needs
 
 returns : tie.Need-returns
-returns c = cc
+returns c = c .question .ensures ∙ alike 6 (c .before .before .args .r) (c .before .is-valid .ensures)
 
 pub question6-spec : {M : Type 1} → statement M
 question6-spec = tie.close (tie.spec is-valid-requires question-requires returns)

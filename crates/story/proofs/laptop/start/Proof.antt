@@ -37,9 +37,9 @@ use denote.Triple.Table.{entered, cited}
 use denote.Triple.Walked.{says, Stays, stay-none, walkOf, goes-none, Walks, ends-at, walked, walk-meets}
 use denote.Exit.{yes}
 use mir.Syntax.{tyArray}
-use denote.Array.{Array, array-vals, array-tells, array-makes}
+use denote.Array.{Array}
 use Rattle.story.proofs.Lending.{lends-array, array-back}
-use Rattle.story.proofs.Arrays.{records-fused, bytes-kept, records-field, bytes-field, records-val, bytes-val, typed-records, typed-bytes, room-one, room-all}
+use Rattle.story.proofs.Arrays.{records-fused, bytes-kept, records-field, bytes-field, records-val, bytes-val, typed-records, typed-bytes, room-one, room-all, records-vals, bytes-vals, records-tells, bytes-tells, has-records, has-bytes}
 use Rattle.table.proofs.Walk.{the-one, type-of}
 use denote.Struct.Laws as SL
 use denote.Enum.Laws as EL
@@ -120,8 +120,8 @@ module _ {M : Type 1} (𝓤 : URA M) (H : Heap 𝓤) (A : Atoms 𝓤) (W : Given
   exits : (s : Started) → Is S.the-row s (SL.vals S.the-type S′.the-laws s) → Said (s .admission) (s .records) (s .bytes) → ent 𝓤 (emp 𝓤) (Post (SL.val S.the-type S′.the-laws s))
   exits s s-is said =
       qed W [] ∵ suffices ! _ (ends-at 𝓤 H A start.ended stayed (start.clauses 𝓤 H A mem run) W ((tt, tt, tt, a, at), tt) (SL.val S.the-type S′.the-laws s) s (tt, (tt, (tt, (tt, tt)))) (tt, (tt, (tt, (tt, tt))))) $ says ! said $
-      owned ! S.the-row (Is S.the-row) (SL.makes S.the-type S′.the-plain 𝓤 H A) s _ s-is $ nothing ! $ owned ! (Array u8 192) (Is (Array u8 192)) (array-makes 𝓤 H A W u8 (uint-makes 𝓤 H A W w8) 192) bs _ bs-is $ fjoin ! $
-      owned ! (Array R.the-row 1) (Is (Array R.the-row 1)) (array-makes 𝓤 H A W R.the-row (SL.makes R.the-type R′.the-plain 𝓤 H A) 1) xs _ xs-is $ fjoin ! $ owned ! u16 (Is u16) (uint-makes 𝓤 H A W w16) view _ (refl, view-fits) $ fjoin ! $
+      owned ! S.the-row (Is S.the-row) (SL.makes S.the-type S′.the-plain 𝓤 H A) s _ s-is $ nothing ! $ has-bytes ! bs bs-is $ fjoin ! $
+      has-records ! xs xs-is $ fjoin ! $ owned ! u16 (Is u16) (uint-makes 𝓤 H A W w16) view _ (refl, view-fits) $ fjoin ! $
       owned ! u8 (Is u8) (uint-makes 𝓤 H A W w8) number _ (refl, number-fits) $ fjoin ! $ nothing ! $ done !
 
   walk : (C : Calls 𝓤 H) (Λ : Loops 𝓤 H) → FmC 𝓤 H (W .laws) C → Triple 𝓤 (C #table·start) (Engine 𝓤 H A mem run) → ent 𝓤 (onEntry 𝓤 H A start.signature tt tt a at)
@@ -171,8 +171,8 @@ module _ {M : Type 1} (𝓤 : URA M) (H : Heap 𝓤) (A : Atoms 𝓤) (W : Given
 module _ {M : Type 1} (𝓤 : URA M) (H : Heap 𝓤) (A : Atoms 𝓤) (W : Given 𝓤 H A) (mem : Memory → SProp 𝓤) (run : Routine → Fun 𝓤) where
   start-walks : (C : Calls 𝓤 H) (Λ : Loops 𝓤 H) → FmC 𝓤 H (W .laws) C → Triple 𝓤 (C #table·start) (Engine 𝓤 H A mem run) → Walks 𝓤 H A start.ended stayed (WpFn 𝓤 H C Λ code.function) (start.clauses 𝓤 H A mem run)
   start-walks C Λ fm known = walked 𝓤 H A start.ended stayed (start.clauses 𝓤 H A mem run) (WpFn 𝓤 H C Λ code.function)
-      (λ κs. (uint-vals w8, (uint-vals w16, (array-vals (SL.vals R.the-type R′.the-laws), (array-vals (uint-vals w8), tt)))))
-      (λ κs. (uint-tells w8, (uint-tells w16, (array-tells R.the-row (SL.vals R.the-type R′.the-laws) (SL.tells R.the-type R′.the-laws) 1, (array-tells u8 (uint-vals w8) (uint-tells w8) 192, tt)))))
+      (λ κs. (uint-vals w8, (uint-vals w16, (records-vals, (bytes-vals, tt)))))
+      (λ κs. (uint-tells w8, (uint-tells w16, (records-tells, (bytes-tells, tt)))))
       (λ κs qs bounds a g are. via 𝓤 _ (fst∗ 𝓤 _ (emp 𝓤)) (walk 𝓤 H A W mem run (a .0) (a .1 .0) (a .1 .1 .0) (a .1 .1 .1 .0) (are .0 .1) (are .1 .0 .1) (are .1 .1 .0) (are .1 .1 .1 .0) C Λ fm known))
 
 start-meets : {M : Type 1} (𝓤 : URA M) (H : Heap 𝓤) (A : Atoms 𝓤) → Given 𝓤 H A → (mem : Memory → SProp 𝓤) (run : Routine → Fun 𝓤) (𝓣 : Tables 𝓤 H) → Triple 𝓤 (𝓣 .C #table·start) (Engine 𝓤 H A mem run) → Meets 𝓤 H A start.signature (WpFn 𝓤 H (𝓣 .C) (𝓣 .Λ) code.function) (start.spec 𝓤 H A mem run)

@@ -38,9 +38,9 @@ use denote.Triple.Table.{entered, cited}
 use denote.Triple.Walked.{says, Stays, stay-none, stay-none-slice, walkOf, goes-none, goes-none-slice, Walks, ends-at, walked, walk-meets}
 use denote.Exit.{yes}
 use mir.Syntax.{tyArray}
-use denote.Array.{Array, array-vals, array-tells, array-makes}
+use denote.Array.{Array}
 use Rattle.story.proofs.Lending.{lends-array, array-back}
-use Rattle.story.proofs.Arrays.{records-fused, bytes-kept, records-field, bytes-field, records-val, bytes-val, typed-records, typed-bytes, room-one, room-all}
+use Rattle.story.proofs.Arrays.{records-fused, bytes-kept, records-field, bytes-field, records-val, bytes-val, typed-records, typed-bytes, room-one, room-all, records-vals, bytes-vals, records-tells, bytes-tells, has-records, has-bytes}
 use Rattle.table.proofs.Walk.{replica-val, event-val, the-one, typed-replica, typed-event, type-of, has-number, has-replica, has-event}
 use denote.Struct.Laws as SL
 use denote.Enum.Laws as EL
@@ -138,8 +138,8 @@ module _ {M : Type 1} (𝓤 : URA M) (H : Heap 𝓤) (A : Atoms 𝓤) (W : Given
   exits s s-is said =
       qed W ((‵ (flft κ q) ⊛ ‵ ftrue) ∷ ‵ Value ∷ []) ∵ suffices ! _ (ends-at 𝓤 H A turn.ended stayed (turn.clauses 𝓤 H A mem run) W (((κ, tt), (q, tt), tt, a, at), tt) (SL.val S.the-type S′.the-laws s) s (tt, (tt, (tt, (tt, (tt, tt))))) (tt, (tt, (tt, (tt, (tt, tt)))))) $ says ! said $
       frame ! $ owned ! S.the-row (Is S.the-row) (SL.makes S.the-type S′.the-plain 𝓤 H A) s _ s-is $ nothing ! $ move ! (2 ∷ 0 ∷ []) $ fjoin ! $ has-event ! e e-is $ fjoin ! $
-      owned ! (Array u8 192) (Is (Array u8 192)) (array-makes 𝓤 H A W u8 (uint-makes 𝓤 H A W w8) 192) bs _ bs-is $ fjoin ! $
-      owned ! (Array R.the-row 1) (Is (Array R.the-row 1)) (array-makes 𝓤 H A W R.the-row (SL.makes R.the-type R′.the-plain 𝓤 H A) 1) xs _ xs-is $ fjoin ! $ has-replica ! me me-is $ fjoin ! $ done !
+      has-bytes ! bs bs-is $ fjoin ! $
+      has-records ! xs xs-is $ fjoin ! $ has-replica ! me me-is $ fjoin ! $ done !
 
   walk : (C : Calls 𝓤 H) (Λ : Loops 𝓤 H) → FmC 𝓤 H (W .laws) C → Triple 𝓤 (C #table·apply) (Engine 𝓤 H A mem run) → ent 𝓤 (onEntry 𝓤 H A turn.signature (κ, tt) (q, tt) a at)
       (WpFn 𝓤 H C Λ code.function (replica-val me ∷ records-val xs ∷ bytes-val bs ∷ event-val e ∷ v ∷ []) Post)
@@ -190,8 +190,8 @@ module _ {M : Type 1} (𝓤 : URA M) (H : Heap 𝓤) (A : Atoms 𝓤) (W : Given
 module _ {M : Type 1} (𝓤 : URA M) (H : Heap 𝓤) (A : Atoms 𝓤) (W : Given 𝓤 H A) (mem : Memory → SProp 𝓤) (run : Routine → Fun 𝓤) where
   turn-walks : (C : Calls 𝓤 H) (Λ : Loops 𝓤 H) → FmC 𝓤 H (W .laws) C → Triple 𝓤 (C #table·apply) (Engine 𝓤 H A mem run) → Walks 𝓤 H A turn.ended stayed (WpFn 𝓤 H C Λ code.function) (turn.clauses 𝓤 H A mem run)
   turn-walks C Λ fm known = walked 𝓤 H A turn.ended stayed (turn.clauses 𝓤 H A mem run) (WpFn 𝓤 H C Λ code.function)
-      (λ κs. (SL.vals P.the-type P′.the-laws, (array-vals (SL.vals R.the-type R′.the-laws), (array-vals (uint-vals w8), (EL.vals E.the-type E′.the-laws, (slice-vals, tt))))))
-      (λ κs. (SL.tells P.the-type P′.the-laws, (array-tells R.the-row (SL.vals R.the-type R′.the-laws) (SL.tells R.the-type R′.the-laws) 1, (array-tells u8 (uint-vals w8) (uint-tells w8) 192, (EL.tells E.the-type E′.the-laws, (shr-slice-tells (named 0) (κs .0) u8, tt))))))
+      (λ κs. (SL.vals P.the-type P′.the-laws, (records-vals, (bytes-vals, (EL.vals E.the-type E′.the-laws, (slice-vals, tt))))))
+      (λ κs. (SL.tells P.the-type P′.the-laws, (records-tells, (bytes-tells, (EL.tells E.the-type E′.the-laws, (shr-slice-tells (named 0) (κs .0) u8, tt))))))
       (λ κs qs bounds a g are. via 𝓤 _ (fst∗ 𝓤 _ (emp 𝓤)) (walk 𝓤 H A W mem run (κs .0) (qs .0) (a .0) (a .1 .0) (a .1 .1 .0) (a .1 .1 .1 .0) (a .1 .1 .1 .1 .0 .ptr) (a .1 .1 .1 .1 .0 .name) (a .1 .1 .1 .1 .0 .now)
       (are .0) (are .1 .0) (are .1 .1 .0) (are .1 .1 .1 .0) (are .1 .1 .1 .1 .0 .0 .1) C Λ fm known))
 

@@ -12,10 +12,10 @@ use Rattle.words.proofs.filling.fill.Statement.{statement}
 use Rattle.words.proofs.filling.fill.Tie as tie
 
 abbrev Inv-loop : tie.InvT-loop
-Inv-loop words₀ r n k₀ words k = (k ≤ n) × ((words ≡ fill k words₀ r) × ((length words ≡ length words₀) × (0 < k → Fits r)))
+Inv-loop words₀ r n i₀ words i = (i ≤ n) × ((words ≡ fill i words₀ r) × ((length words ≡ length words₀) × (0 < i → Fits r)))
 
 abbrev μ-loop : tie.MeasureT-loop
-μ-loop words₀ r n k₀ words k = n - k
+μ-loop words₀ r n i₀ words i = n - i
 
 count-requires : tie.Need-count-requires Inv-loop μ-loop
 count-requires c κs = search needs
@@ -26,10 +26,10 @@ loop-holds c = (omega arith, (refl, (refl, λ z. absurd (omega arith))))
 put-record-requires : tie.Need-put-record-requires Inv-loop μ-loop
 put-record-requires c κs =
     let l = c .before .before .loop in let a = c .before .before .before .before .before .args in
-    let h : l .k < countOf (length (a .words .now)) = omega (arith, c .before .before .before .count .ensures) in rw (← l .inv .1 .1 .0) at (inside (length (a .words .now)) (l .k) h)
+    let h : l .i < countOf (length (a .words .now)) = omega (arith, c .before .before .before .count .ensures) in rw (← l .inv .1 .1 .0) at (inside (length (a .words .now)) (l .i) h)
 
-add-k : tie.Need-add-k Inv-loop μ-loop
-add-k c = search needs
+add-i : tie.Need-add-i Inv-loop μ-loop
+add-i c = search needs
 
 loop-less : tie.Need-loop-less Inv-loop μ-loop
 loop-less c = search needs
@@ -37,7 +37,7 @@ loop-less c = search needs
 loop-again : tie.Need-loop-again Inv-loop μ-loop
 loop-again c =
     let l = c .before .before .before .before .before .loop in
-    (omega arith, (c .before .before .put-record .ensures .0 ∙ rw (l .inv .1 .0, add-one (l .k)), (c .before .before .put-record .kept .0 ∙ l .inv .1 .1 .0, λ z. c .before .before .put-record .ensures .1)))
+    (omega arith, (c .before .before .put-record .ensures .0 ∙ rw (l .inv .1 .0, add-one (l .i)), (c .before .before .put-record .kept .0 ∙ l .inv .1 .1 .0, λ z. c .before .before .put-record .ensures .1)))
 
 same-length : tie.Need-same-length Inv-loop μ-loop
 same-length c = search needs
@@ -45,7 +45,7 @@ same-length c = search needs
 returns : tie.Need-returns Inv-loop μ-loop
 returns c =
     let l = c .before .loop in let a = c .before .before .before .before .args in
-    let e : l .k ≡ countOf (length (a .words .now)) = omega (arith, c .before .before .count .ensures) in
+    let e : l .i ≡ countOf (length (a .words .now)) = omega (arith, c .before .before .count .ensures) in
     let all : l .words ≡ fill (countOf (length (a .words .now))) (a .words .now) (a .r) = l .inv .1 .0 ∙ ap (λ (n : ℕ). fill n (a .words .now) (a .r)) e in
     (all, ap tableOf all ∙ filled-table (a .words .now) (a .r) (λ z. l .inv .1 .1 .1 (rw e z)))
 
@@ -58,7 +58,7 @@ fill-spec =
     count-requires
     loop-holds
     put-record-requires
-    add-k
+    add-i
     loop-less
     loop-again
     same-length

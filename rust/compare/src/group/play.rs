@@ -1,0 +1,219 @@
+use std::collections::BTreeMap;
+
+use cetskobi::sys::{Answer, Message, Replica};
+use model::engine::{has, Record};
+
+use super::member::Member;
+use super::{Entry, Run, Tally, What};
+use crate::bytes::Bytes;
+use crate::engine;
+use crate::single::{by_engine, Case, Event, Kind, Outcome};
+
+/// A message that left, with the bytes it left with, and whom it is for.
+#[derive(Clone, Debug)]
+pub struct Post {
+    pub message: Message,
+    pub i: usize,
+    pub value: Bytes,
+    pub to: u16,
+}
+
+/// How a message comes to a laptop of the engine.
+pub type Carry = fn(&Post, Replica, &mut [u32], &mut [u8]) -> Answer;
+
+/// The delivery by itself.
+pub fn by_hand(post: &Post, me: Replica, words: &mut [u32], store: &mut [u8]) -> Answer {
+    engine::deliver(me, words, store, post.i, post.message, &post.value)
+}
+
+/// The delivery out of a packet, where it is the second message.
+pub fn by_packet(post: &Post, me: Replica, words: &mut [u32], store: &mut [u8]) -> Answer {
+    let message = post.message;
+    let ack = [2, 0, 0, 0, 0, 0, 0];
+    let entry = [
+        message.kind.into(),
+        message.sender.into(),
+        message.epoch,
+        post.i as u32,
+        message.version,
+        message.tie.into(),
+        post.value.len() as u32,
+    ];
+    let mut packet = [0; 1400];
+    let written = engine::pack(&[ack, entry].concat(), &post.value, &mut packet);
+    assert_eq!(written.number, 0);
+    engine::deliver_packet(me, words, store, &packet[..written.len], 1)
+}
+
+/// An event of the model on its own table and store.
+pub type OnTable = fn(&Case, &mut [Record], &mut [u8]) -> Outcome;
+
+pub struct Group {
+    pub members: Vec<Member>,
+    /// By the id of the entry that the message left.
+    pub posts: BTreeMap<usize, Post>,
+    carry: Carry,
+    other: OnTable,
+    since: usize,
+}
+
+impl Group {
+    /// All members have just started fresh, in memory that was not clean.
+    pub fn start(run: &Run, carry: Carry, other: OnTable) -> Group {
+        let member = |&number: &u8| Member::start(number, run);
+        Group {
+            members: run.numbers.iter().map(member).collect(),
+            posts: BTreeMap::new(),
+            carry,
+            other,
+            since: 0,
+        }
+    }
+
+    pub fn records(&self) -> usize {
+        self.members[0].table.len()
+    }
+
+    /// Plays one entry by both, and compares what it can have touched. The
+    /// whole memory is compared now and then.
+    pub fn play(&mut self, entry: &Entry, tally: &mut Tally) -> Result<(), String> {
+        let Some((case, outcome)) = self.by_engine(entry) else {
+            return Ok(());
+        };
+        let at = |what: String| format!("entry {} at {}: {what}", entry.id, entry.at);
+        let member = &mut self.members[entry.at];
+        let before = member.table.get(case.i).map(|record| record.state);
+        let expected = (self.other)(&case, &mut member.table, &mut member.store);
+        if outcome != expected {
+            return Err(at(format!("engine {outcome:?}, other {expected:?}")));
+        }
+        member.me = outcome.me;
+        member.same(case.i).map_err(at)?;
+        let label = match (outcome.number, before) {
+            (0, Some(state)) if case.kind() != Kind::View => {
+                format!("{:?} at {state:?}", case.kind())
+            }
+            (number, _) => format!("{:?} answers {number}", case.kind()),
+        };
+        *tally.entry(label).or_default() += 1;
+
+        if outcome.number == 0 {
+            self.leave(entry.id, entry.at, &case, &outcome);
+            let pairs = self.agreement(case.i)?;
+            *tally.entry("valid pairs".to_owned()).or_default() += pairs;
+        }
+        self.since += 1;
+        if self.since >= 64.max(self.records() / 2) {
+            self.since = 0;
+            self.check_all()?;
+        }
+        Ok(())
+    }
+
+    /// The entry's event, and what the engine did. None for a delivery of
+    /// nothing.
+    fn by_engine(&mut self, entry: &Entry) -> Option<(Case, Outcome)> {
+        let member = self.members.get_mut(entry.at)?;
+        let of = match &entry.what {
+            What::Own { i, event } => {
+                let case = Case::on(member.me, *i, event.clone());
+                let outcome = by_engine(&case, &mut member.memory);
+                return Some((case, outcome));
+            }
+            What::Deliver { of } => of,
+        };
+        let post = self.posts.get(of)?;
+        let event = Event::Deliver {
+            message: post.message,
+            value: post.value.clone(),
+        };
+        let case = Case::on(member.me, post.i, event);
+        let (words, store) = member.memory.lend();
+        let answer = (self.carry)(post, member.me, words, store);
+        Some((case, Outcome::of(member.me, answer)))
+    }
+
+    /// A message that leaves joins the posts. A validation sets a floor for
+    /// each laptop in the finisher's view.
+    fn leave(&mut self, id: usize, at: usize, case: &Case, outcome: &Outcome) {
+        let member = &self.members[at];
+        let (kind, tie, version) = outcome.sent;
+        if kind == 0 {
+            return;
+        }
+        let (me, i) = (member.me, case.i);
+        let to = match &case.event {
+            Event::Deliver { message, .. } => 1 << message.sender,
+            _ => me.view & !(1 << me.number),
+        };
+        let value = match (kind, member.memory.record(i), member.memory.slot(i)) {
+            (1, Some(record), Some(slot)) => slot[..record[7] as usize].to_vec(),
+            _ => Vec::new(),
+        };
+        let message = Message {
+            kind,
+            sender: me.number,
+            tie,
+            epoch: me.epoch,
+            version,
+        };
+        let value = Bytes(value);
+        let post = Post {
+            message,
+            i,
+            value,
+            to,
+        };
+        self.posts.insert(id, post);
+        if case.event == Event::Validate {
+            for other in &mut self.members {
+                if has(me.view, other.me.number) {
+                    other.floor[i] = other.floor[i].max((version, tie.into()));
+                }
+            }
+        }
+    }
+
+    /// Demand 3 for this record, of the engine's memory. Gives the count of
+    /// pairs that both show it valid.
+    fn agreement(&self, i: usize) -> Result<u64, String> {
+        let mut pairs = 0;
+        for (k, a) in self.members.iter().enumerate() {
+            let Some(x) = a.shown(i) else {
+                continue;
+            };
+            if (x[1], x[2]) < a.floor[i] {
+                let (me, floor) = (a.me, a.floor[i]);
+                return Err(format!("{me:?} shows {x:?} of {i}, {floor:?} is validated"));
+            }
+            for b in &self.members[k + 1..] {
+                let mutual = has(a.me.view, b.me.number) && has(b.me.view, a.me.number);
+                let Some(y) = b.shown(i).filter(|_| mutual) else {
+                    continue;
+                };
+                pairs += 1;
+                let same = (x[1], x[2], x[7]) == (y[1], y[2], y[7]);
+                if !same || a.memory.slot(i) != b.memory.slot(i) {
+                    let (a, b) = (a.me, b.me);
+                    return Err(format!("{a:?} shows {x:?} of {i}, {b:?} {y:?}"));
+                }
+            }
+        }
+        Ok(pairs)
+    }
+
+    /// Every byte of every member, guards included, and demand 3 for every
+    /// record.
+    pub fn check_all(&self) -> Result<(), String> {
+        for (at, member) in self.members.iter().enumerate() {
+            member.moved()?;
+            if let Some(what) = member.memory.difference(&member.expected()) {
+                return Err(format!("member {at}: {what} (engine, other)"));
+            }
+        }
+        for i in 0..self.records() {
+            self.agreement(i)?;
+        }
+        Ok(())
+    }
+}

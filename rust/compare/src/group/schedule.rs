@@ -1,0 +1,211 @@
+//! Who does what next, over a radio that loses, repeats and holds back, with
+//! views that reach each laptop when they will.
+
+use model::engine::{bit, has};
+use model::rng::Rng;
+
+use super::{Group, Member, Run, What};
+use crate::single::{some_bytes, Event};
+use crate::words::Words;
+
+/// Posts under way are at most so many; older ones are lost.
+const UNDER_WAY: usize = 60;
+
+pub struct Schedule {
+    /// The views that the warden issues, by epoch, and how many are out.
+    views: Vec<(u32, u16)>,
+    issued: usize,
+    /// A view goes out about once in so many entries.
+    pace: usize,
+    /// Posts under way: the entry's id, and the place of one it is for.
+    under_way: Vec<(usize, usize)>,
+    /// The next entry's id.
+    id: usize,
+    /// The records that most entries are about.
+    hot: Vec<usize>,
+    /// The last entry of one that sent something.
+    last: Option<usize>,
+}
+
+impl Schedule {
+    /// A group that has just started, with its schedule.
+    pub fn start(rng: &mut Rng, records: usize) -> (Run, Schedule) {
+        let numbers = some_numbers(rng);
+        let mut view = numbers.iter().fold(0, |set, &number| set | bit(number));
+        if rng.chance(1, 10) {
+            // A number that no laptop has may stand in the first view.
+            view |= bit(rng.below(16) as u8);
+        }
+        let hot = 1 + rng.below(8);
+        let hot = (0..hot).map(|_| [rng.below(records), 0, records - 1][rng.below(3)]);
+        let hot: Vec<usize> = hot.collect();
+        let schedule = Schedule {
+            views: some_views(rng, view),
+            issued: 1,
+            pace: [30, 80, 200][rng.below(3)],
+            under_way: Vec::new(),
+            id: 0,
+            hot,
+            last: None,
+        };
+        let run = Run {
+            numbers,
+            view,
+            records,
+            entries: Vec::new(),
+        };
+        (run, schedule)
+    }
+
+    /// The next entry, and the place of the laptop that it comes to.
+    pub fn next(&mut self, rng: &mut Rng, group: &Group) -> (usize, What) {
+        self.take_up(group);
+        if self.issued < self.views.len() && rng.chance(1, self.pace) {
+            self.issued += 1;
+        }
+        let (at, what) = self.choose(rng, group);
+        self.last = Some(self.id);
+        self.id += 1;
+        (at, what)
+    }
+
+    fn choose(&mut self, rng: &mut Rng, group: &Group) -> (usize, What) {
+        let i = match rng.below(40) {
+            0 => rng.below(group.records() + 2),
+            1 => usize::MAX - rng.below(2),
+            2..6 => rng.below(group.records()),
+            _ => self.hot[rng.below(self.hot.len())],
+        };
+        let anyone = rng.below(group.members.len());
+        let at = |rng: &mut Rng, state: u32| match rng.below(4) {
+            0 => anyone,
+            _ => some_member(rng, group, i, |record| record[0] == state),
+        };
+        let (at, event) = match rng.below(100) {
+            0..4 => (anyone, Event::Read),
+            4..10 => {
+                let len = [4, 8, 192, 193, rng.below(193)][rng.below(5)];
+                let value = some_bytes(rng, len);
+                (anyone, Event::Write { value })
+            }
+            10..14 => return self.replay(rng, group, (anyone, i)),
+            14..24 => {
+                let state = 3 + rng.below(2) as u32;
+                (at(rng, state), Event::Validate)
+            }
+            24..30 => (anyone, Event::Resend),
+            30..34 => {
+                let (epoch, set) = match rng.below(3) {
+                    0 => self.views[rng.below(self.issued)],
+                    _ => self.views[self.issued - 1],
+                };
+                (anyone, Event::View { epoch, set })
+            }
+            _ => return self.delivery(rng, group, anyone),
+        };
+        (at, What::Own { i, event })
+    }
+
+    /// Mostly where the last writer is gone.
+    fn replay(&self, rng: &mut Rng, group: &Group, any: (usize, usize)) -> (usize, What) {
+        let mut fit = vec![any];
+        for (at, member) in group.members.iter().enumerate() {
+            let gone = |record: &Words| record[0] == 1 && !has(member.me.view, record[3] as u8);
+            let hot = self.hot.iter();
+            let hot = hot.filter(|&&i| member.memory.record(i).is_some_and(gone));
+            fit.extend(hot.map(|&i| (at, i)));
+        }
+        let (at, i) = rng.pick(&fit).unwrap_or(any);
+        let event = Event::Replay;
+        (at, What::Own { i, event })
+    }
+
+    /// The radio takes up what the last entry sent.
+    fn take_up(&mut self, group: &Group) {
+        let Some(id) = self.last.take() else {
+            return;
+        };
+        let Some(post) = group.posts.get(&id) else {
+            return;
+        };
+        for (at, member) in group.members.iter().enumerate() {
+            if has(post.to, member.me.number) {
+                self.under_way.push((id, at));
+            }
+        }
+        let lost = self.under_way.len().saturating_sub(UNDER_WAY);
+        self.under_way.drain(..lost);
+    }
+
+    /// Mostly a message under way, often a young one; now and then any message
+    /// to anyone. Some are lost, some come again.
+    fn delivery(&mut self, rng: &mut Rng, group: &Group, anyone: usize) -> (usize, What) {
+        let count = self.under_way.len();
+        if count == 0 || rng.chance(1, 12) {
+            let of = match rng.below(3) {
+                0 => rng.below(self.id + 1),
+                _ => self.id.saturating_sub(rng.below(100)),
+            };
+            let before = group.posts.range(..=of).next_back();
+            let of = before.map_or(of, |(&id, _)| id);
+            return (anyone, What::Deliver { of });
+        }
+        let young = if rng.chance(2, 3) {
+            count.min(6)
+        } else {
+            count
+        };
+        let chosen = count - 1 - rng.below(young);
+        let (of, at) = self.under_way[chosen];
+        if rng.chance(9, 10) {
+            self.under_way.remove(chosen);
+        }
+        if rng.chance(1, 30) {
+            // Lost.
+            self.under_way.pop();
+        }
+        (at, What::Deliver { of })
+    }
+}
+
+/// Different laptop numbers, in any order.
+fn some_numbers(rng: &mut Rng) -> Vec<u8> {
+    let size = [2, 3, 3, 4, 4, 5, 7][rng.below(7)];
+    let mut numbers: Vec<u8> = Vec::new();
+    while numbers.len() < size {
+        let number = rng.below(16) as u8;
+        if !numbers.contains(&number) {
+            numbers.push(number);
+        }
+    }
+    numbers
+}
+
+/// One view per epoch number, each within all lower-numbered ones. The first is
+/// that of the start.
+fn some_views(rng: &mut Rng, first: u16) -> Vec<(u32, u16)> {
+    let mut views = vec![(0, first)];
+    let (mut epoch, mut view) = (0, first);
+    for _ in 0..1 + rng.below(6) {
+        epoch += 1 + rng.below(2) as u32;
+        // A view of one laptop alone is refused.
+        if rng.chance(2, 3) && (view.count_ones() > 2 || rng.chance(1, 8)) {
+            let numbers: Vec<u8> = (0..16).filter(|&number| has(view, number)).collect();
+            view &= !rng.pick(&numbers).map_or(0, bit);
+        }
+        views.push((epoch, view));
+    }
+    if rng.chance(1, 20) {
+        views.push((u32::MAX, view));
+    }
+    views
+}
+
+/// Mostly one of the members whose record is so, else any.
+fn some_member(rng: &mut Rng, group: &Group, i: usize, wanted: impl Fn(&Words) -> bool) -> usize {
+    let fits = |member: &Member| member.memory.record(i).is_some_and(&wanted);
+    let members = group.members.iter().enumerate();
+    let fit: Vec<usize> = members.filter(|(_, m)| fits(m)).map(|(at, _)| at).collect();
+    rng.pick(&fit)
+        .unwrap_or_else(|| rng.below(group.members.len()))
+}

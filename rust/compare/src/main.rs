@@ -1,0 +1,134 @@
+//! Compares the engine with the model at any size:
+//! `compare --seed S --times N [PART..]`. Without a part all of them are run.
+
+use std::fmt::Display;
+use std::process::ExitCode;
+use std::time::Instant;
+
+use compare::group::{self, by_hand, by_packet};
+use compare::packet::{deliver, fetch, pack};
+use compare::settings::Settings;
+use compare::shrink::Found;
+use compare::{leaving, script, single};
+
+/// Runs a part of the comparison, and shows what it counted.
+type Part = fn(&Settings) -> Result<String, String>;
+
+const PARTS: [(&str, Part); 8] = [
+    ("single", |settings| {
+        shown(
+            single::compare(settings, single::by_model),
+            ToString::to_string,
+        )
+    }),
+    ("group", |settings| {
+        shown(group::compare(settings, by_hand, single::on_table), listed)
+    }),
+    ("group-by-packet", |settings| {
+        shown(
+            group::compare(settings, by_packet, single::on_table),
+            listed,
+        )
+    }),
+    ("leaving", |settings| {
+        shown(leaving::compare(settings, leaving::by_model), |tally| {
+            format!("{tally:?}")
+        })
+    }),
+    ("fetch", |settings| {
+        shown(fetch::compare(settings, fetch::by_model), |tally| {
+            format!("{} packets; {}", tally.packets, answers(&tally.answers))
+        })
+    }),
+    ("pack", |settings| {
+        shown(pack::compare(settings, pack::by_model), |tally| {
+            answers(&tally.answers)
+        })
+    }),
+    ("deliver", |settings| {
+        shown(deliver::compare(settings, deliver::by_model), |tally| {
+            answers(&tally.answers)
+        })
+    }),
+    ("script", |settings| {
+        shown(script::compare(settings, script::by_model), |tally| {
+            format!(
+                "{} scripts, {} lines\n{}",
+                tally.scripts,
+                tally.lines,
+                listed(&tally.words)
+            )
+        })
+    }),
+];
+
+fn shown<T, C>(
+    result: Result<T, Box<Found<C>>>,
+    show: impl FnOnce(&T) -> String,
+) -> Result<String, String>
+where
+    Found<C>: Display,
+{
+    match result {
+        Ok(tally) => Ok(show(&tally)),
+        Err(found) => Err(found.to_string()),
+    }
+}
+
+fn listed(tally: &group::Tally) -> String {
+    let lines = tally
+        .iter()
+        .map(|(name, times)| format!("{times:9} {name}"));
+    lines.collect::<Vec<_>>().join("\n")
+}
+
+fn answers(counts: &[u64]) -> String {
+    let counts = counts.iter().enumerate().filter(|(_, &times)| times > 0);
+    let counts = counts.map(|(answer, times)| format!("{answer}:{times}"));
+    counts.collect::<Vec<_>>().join(" ")
+}
+
+fn main() -> ExitCode {
+    let Some((settings, chosen)) = arguments() else {
+        eprintln!("compare [--seed S] [--times N] [PART..]; the parts are:");
+        for (name, _) in PARTS {
+            eprintln!("  {name}");
+        }
+        return ExitCode::from(2);
+    };
+    println!("seed {}, {} times", settings.seed, settings.times);
+    let mut code = ExitCode::SUCCESS;
+    for (name, part) in PARTS {
+        if !chosen.is_empty() && !chosen.iter().any(|other| other == name) {
+            continue;
+        }
+        println!("== {name}");
+        let begin = Instant::now();
+        let result = part(&settings);
+        let seconds = begin.elapsed().as_secs_f32();
+        match result {
+            Ok(counts) => println!("{counts}\nalike, in {seconds:.1} s"),
+            Err(found) => {
+                println!("DIFFERENT, seed {}\n{found}", settings.seed);
+                code = ExitCode::FAILURE;
+            }
+        }
+    }
+    code
+}
+
+/// The settings, and the parts that are named. None for words that are wrong.
+fn arguments() -> Option<(Settings, Vec<String>)> {
+    let mut settings = Settings::from_env();
+    let mut chosen = Vec::new();
+    let mut words = std::env::args().skip(1);
+    while let Some(word) = words.next() {
+        match &word[..] {
+            "--seed" => settings.seed = words.next()?.parse().ok()?,
+            "--times" => settings.times = words.next()?.parse().ok()?,
+            name if PARTS.iter().any(|part| part.0 == name) => chosen.push(word),
+            _ => return None,
+        }
+    }
+    Some((settings, chosen))
+}

@@ -1,0 +1,148 @@
+//! Delivering message i of a packet, on lent memory of any kind.
+
+use model::engine::number;
+use model::packet;
+use model::rng::Rng;
+
+use super::some::some_letter;
+use super::{damage, packet_of, Letter};
+use crate::bytes::Bytes;
+use crate::engine;
+use crate::memory::Memory;
+use crate::settings::Settings;
+use crate::shrink::{drops, less, shrink, Found, Smaller};
+use crate::single::{self, on_words, replica_of, some_case, Event, Kind, Outcome};
+use crate::words::sent_of;
+
+/// A packet, the message that is delivered from it, and what is lent. The
+/// case's own event tells which message was meant.
+#[derive(Clone, Debug, PartialEq)]
+pub struct Case {
+    pub lent: single::Case,
+    pub packet: Bytes,
+    pub i: usize,
+}
+
+/// Delivers a message of a packet.
+pub type Deliver = fn(&Case, &mut Memory) -> Outcome;
+
+pub fn by_engine(case: &Case, memory: &mut Memory) -> Outcome {
+    let (words, store) = memory.lend();
+    let me = case.lent.me;
+    let answer = engine::deliver_packet(me, words, store, &case.packet, case.i);
+    Outcome::of(me, answer)
+}
+
+pub fn by_model(case: &Case, memory: &mut Memory) -> Outcome {
+    let me = case.lent.me;
+    on_words(memory, |table, store| {
+        let answer = packet::deliver(&replica_of(me), table, store, &case.packet, case.i);
+        Outcome {
+            number: number(&answer),
+            sent: sent_of(answer.unwrap_or_default()),
+            part: (0, 0),
+            me,
+        }
+    })
+}
+
+/// How often each answer came.
+#[derive(Clone, Debug, Default)]
+pub struct Tally {
+    pub answers: [u64; 26],
+}
+
+/// Random deliveries of the usual count.
+const DELIVERIES: usize = 400_000;
+
+pub fn compare(settings: &Settings, other: Deliver) -> Result<Tally, Box<Found<Case>>> {
+    let mut rng = settings.rng("deliver");
+    let mut bench = single::Bench::new(&mut rng);
+    let mut tally = Tally::default();
+    let mut difference = |case: &Case| {
+        let engine = |memory: &mut Memory| by_engine(case, memory);
+        bench.compare(&case.lent, engine, |memory| other(case, memory))
+    };
+    for _ in 0..DELIVERIES * settings.times {
+        let case = some_delivery(&mut rng);
+        match difference(&case) {
+            Ok(outcome) => tally.answers[usize::from(outcome.number)] += 1,
+            Err(what) => return Err(Box::new(shrink(case, what, |case| difference(case).err()))),
+        }
+    }
+    Ok(tally)
+}
+
+/// The message of a random delivery among others; sometimes the packet is
+/// damaged, or another message is asked for.
+fn some_delivery(rng: &mut Rng) -> Case {
+    loop {
+        let lent = some_case(rng);
+        let Event::Deliver { message, value } = &lent.event else {
+            continue;
+        };
+        let letter = Letter {
+            words: [
+                message.kind.into(),
+                message.sender.into(),
+                message.epoch,
+                u32::try_from(lent.i).unwrap_or(u32::MAX),
+                message.version,
+                message.tie.into(),
+                value.len() as u32,
+            ],
+            body: value.to_vec(),
+        };
+        let mut letters: Vec<Letter> = (0..rng.below(6)).map(|_| some_letter(rng, 192)).collect();
+        let mut i = rng.below(letters.len() + 1);
+        letters.insert(i, letter);
+        // What no writer makes stands for itself in a damaged packet.
+        let Some(mut packet) = packet_of(&letters) else {
+            continue;
+        };
+        if rng.chance(1, 6) {
+            damage(rng, &mut packet);
+        }
+        if rng.chance(1, 12) {
+            i = [letters.len(), rng.below(letters.len()), usize::MAX][rng.below(3)];
+        }
+        let packet = Bytes(packet);
+        return Case { lent, packet, i };
+    }
+}
+
+impl Case {
+    /// The answers that a delivery from a packet can give. 12 is none of them:
+    /// question 22 has seen to what it asks.
+    pub fn answers() -> Vec<usize> {
+        let delivery = [Kind::Ack, Kind::Val, Kind::Inv]
+            .map(Kind::answers)
+            .concat();
+        let mut all: Vec<usize> = delivery
+            .into_iter()
+            .filter(|&answer| answer != 12)
+            .collect();
+        all.extend(20..=23);
+        all.sort_unstable();
+        all.dedup();
+        all
+    }
+}
+
+impl Smaller for Case {
+    fn smaller(&self) -> Box<dyn Iterator<Item = Case> + '_> {
+        let lent = self.lent.smaller().map(|lent| Case {
+            lent,
+            ..self.clone()
+        });
+        let packets = drops(&self.packet).map(|packet| Case {
+            packet: Bytes(packet),
+            ..self.clone()
+        });
+        let index = less(self.i as u64).map(|i| Case {
+            i: i as usize,
+            ..self.clone()
+        });
+        Box::new(lent.chain(packets).chain(index))
+    }
+}

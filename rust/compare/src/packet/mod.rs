@@ -1,0 +1,55 @@
+//! Packets, whole and damaged: fetching, packing, delivering.
+
+pub mod deliver;
+pub mod fetch;
+pub mod pack;
+mod some;
+
+pub use some::{damage, set_total, some_packet};
+
+use model::engine::Envelope;
+use model::packet::Entry;
+
+use crate::words::message_of;
+
+/// The words of one message that goes into a packet: kind, sender, epoch,
+/// record, version, tie-breaker, length.
+pub type EntryWords = [u32; 7];
+
+/// The message of these words; none where a word is too great for its field,
+/// or the kind is unknown.
+pub fn entry_of(words: &EntryWords) -> Option<Entry> {
+    let [kind, sender, epoch, record, version, tie, len] = *words;
+    let kind = u8::try_from(kind)
+        .ok()
+        .filter(|kind| (1..=3).contains(kind))?;
+    Some(Entry {
+        envelope: Envelope {
+            sender: sender.try_into().ok()?,
+            epoch,
+            record: record as usize,
+            message: message_of(kind, version, tie.try_into().ok()?),
+        },
+        len: len.try_into().ok()?,
+    })
+}
+
+/// A message with the bytes that it takes along.
+#[derive(Clone, Debug, PartialEq)]
+pub struct Letter {
+    pub words: EntryWords,
+    pub body: Vec<u8>,
+}
+
+/// The packet of these messages, by the model.
+pub fn packet_of(letters: &[Letter]) -> Option<Vec<u8>> {
+    let entries: Option<Vec<Entry>> = letters
+        .iter()
+        .map(|letter| entry_of(&letter.words))
+        .collect();
+    let bodies: Vec<&[u8]> = letters.iter().map(|letter| &letter.body[..]).collect();
+    let mut out = vec![0; model::packet::PACKET_LIMIT];
+    let total = model::packet::write(&entries?, &bodies.concat(), &mut out).ok()?;
+    out.truncate(total);
+    Some(out)
+}

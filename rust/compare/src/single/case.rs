@@ -1,0 +1,132 @@
+use cetskobi::sys::{Message, Replica, WORDS};
+use model::engine::Record;
+
+use crate::bytes::Bytes;
+use crate::words::Words;
+
+/// An event of document 01, with what it takes along.
+#[derive(Clone, Debug, PartialEq)]
+pub enum Event {
+    Start,
+    View { epoch: u32, set: u16 },
+    Read,
+    Write { value: Bytes },
+    Replay,
+    Deliver { message: Message, value: Bytes },
+    Validate,
+    Resend,
+}
+
+/// The kinds of events as they are counted.
+#[derive(Clone, Copy, Debug, PartialEq, Eq, PartialOrd, Ord)]
+pub enum Kind {
+    Start,
+    View,
+    Read,
+    Write,
+    Replay,
+    Inv,
+    Ack,
+    Val,
+    /// A delivery of no known kind.
+    Unknown,
+    Validate,
+    Resend,
+}
+
+impl Kind {
+    pub const ALL: [Kind; 11] = [
+        Kind::Start,
+        Kind::View,
+        Kind::Read,
+        Kind::Write,
+        Kind::Replay,
+        Kind::Inv,
+        Kind::Ack,
+        Kind::Val,
+        Kind::Unknown,
+        Kind::Validate,
+        Kind::Resend,
+    ];
+
+    /// The numbers that this event can answer (01, "The questions, in order").
+    pub fn answers(self) -> &'static [usize] {
+        match self {
+            Kind::Start => &[0, 1, 2, 3],
+            Kind::View => &[0, 1, 3, 18, 19],
+            Kind::Read => &[0, 1, 2, 3, 4, 5, 6],
+            Kind::Write => &[0, 1, 2, 3, 4, 5, 7, 8, 9],
+            Kind::Replay => &[0, 1, 2, 3, 4, 5, 16],
+            Kind::Inv => &[0, 1, 2, 3, 4, 5, 10, 11, 12],
+            Kind::Ack => &[0, 1, 2, 3, 4, 5, 10, 11, 12, 13],
+            Kind::Val => &[0, 1, 2, 3, 4, 5, 10, 11, 12, 14],
+            Kind::Unknown => &[1, 2, 3, 4, 5, 10, 11, 12],
+            Kind::Validate => &[0, 1, 2, 3, 4, 5, 15],
+            Kind::Resend => &[0, 1, 2, 3, 4, 5, 17],
+        }
+    }
+}
+
+/// An event, and what is lent to it.
+#[derive(Clone, Debug, PartialEq)]
+pub struct Case {
+    pub me: Replica,
+    /// How many words and how many bytes are lent.
+    pub words: usize,
+    pub store: usize,
+    /// The part of the pool that lies in the other records.
+    pub part: usize,
+    /// The named record, its words and its 192 bytes, if it is there.
+    pub i: usize,
+    pub record: Words,
+    pub slot: Bytes,
+    pub event: Event,
+}
+
+impl Case {
+    /// An event on memory that is laid out elsewhere.
+    pub fn on(me: Replica, i: usize, event: Event) -> Case {
+        Case {
+            me,
+            words: 0,
+            store: 0,
+            part: 0,
+            i,
+            record: [0; WORDS],
+            slot: Bytes::default(),
+            event,
+        }
+    }
+
+    pub fn kind(&self) -> Kind {
+        match &self.event {
+            Event::Start => Kind::Start,
+            Event::View { .. } => Kind::View,
+            Event::Read => Kind::Read,
+            Event::Write { .. } => Kind::Write,
+            Event::Replay => Kind::Replay,
+            Event::Deliver { message, .. } => match message.kind {
+                1 => Kind::Inv,
+                2 => Kind::Ack,
+                3 => Kind::Val,
+                _ => Kind::Unknown,
+            },
+            Event::Validate => Kind::Validate,
+            Event::Resend => Kind::Resend,
+        }
+    }
+
+    /// Memory for so many records.
+    pub fn lend(&mut self, records: usize) {
+        self.words = WORDS * records;
+        self.store = Record::VALUE_LIMIT * records;
+    }
+
+    /// The value that comes with the event.
+    pub fn value(&mut self) -> Option<&mut Bytes> {
+        match &mut self.event {
+            Event::Write { value } | Event::Deliver { value, .. } => Some(value),
+            _ => None,
+        }
+    }
+}

@@ -1,0 +1,218 @@
+use cetskobi::sys::{Admission, Answer, Replica};
+use model::engine::{number, Envelope, Record};
+use model::rng::Rng;
+
+use super::{Case, Event};
+use crate::engine;
+use crate::memory::{Memory, Pool};
+use crate::words::{message_of, sent_of, table_of, words_of};
+
+/// What an event answers. The moved memory goes with it.
+#[derive(Clone, Debug, PartialEq)]
+pub struct Outcome {
+    /// 0 or the number of the question that said no.
+    pub number: u8,
+    /// Kind, tie-breaker and version of the message that leaves, or zeros.
+    pub sent: (u8, u8, u32),
+    /// Of a read: where the part begins in the store, and its length.
+    pub part: (usize, usize),
+    /// The identity from then on.
+    pub me: Replica,
+}
+
+/// Plays an event on its memory.
+pub type Play = fn(&Case, &mut Memory) -> Outcome;
+
+pub fn by_engine(case: &Case, memory: &mut Memory) -> Outcome {
+    let (me, i) = (case.me, case.i);
+    let (words, store) = memory.lend();
+    match &case.event {
+        Event::Start => admitted(engine::start(me.number, me.view, words, store)),
+        Event::View { epoch, set } => admitted(engine::view(me, *epoch, *set)),
+        Event::Read => {
+            let read = engine::read(me, words, store, i);
+            // A refused read gives the empty part, wherever that is.
+            let at = if read.number == 0 {
+                Record::VALUE_LIMIT * i
+            } else {
+                0
+            };
+            Outcome {
+                number: read.number,
+                sent: (0, 0, 0),
+                part: (at, read.len),
+                me,
+            }
+        }
+        Event::Write { value } => Outcome::of(me, engine::write(me, words, store, i, value)),
+        Event::Replay => Outcome::of(me, engine::replay(me, words, store, i)),
+        Event::Deliver { message, value } => {
+            Outcome::of(me, engine::deliver(me, words, store, i, *message, value))
+        }
+        Event::Validate => Outcome::of(me, engine::validate(me, words, store, i)),
+        Event::Resend => Outcome::of(me, engine::resend(me, words, store, i)),
+    }
+}
+
+impl Outcome {
+    /// Of an event that leaves the identity as it is.
+    pub fn of(me: Replica, answer: Answer) -> Outcome {
+        Outcome {
+            number: answer.number,
+            sent: (answer.kind, answer.tie, answer.version),
+            part: (0, 0),
+            me,
+        }
+    }
+}
+
+fn admitted(admission: Admission) -> Outcome {
+    Outcome {
+        number: admission.number,
+        sent: (0, 0, 0),
+        part: (0, 0),
+        me: admission.replica,
+    }
+}
+
+pub fn by_model(case: &Case, memory: &mut Memory) -> Outcome {
+    on_words(memory, |table, store| on_table(case, table, store))
+}
+
+/// Lets the model move the table of these words.
+pub fn on_words(
+    memory: &mut Memory,
+    event: impl FnOnce(&mut [Record], &mut [u8]) -> Outcome,
+) -> Outcome {
+    let before = table_of(memory.words());
+    let mut table = before.clone();
+    let outcome = event(&mut table, memory.lend().1);
+    // A record that stayed keeps its words, also where they are no record.
+    for (k, (before, after)) in before.iter().zip(&table).enumerate() {
+        if before != after {
+            memory.put_record(k, &words_of(after));
+        }
+    }
+    outcome
+}
+
+/// The model's event on its own table.
+pub fn on_table(case: &Case, table: &mut [Record], store: &mut [u8]) -> Outcome {
+    let Replica {
+        number: own, view, ..
+    } = case.me;
+    let mut replica = replica_of(case.me);
+    let mut part = (0, 0);
+    let i = case.i;
+    let answer = match &case.event {
+        Event::Start => {
+            let started = model::engine::Replica::start(own, view, table, store);
+            // A refused start names the identity that was asked for.
+            replica = started.unwrap_or(model::engine::Replica {
+                epoch: 0,
+                ..replica
+            });
+            started.map(|_| None)
+        }
+        Event::View { epoch, set } => replica.change_view(*epoch, *set),
+        Event::Read => {
+            let read = replica.read(table, store, i);
+            if let Ok(value) = read {
+                part = (
+                    value.as_ptr() as usize - store.as_ptr() as usize,
+                    value.len(),
+                );
+            }
+            read.map(|_| None)
+        }
+        Event::Write { value } => replica.write(table, store, i, value),
+        Event::Replay => replica.replay(table, store, i),
+        Event::Deliver { message, value } => {
+            let envelope = Envelope {
+                sender: message.sender,
+                epoch: message.epoch,
+                record: i,
+                message: message_of(message.kind, message.version, message.tie),
+            };
+            replica.deliver(table, store, &envelope, value)
+        }
+        Event::Validate => replica.validate(table, store, i),
+        Event::Resend => replica.resend(table, store, i),
+    };
+    Outcome {
+        number: number(&answer),
+        sent: sent_of(answer.unwrap_or_default()),
+        part,
+        me: identity(&replica),
+    }
+}
+
+pub fn replica_of(me: Replica) -> model::engine::Replica {
+    model::engine::Replica {
+        number: me.number,
+        epoch: me.epoch,
+        view: me.view,
+    }
+}
+
+fn identity(replica: &model::engine::Replica) -> Replica {
+    Replica {
+        number: replica.number,
+        view: replica.view,
+        epoch: replica.epoch,
+    }
+}
+
+/// The memory of both sides.
+pub struct Bench {
+    pool: Pool,
+    engine: Memory,
+    other: Memory,
+}
+
+impl Bench {
+    pub fn new(rng: &mut Rng) -> Bench {
+        Bench {
+            pool: Pool::new(rng),
+            engine: Memory::default(),
+            other: Memory::default(),
+        }
+    }
+
+    /// Lays out what the case lends, for the engine.
+    pub fn lay(&mut self, case: &Case) -> &mut Memory {
+        let memory = &mut self.engine;
+        self.pool.lay(case.part, case.words, case.store, memory);
+        memory.put_record(case.i, &case.record);
+        if let Ok(slot) = case.slot[..].try_into() {
+            memory.put_slot(case.i, slot);
+        }
+        memory
+    }
+
+    /// Plays the case by the engine and by the other: their outcome, or how
+    /// they differ.
+    pub fn difference(&mut self, case: &Case, other: Play) -> Result<Outcome, String> {
+        let engine = |memory: &mut Memory| by_engine(case, memory);
+        self.compare(case, engine, |memory| other(case, memory))
+    }
+
+    /// The same for any two events on the memory that the case lends.
+    pub fn compare(
+        &mut self,
+        case: &Case,
+        engine: impl FnOnce(&mut Memory) -> Outcome,
+        other: impl FnOnce(&mut Memory) -> Outcome,
+    ) -> Result<Outcome, String> {
+        self.lay(case);
+        self.other.clone_from(&self.engine);
+        let (a, b) = (engine(&mut self.engine), other(&mut self.other));
+        if a != b {
+            return Err(format!("engine {a:?}, other {b:?}"));
+        }
+        match self.engine.difference(&self.other) {
+            None => Ok(a),
+            Some(what) => Err(format!("{what} (engine, other), answer {}", a.number)),
+        }
+    }
+}

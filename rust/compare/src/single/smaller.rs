@@ -1,0 +1,114 @@
+//! Lesser cases: numbers, alone and together, values and bytes.
+
+use super::{Case, Event};
+use crate::shrink::{drops, less, plainer, Number, Smaller};
+
+impl Smaller for Case {
+    fn smaller(&self) -> Box<dyn Iterator<Item = Case> + '_> {
+        let whole = self.whole().chain(self.lesser_numbers());
+        Box::new(whole.chain(self.lesser_value()).chain(self.lesser_slot()))
+    }
+}
+
+impl Case {
+    fn with(&self, change: impl FnOnce(&mut Case)) -> Case {
+        let mut case = self.clone();
+        change(&mut case);
+        case
+    }
+
+    /// What belongs together becomes less together.
+    fn whole(&self) -> impl Iterator<Item = Case> + '_ {
+        let lend = |records| {
+            self.with(|case| {
+                case.i = 0;
+                case.lend(records);
+            })
+        };
+        let whole = [lend(1), lend(2), self.with(Case::renumber)];
+        let sum = |case: &Case| case.all().iter().map(|&n| u128::from(n)).sum::<u128>();
+        whole.into_iter().filter(move |case| sum(case) < sum(self))
+    }
+
+    /// The least replica, in a view with the next.
+    fn renumber(&mut self) {
+        let away = self.me.number;
+        (self.me.number, self.me.view) = (0, 3);
+        self.record[6] &= !(1 | 1u32.checked_shl(away.into()).unwrap_or(0));
+        if let Event::Deliver { message, .. } = &mut self.event {
+            message.sender = 1;
+        }
+    }
+
+    /// Each number alone, and two that are equal together.
+    fn lesser_numbers(&self) -> impl Iterator<Item = Case> + '_ {
+        let numbers = self.all();
+        let count = numbers.len();
+        let pairs = (0..count).flat_map(move |k| (k..count).map(move |l| (k, l)));
+        let equal = pairs.filter_map(move |(k, l)| {
+            let number = numbers[k];
+            (number == numbers[l]).then_some((k, l, number))
+        });
+        let lesser = equal.flat_map(|(k, l, number)| less(number).map(move |n| (k, l, n)));
+        lesser.map(|(k, l, number)| {
+            self.with(|case| {
+                let mut numbers = case.numbers();
+                numbers[k].set(number);
+                numbers[l].set(number);
+            })
+        })
+    }
+
+    fn lesser_value(&self) -> impl Iterator<Item = Case> + '_ {
+        let value = match &self.event {
+            Event::Write { value } | Event::Deliver { value, .. } => &value[..],
+            _ => &[],
+        };
+        let values = drops(value).chain(plainer(value));
+        let values = values.filter(move |other| other != value);
+        values.map(|other| {
+            self.with(|case| {
+                if let Some(value) = case.value() {
+                    value.0 = other;
+                }
+            })
+        })
+    }
+
+    fn lesser_slot(&self) -> impl Iterator<Item = Case> + '_ {
+        let slots = plainer(&self.slot).filter(|slot| *slot != *self.slot);
+        slots.map(|slot| self.with(|case| case.slot.0 = slot))
+    }
+
+    fn all(&self) -> Vec<u64> {
+        let mut case = self.clone();
+        let numbers = case.numbers();
+        numbers.iter().map(Number::get).collect()
+    }
+
+    /// Every number of the case.
+    fn numbers(&mut self) -> Vec<Number<'_>> {
+        let mut all = vec![
+            Number::Size(&mut self.part),
+            Number::Size(&mut self.i),
+            Number::Size(&mut self.words),
+            Number::Size(&mut self.store),
+            Number::Byte(&mut self.me.number),
+            Number::Short(&mut self.me.view),
+            Number::Word(&mut self.me.epoch),
+        ];
+        all.extend(self.record.iter_mut().map(Number::Word));
+        match &mut self.event {
+            Event::View { epoch, set } => all.extend([Number::Word(epoch), Number::Short(set)]),
+            Event::Deliver { message, .. } => all.extend([
+                Number::Byte(&mut message.kind),
+                Number::Byte(&mut message.sender),
+                Number::Byte(&mut message.tie),
+                Number::Word(&mut message.epoch),
+                Number::Word(&mut message.version),
+            ]),
+            _ => {}
+        }
+        all
+    }
+}

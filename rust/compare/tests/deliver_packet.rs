@@ -1,0 +1,45 @@
+//! Deliveries out of packets, on memory of any kind, and in whole groups.
+
+use compare::group::{self, by_packet};
+use compare::memory::Memory;
+use compare::packet::deliver::{by_model, compare, Case};
+use compare::settings::Settings;
+use compare::single::{on_table, Outcome};
+
+#[test]
+fn random_deliveries() {
+    let settings = Settings::from_env();
+    match compare(&settings, by_model) {
+        Ok(tally) => {
+            for answer in Case::answers() {
+                let times = tally.answers[answer];
+                println!("{times:8} answers {answer}");
+                assert!(times >= 100, "{answer}: only {times} times");
+            }
+        }
+        Err(found) => panic!("CETSKOBI_SEED={}\n{found}", settings.seed),
+    }
+}
+
+#[test]
+fn groups_by_packet() {
+    let settings = Settings::from_env();
+    if let Err(found) = group::compare(&settings, by_packet, on_table) {
+        panic!("CETSKOBI_SEED={}\n{found}", settings.seed);
+    }
+}
+
+#[test]
+fn a_wrong_order_is_found() {
+    // The delivery's questions before the packet's.
+    fn wrong(case: &Case, memory: &mut Memory) -> Outcome {
+        let mut outcome = by_model(case, memory);
+        if outcome.number == 23 && case.lent.me.number > 15 {
+            outcome.number = 1;
+        }
+        outcome
+    }
+    let found = compare(&Settings::USUAL, wrong).expect_err("a difference");
+    println!("{found}");
+    assert_eq!(found.shrunk.lent.me.number, 16);
+}

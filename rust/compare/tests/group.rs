@@ -1,0 +1,174 @@
+//! Random runs of whole groups, of 64 to 4,096 records.
+
+use compare::bytes::Bytes;
+use compare::group::{by_hand, compare, Entry, Group, Run, Tally, What};
+use compare::settings::Settings;
+use compare::single::{on_table, Case, Event, Outcome};
+use model::engine::Record;
+
+/// What must have come about, each at least so many times.
+const OFTEN: u64 = 40;
+const NAMES: [&str; 41] = [
+    "Ack answers 10",
+    "Ack answers 11",
+    "Ack answers 13",
+    "Ack answers 3",
+    "Ack at InvalidWrite",
+    "Ack at Replay",
+    "Ack at Write",
+    "Inv answers 10",
+    "Inv answers 11",
+    "Inv answers 3",
+    "Inv at Invalid",
+    "Inv at InvalidWrite",
+    "Inv at Replay",
+    "Inv at Valid",
+    "Inv at Write",
+    "Read answers 4",
+    "Read answers 6",
+    "Read at Valid",
+    "Replay answers 16",
+    "Replay at Invalid",
+    "Resend answers 17",
+    "Resend at Replay",
+    "Resend at Valid",
+    "Resend at Write",
+    "Val answers 10",
+    "Val answers 11",
+    "Val answers 14",
+    "Val at Invalid",
+    "Val at InvalidWrite",
+    "Val at Replay",
+    "Validate answers 15",
+    "Validate at Replay",
+    "Validate at Write",
+    "View answers 0",
+    "View answers 18",
+    "View answers 19",
+    "Write answers 7",
+    "Write answers 8",
+    "Write at Invalid",
+    "Write at Valid",
+    "valid pairs",
+];
+
+fn often(tally: &Tally) {
+    for (name, times) in tally {
+        println!("{times:8} {name}");
+    }
+    for name in NAMES {
+        let times = tally.get(name).copied().unwrap_or(0);
+        assert!(times >= OFTEN, "{name}: only {times} times");
+    }
+}
+
+#[test]
+fn random_groups() {
+    let settings = Settings::from_env();
+    match compare(&settings, by_hand, on_table) {
+        Ok(tally) => often(&tally),
+        Err(found) => panic!("CETSKOBI_SEED={}\n{found}", settings.seed),
+    }
+}
+
+/// A wrong model is found, by a short list of entries on one record.
+#[test]
+fn a_wrong_model_is_found() {
+    // A replay leaves the acknowledgements of the write before it.
+    fn wrong(case: &Case, table: &mut [Record], store: &mut [u8]) -> Outcome {
+        let acks = table.get(case.i).map_or(0, |record| record.acks);
+        let outcome = on_table(case, table, store);
+        if case.event == Event::Replay && outcome.number == 0 {
+            table[case.i].acks = acks;
+        }
+        outcome
+    }
+    let found = compare(&Settings::USUAL, by_hand, wrong).expect_err("a difference");
+    println!("{found}");
+    assert!(found.shrunk.entries.len() <= 16);
+    assert_eq!(found.shrunk.records, 1);
+}
+
+/// Plays entries: the laptop's place, what it does, and the entry's id.
+fn play(group: &mut Group, entries: &[(usize, What, usize)]) -> Result<(), String> {
+    for (at, what, id) in entries {
+        let entry = Entry {
+            id: *id,
+            at: *at,
+            what: what.clone(),
+        };
+        group.play(&entry, &mut Tally::new())?;
+    }
+    group.check_all()
+}
+
+/// The fault of the first station. 0 has written; 1 has acknowledged; the view
+/// {0,1} of epoch 1 has come to 0 alone, which validates; its VAL reaches 1.
+fn station() -> Group {
+    let run = Run {
+        numbers: vec![0, 1, 2],
+        view: 7,
+        records: 1,
+        entries: vec![],
+    };
+    let mut group = Group::start(&run, by_hand, on_table);
+    let own = |event| What::Own { i: 0, event };
+    let value = Bytes(b"old ring".to_vec());
+    let entries = [
+        (0, own(Event::Write { value }), 0),
+        (1, What::Deliver { of: 0 }, 1),
+        (0, What::Deliver { of: 1 }, 2),
+        (0, own(Event::View { epoch: 1, set: 3 }), 3),
+        (0, own(Event::Validate), 4),
+    ];
+    assert_eq!(play(&mut group, &entries), Ok(()));
+    assert_eq!(group.posts[&4].message.kind, 3);
+    group
+}
+
+#[test]
+fn the_first_station() {
+    let mut group = station();
+    let entries = [(1, What::Deliver { of: 4 }, 5)];
+    assert_eq!(play(&mut group, &entries), Ok(()));
+    assert_eq!(group.members[1].memory.record(0).map(|r| r[0]), Some(1));
+}
+
+/// The same with an altered epoch, against the premises: the check of agreement
+/// sees that 1 and 2 show different texts.
+#[test]
+fn the_check_of_agreement_can_fail() {
+    let mut group = station();
+    if let Some(post) = group.posts.get_mut(&4) {
+        post.message.epoch = 0;
+    }
+    let entries = [(1, What::Deliver { of: 4 }, 5)];
+    let broken = play(&mut group, &entries).expect_err("1 and 2 differ");
+    assert!(broken.contains("shows"), "{broken}");
+}
+
+/// A forged acknowledgement lets 0 validate while 2 shows the old text: the
+/// floor of validated stamps sees it.
+#[test]
+fn the_check_of_validations_can_fail() {
+    let run = Run {
+        numbers: vec![0, 2],
+        view: 5,
+        records: 1,
+        entries: vec![],
+    };
+    let mut group = Group::start(&run, by_hand, on_table);
+    let own = |event| What::Own { i: 0, event };
+    let value = Bytes(b"new".to_vec());
+    assert_eq!(
+        play(&mut group, &[(0, own(Event::Write { value }), 0)]),
+        Ok(())
+    );
+    if let Some(post) = group.posts.get_mut(&0) {
+        (post.message.kind, post.message.sender) = (2, 2);
+        post.value.clear();
+    }
+    assert_eq!(play(&mut group, &[(0, What::Deliver { of: 0 }, 1)]), Ok(()));
+    let broken = play(&mut group, &[(0, own(Event::Validate), 2)]).expect_err("2 shows the old");
+    assert!(broken.contains("shows"), "{broken}");
+}

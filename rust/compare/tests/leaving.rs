@@ -1,0 +1,37 @@
+//! Who gets a message, and the bytes that it takes along.
+
+use compare::leaving::{by_model, compare};
+use compare::memory::Memory;
+use compare::settings::Settings;
+
+#[test]
+fn after_random_events() {
+    let settings = Settings::from_env();
+    match compare(&settings, by_model) {
+        Ok(tally) => {
+            println!("{tally:?}");
+            assert!(tally.kinds.iter().all(|&times| times >= 1000));
+            assert!(tally.sent[1..].iter().all(|&times| times >= 1000));
+            assert!(tally.bodies >= 1000);
+        }
+        Err(found) => panic!("CETSKOBI_SEED={}\n{found}", settings.seed),
+    }
+}
+
+#[test]
+fn a_wrong_recipient_is_found() {
+    fn wrong(
+        me: cetskobi::sys::Replica,
+        memory: &Memory,
+        i: usize,
+        kind: u8,
+        sender: u8,
+    ) -> (u16, usize) {
+        let (to, len) = by_model(me, memory, i, kind, sender);
+        let own = 1u16.checked_shl(me.number.into()).unwrap_or(0);
+        (if kind == 3 { to | own } else { to }, len)
+    }
+    let found = compare(&Settings::USUAL, wrong).expect_err("a difference");
+    println!("{found}");
+    assert_eq!((found.shrunk.kind, found.shrunk.event.me.number), (3, 0));
+}

@@ -1,0 +1,283 @@
+//! The rows of document 01, "From the ringing table", one by one, in the engine
+//! and in the model. The rows of packets are in `packet_rows`.
+
+use cetskobi::sys::{Message, Replica};
+use compare::bytes::Bytes;
+use compare::memory::Memory;
+use compare::single::{by_engine, by_model, Case, Event, Outcome};
+use compare::words::Words;
+
+const VALID: u32 = 0;
+const INVALID: u32 = 1;
+const INVALID_WRITE: u32 = 2;
+const WRITE: u32 = 3;
+const REPLAY: u32 = 4;
+
+const INV: u8 = 1;
+const ACK: u8 = 2;
+const VAL: u8 = 3;
+
+/// What a laptop answers: the number, and the message that leaves.
+type Answer = (u8, Option<(u8, u32, u8)>);
+
+const DONE: Answer = (0, None);
+
+fn sent(kind: u8, version: u32, tie: u8) -> Answer {
+    (0, Some((kind, version, tie)))
+}
+
+fn refused(number: u8) -> Answer {
+    (number, None)
+}
+
+fn set(numbers: &[u8]) -> u16 {
+    numbers.iter().fold(0, |set, number| set | 1 << number)
+}
+
+/// A laptop that is played by both.
+struct Laptop {
+    me: Replica,
+    engine: Memory,
+    model: Memory,
+}
+
+impl Laptop {
+    /// Laptop 2, view {1,2,5}, in memory that was not clean before.
+    fn lent(count: usize) -> Laptop {
+        let mut engine = Memory::default();
+        engine.lay(&vec![0xdead; 8 * count], &vec![0xee; 192 * count]);
+        Laptop {
+            me: Replica {
+                number: 2,
+                view: set(&[1, 2, 5]),
+                epoch: 0,
+            },
+            model: engine.clone(),
+            engine,
+        }
+    }
+
+    fn fresh() -> Laptop {
+        let mut laptop = Laptop::lent(1);
+        assert_eq!(laptop.play(0, Event::Start), DONE);
+        laptop
+    }
+
+    fn written() -> Laptop {
+        let mut laptop = Laptop::fresh();
+        assert_eq!(laptop.write(0, b"A1"), sent(INV, 1, 2));
+        laptop
+    }
+
+    /// The same by both, or it fails.
+    fn outcome(&mut self, i: usize, event: Event) -> Outcome {
+        let case = Case::on(self.me, i, event);
+        let outcome = by_engine(&case, &mut self.engine);
+        assert_eq!(outcome, by_model(&case, &mut self.model), "{case:?}");
+        assert_eq!(self.engine.difference(&self.model), None, "{case:?}");
+        self.me = outcome.me;
+        outcome
+    }
+
+    fn play(&mut self, i: usize, event: Event) -> Answer {
+        let outcome = self.outcome(i, event);
+        let (kind, tie, version) = outcome.sent;
+        let message = (kind != 0).then_some((kind, version, tie));
+        (outcome.number, message)
+    }
+
+    fn write(&mut self, i: usize, value: &[u8]) -> Answer {
+        let value = Bytes(value.to_vec());
+        self.play(i, Event::Write { value })
+    }
+
+    fn deliver(&mut self, sender: u8, (kind, version, tie): (u8, u32, u8), value: &[u8]) -> Answer {
+        let epoch = self.me.epoch;
+        self.deliver_of(epoch, sender, (kind, version, tie), value)
+    }
+
+    fn deliver_of(
+        &mut self,
+        epoch: u32,
+        sender: u8,
+        (kind, version, tie): (u8, u32, u8),
+        value: &[u8],
+    ) -> Answer {
+        let message = Message {
+            kind,
+            sender,
+            tie,
+            epoch,
+            version,
+        };
+        let value = Bytes(value.to_vec());
+        self.play(0, Event::Deliver { message, value })
+    }
+
+    fn view(&mut self, epoch: u32, numbers: &[u8]) -> Answer {
+        let set = set(numbers);
+        self.play(0, Event::View { epoch, set })
+    }
+
+    fn read(&mut self, i: usize) -> Option<Vec<u8>> {
+        let outcome = self.outcome(i, Event::Read);
+        let (at, len) = outcome.part;
+        (outcome.number == 0).then(|| self.engine.store()[at..at + len].to_vec())
+    }
+
+    fn record(&self) -> Words {
+        *self.engine.record(0).expect("there is one")
+    }
+}
+
+const WRITTEN: Words = [WRITE, 1, 2, 2, 1, 2, 0, 2];
+
+#[test]
+fn fresh() {
+    let mut laptop = Laptop::fresh();
+    assert_eq!(laptop.record(), [VALID, 0, 1, 1, 0, 1, 0, 0]);
+    assert_eq!(laptop.engine.store(), [0; 192]);
+    assert_eq!(laptop.me.epoch, 0);
+    assert_eq!(laptop.read(0), Some(vec![]));
+}
+
+#[test]
+fn write() {
+    let laptop = Laptop::written();
+    assert_eq!(laptop.record(), WRITTEN);
+    assert_eq!(laptop.engine.store()[..3], *b"A1\0");
+}
+
+#[test]
+fn write_then_a_greater_invalidation() {
+    let mut laptop = Laptop::written();
+    assert_eq!(laptop.deliver(5, (INV, 1, 5), b"B"), sent(ACK, 1, 5));
+    assert_eq!(laptop.record(), [INVALID_WRITE, 1, 5, 5, 1, 2, 0, 1]);
+    assert_eq!(laptop.engine.store()[..2], *b"B\0");
+}
+
+#[test]
+fn write_then_a_lesser_invalidation() {
+    let mut laptop = Laptop::written();
+    assert_eq!(laptop.deliver(1, (INV, 1, 1), b"C"), sent(ACK, 1, 1));
+    assert_eq!(laptop.record(), WRITTEN);
+    assert_eq!(laptop.engine.store()[..2], *b"A1");
+}
+
+#[test]
+fn replay_then_a_greater_invalidation() {
+    let mut laptop = Laptop::fresh();
+    assert_eq!(laptop.deliver(5, (INV, 1, 5), b"B"), sent(ACK, 1, 5));
+    assert_eq!(laptop.record(), [INVALID, 1, 5, 5, 0, 1, 0, 1]);
+    assert_eq!(laptop.play(0, Event::Replay), refused(16));
+    assert_eq!(laptop.view(1, &[1, 2]), DONE);
+    assert_eq!(laptop.play(0, Event::Replay), sent(INV, 1, 5));
+    assert_eq!(laptop.record(), [REPLAY, 1, 5, 2, 1, 5, 0, 1]);
+    assert_eq!(laptop.play(0, Event::Resend), sent(INV, 1, 5));
+    assert_eq!(laptop.deliver(1, (INV, 2, 1), b""), sent(ACK, 2, 1));
+    assert_eq!(laptop.record(), [INVALID, 2, 1, 1, 1, 5, 0, 0]);
+    assert_eq!(laptop.engine.store(), [0; 192]);
+}
+
+#[test]
+fn an_acknowledgement_counts_once() {
+    let mut laptop = Laptop::written();
+    let counted = [WRITE, 1, 2, 2, 1, 2, 1 << 5, 2];
+    assert_eq!(laptop.deliver(5, (ACK, 1, 2), b""), DONE);
+    assert_eq!(laptop.record(), counted);
+    assert_eq!(laptop.deliver(5, (ACK, 1, 2), b""), refused(13));
+    assert_eq!(laptop.record(), counted);
+}
+
+#[test]
+fn validations_of_an_invalid_write() {
+    let mut laptop = Laptop::written();
+    assert_eq!(laptop.deliver(5, (INV, 1, 5), b"B"), sent(ACK, 1, 5));
+    assert_eq!(laptop.deliver(5, (VAL, 1, 2), b""), refused(14));
+    assert_eq!(laptop.read(0), None);
+    assert_eq!(laptop.deliver(5, (VAL, 1, 5), b""), DONE);
+    assert_eq!(laptop.record(), [VALID, 1, 5, 5, 1, 2, 0, 1]);
+    assert_eq!(laptop.read(0), Some(b"B".to_vec()));
+}
+
+#[test]
+fn validate_after_a_view() {
+    let mut laptop = Laptop::written();
+    assert_eq!(laptop.deliver(1, (ACK, 1, 2), b""), DONE);
+    assert_eq!(laptop.play(0, Event::Validate), refused(15));
+    assert_eq!(laptop.view(1, &[1, 2]), DONE);
+    assert_eq!(laptop.play(0, Event::Validate), sent(VAL, 1, 2));
+    assert_eq!(laptop.record(), [VALID, 1, 2, 2, 1, 2, 1 << 1, 2]);
+    assert_eq!(laptop.play(0, Event::Resend), sent(VAL, 1, 2));
+}
+
+#[test]
+fn the_last_versions() {
+    let mut laptop = Laptop::fresh();
+    for memory in [&mut laptop.engine, &mut laptop.model] {
+        memory.put_record(0, &[VALID, 4_294_967_294, 1, 1, 0, 1, 0, 0]);
+    }
+    assert_eq!(laptop.write(0, b""), sent(INV, 4_294_967_295, 2));
+    let last = [VALID, 4_294_967_295, 2, 2, 4_294_967_295, 2, 0, 0];
+    for memory in [&mut laptop.engine, &mut laptop.model] {
+        memory.put_record(0, &last);
+    }
+    assert_eq!(laptop.write(0, b""), refused(9));
+    assert_eq!(laptop.record(), last);
+}
+
+#[test]
+fn views() {
+    let mut laptop = Laptop::fresh();
+    assert_eq!(laptop.view(0, &[1, 2]), refused(18));
+    assert_eq!(laptop.view(1, &[1]), refused(19));
+    assert_eq!((laptop.me.epoch, laptop.me.view), (0, set(&[1, 2, 5])));
+    assert_eq!(laptop.view(1, &[1, 5]), DONE);
+    assert_eq!((laptop.me.epoch, laptop.me.view), (1, set(&[1, 5])));
+    assert_eq!(laptop.outcome(0, Event::Read).number, 3);
+    assert_eq!(laptop.view(2, &[1, 5]), refused(3));
+}
+
+#[test]
+fn a_validation_of_a_later_epoch() {
+    let mut laptop = Laptop::fresh();
+    assert_eq!(laptop.deliver(5, (INV, 1, 5), b"B"), sent(ACK, 1, 5));
+    assert_eq!(laptop.deliver_of(1, 5, (VAL, 1, 5), b""), refused(10));
+    assert_eq!(laptop.record()[0], INVALID);
+}
+
+#[test]
+fn values_of_192_and_193() {
+    let text = [7; 193];
+    let mut laptop = Laptop::fresh();
+    assert_eq!(laptop.write(0, &text), refused(8));
+    assert_eq!(laptop.deliver(5, (INV, 1, 5), &text), refused(12));
+    assert_eq!(
+        laptop.deliver(5, (INV, 1, 5), &text[..192]),
+        sent(ACK, 1, 5)
+    );
+    assert_eq!(laptop.write(0, &text[..192]), sent(INV, 2, 2));
+    assert_eq!(laptop.record()[7], 192);
+    assert_eq!(laptop.engine.store(), [7; 192]);
+}
+
+#[test]
+fn records_4095_and_4096() {
+    let mut laptop = Laptop::lent(4096);
+    assert_eq!(laptop.play(0, Event::Start), DONE);
+    assert_eq!(laptop.write(4095, b"last"), sent(INV, 1, 2));
+    assert_eq!(laptop.write(4096, b"none"), refused(4));
+    assert_eq!(laptop.play(4095, Event::Resend), sent(INV, 1, 2));
+    assert_eq!(laptop.outcome(4095, Event::Read).number, 6);
+    assert_eq!(laptop.outcome(4096, Event::Read).number, 4);
+
+    for count in [0, 4097] {
+        let mut laptop = Laptop::lent(count);
+        assert_eq!(laptop.play(0, Event::Start), refused(2));
+        assert_eq!(laptop.write(0, b""), refused(2));
+    }
+    let mut laptop = Laptop::lent(4096);
+    laptop.me.number = 5;
+    assert_eq!(laptop.play(0, Event::Start), DONE);
+    assert_eq!(laptop.engine.record(4095), Some(&[0, 0, 1, 1, 0, 1, 0, 0]));
+}

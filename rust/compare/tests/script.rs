@@ -1,0 +1,121 @@
+//! Scripts of the playing program, with wrong lines and at the limits.
+
+use cetskobi::sys::Written;
+use compare::script::{by_engine, by_model, compare, BEYOND};
+use compare::settings::Settings;
+
+/// What scripts can print. The other answers need what no script can make.
+const WORDS: [&str; 21] = [
+    "?",
+    "answer 0",
+    "answer 3",
+    "answer 6",
+    "answer 7",
+    "answer 8",
+    "answer 10",
+    "answer 11",
+    "answer 13",
+    "answer 14",
+    "answer 15",
+    "answer 16",
+    "answer 17",
+    "answer 18",
+    "answer 19",
+    "log 255",
+    "state I",
+    "state R",
+    "state V",
+    "state W",
+    "state X",
+];
+
+#[test]
+fn random_scripts() {
+    let settings = Settings::from_env();
+    match compare(&settings, by_model) {
+        Ok(tally) => {
+            println!("{} scripts, {} lines", tally.scripts, tally.lines);
+            for (word, times) in &tally.words {
+                println!("{times:8} {word}");
+            }
+            for word in WORDS {
+                let times = tally.words.get(word).copied().unwrap_or(0);
+                assert!(times >= 100, "{word}: only {times} times");
+            }
+        }
+        Err(found) => panic!("CETSKOBI_SEED={}\n{found}", settings.seed),
+    }
+}
+
+fn played(script: &[u8]) -> String {
+    let mut out = vec![0; 25 * script.len() + 2];
+    let mut other = out.clone();
+    let written = by_engine(script, &mut out);
+    assert_eq!(written, by_model(script, &mut other));
+    assert_eq!((written.number, &out), (0, &other));
+    String::from_utf8(out[..written.len].to_vec()).expect("text")
+}
+
+#[test]
+fn the_papers_script() {
+    let script = "group 3\nwrite 0 A1\ndeliver 1 0\ndeliver 2 0\ndeliver 0 1\ndeliver 0 2\n\
+                  validate 0\ndeliver 1 3\nread 1\nread 2";
+    let printed = "0 W 1 0 0\n0 I 1 0 1\n0 I 1 0 2\n0 W 1 0 -\n0 W 1 0 -\n0 V 1 0 3\n0 V 1 0 -\n\
+                   0 V 1 0 -\n6 I 1 0 -\n";
+    assert_eq!(played(script.as_bytes()), printed);
+    assert_eq!(played(format!("{script}\n").as_bytes()), printed);
+}
+
+#[test]
+fn limits() {
+    // 65,536 bytes of line feeds and of reads; one byte more is beyond.
+    let mut feeds = b"group 2\n".to_vec();
+    feeds.resize(65_536, b'\n');
+    assert_eq!(played(&feeds).len(), 2 * (65_536 - 8));
+    let reads = [&b"group 2\n"[..], &b"read 0\n".repeat(9361)].concat();
+    assert_eq!(reads.len(), 65_535);
+    assert_eq!(played(&reads), "0 V 0 0 -\n".repeat(9361));
+
+    feeds.push(b'\n');
+    let mut out = vec![3; 2_000_000];
+    let written = by_engine(&feeds, &mut out);
+    assert_eq!((written.number, written.len), (BEYOND, 0));
+    assert!(out.iter().all(|&byte| byte == 3));
+
+    // The log holds 256; a message more has no room.
+    let resends = ["group 2\nwrite 0 x\n", &"resend 0\n".repeat(257)].concat();
+    let printed = played(resends.as_bytes());
+    let lines: Vec<&str> = printed.lines().collect();
+    assert_eq!(lines[255..], ["0 W 1 0 255", "?", "?"]);
+}
+
+/// Wrong players are found, by short scripts.
+#[test]
+fn wrong_players() {
+    fn change(script: &[u8], out: &mut [u8], from: &str, to: &str) -> Written {
+        let written = by_model(script, out);
+        let printed = String::from_utf8_lossy(&out[..written.len]).replace(from, to);
+        let len = printed.len();
+        out[..len].copy_from_slice(printed.as_bytes());
+        Written { len, ..written }
+    }
+    // Log numbers of 10 and more.
+    fn logs(script: &[u8], out: &mut [u8]) -> Written {
+        change(script, out, " 10\n", " 11\n")
+    }
+    fn states(script: &[u8], out: &mut [u8]) -> Written {
+        change(script, out, " X ", " I ")
+    }
+    fn text(script: &[u8], out: &mut [u8]) -> Written {
+        change(script, out, "8 V", "7 V")
+    }
+    for (wrong, lines) in [
+        (logs as fn(&[u8], &mut [u8]) -> Written, 12),
+        (states, 8),
+        (text, 2),
+    ] {
+        let found = compare(&Settings::USUAL, wrong).expect_err("a difference");
+        println!("{found}");
+        assert!(found.shrunk.lines.len() <= lines);
+    }
+}

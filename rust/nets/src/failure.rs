@@ -1,0 +1,73 @@
+//! What is printed of a check that failed.
+
+use std::fmt;
+
+use crate::agreement::Disagreement;
+
+/// Which check failed.
+#[derive(Clone, Copy, Debug, PartialEq, Eq)]
+pub enum Cause {
+    /// Agreement, after an event.
+    Disagreement(Disagreement),
+    /// A record that did not settle though the link has healed, and that does
+    /// not hang in invalid-write by a dead writer.
+    Unsettled {
+        /// The record.
+        record: usize,
+    },
+    /// A settled record is not the same on all laptops, or not as it was saved.
+    OtherText {
+        /// The record.
+        record: usize,
+    },
+}
+
+impl Cause {
+    /// The record it is about.
+    pub fn record(&self) -> usize {
+        match self {
+            Cause::Disagreement(d) => d.record(),
+            Cause::Unsettled { record } | Cause::OtherText { record } => *record,
+        }
+    }
+}
+
+impl fmt::Display for Cause {
+    fn fmt(&self, f: &mut fmt::Formatter<'_>) -> fmt::Result {
+        match self {
+            Cause::Disagreement(d) => write!(f, "no agreement: {d}"),
+            Cause::Unsettled { record } => {
+                write!(f, "record {record} has not settled since the link healed")
+            }
+            Cause::OtherText { record } => write!(
+                f,
+                "record {record} has settled with another text than was saved"
+            ),
+        }
+    }
+}
+
+/// A check that failed.
+#[derive(Clone, Debug)]
+pub struct Failure {
+    /// The morning's seed.
+    pub seed: u64,
+    /// When it failed.
+    pub tick: u32,
+    /// What failed.
+    pub cause: Cause,
+    /// The last events on the record, in order; the last one failed.
+    pub events: Vec<String>,
+}
+
+impl fmt::Display for Failure {
+    fn fmt(&self, f: &mut fmt::Formatter<'_>) -> fmt::Result {
+        writeln!(
+            f,
+            "FAILED with seed {} at tick {}: {}",
+            self.seed, self.tick, self.cause
+        )?;
+        writeln!(f, "the last events on record {}:", self.cause.record())?;
+        self.events.iter().try_for_each(|e| writeln!(f, "  {e}"))
+    }
+}

@@ -1,0 +1,196 @@
+//! The laptops of the group. Every event goes through here: it is counted,
+//! remembered, and agreement is checked after it.
+
+use cetskobi::{Envelope, Laptop, Members, Record, Refusal, State, Timestamp};
+use std::collections::BTreeMap;
+
+use crate::agreement::{Agreement, Disagreement};
+use crate::history::{kind_of, Answer, Event, History, Kind};
+use crate::settings::Settings;
+use crate::Tick;
+
+/// What was asked of the laptops, and what they answered.
+#[derive(Clone, Debug, Default, PartialEq, Eq)]
+pub(crate) struct EventCounts {
+    pub events: [u64; Kind::ALL.len()],
+    pub accepted: [u64; Kind::ALL.len()],
+    /// By the number of the question.
+    pub refused: BTreeMap<u8, u64>,
+    /// Saves overtaken by another laptop's: from write to invalid-write.
+    pub overtaken: u64,
+    /// INV, ACK, VAL.
+    pub messages: [u64; 3],
+}
+
+/// The group under watch.
+pub(crate) struct Group {
+    laptops: Vec<Laptop>,
+    pub agreement: Agreement,
+    pub history: History,
+    pub counts: EventCounts,
+    /// Each accepted save: its text, by record and timestamp.
+    pub saves: BTreeMap<(usize, Timestamp), Vec<u8>>,
+    pub now: Tick,
+}
+
+/// An event's answer, unless agreement failed after it.
+pub(crate) type Watched = Result<Answer, Disagreement>;
+
+impl Group {
+    pub fn start(settings: &Settings) -> Result<Group, Refusal> {
+        let view: Members = (0..settings.laptops).collect();
+        let laptops: Result<Vec<Laptop>, Refusal> = view
+            .into_iter()
+            .map(|n| Laptop::start(n, view.bits(), settings.records))
+            .collect();
+        Ok(Group {
+            laptops: laptops?,
+            agreement: Agreement::new(settings.records),
+            history: History::new(settings.records),
+            counts: EventCounts::default(),
+            saves: BTreeMap::new(),
+            now: 0,
+        })
+    }
+
+    pub fn laptop(&self, number: u8) -> &Laptop {
+        &self.laptops[usize::from(number)]
+    }
+
+    pub fn record(&self, number: u8, i: usize) -> Option<Record> {
+        self.laptop(number).record(i)
+    }
+
+    pub fn read(&mut self, number: u8, i: usize) -> Watched {
+        let answer = self.laptop(number).read(i).map(|_| None);
+        self.watched(number, i, Kind::Read, None, answer)
+    }
+
+    pub fn write(&mut self, number: u8, i: usize, text: &[u8]) -> Watched {
+        let answer = self.laptop_mut(number).write(i, text);
+        if let Ok(Some(inv)) = answer {
+            self.saves
+                .insert((i, inv.message.timestamp()), text.to_vec());
+        }
+        self.watched(number, i, Kind::Write, None, answer)
+    }
+
+    pub fn validate(&mut self, number: u8, i: usize) -> Watched {
+        let answer = self.laptop_mut(number).validate(i);
+        if answer.is_ok() {
+            self.agreement
+                .finished(&self.laptops[usize::from(number)], i);
+        }
+        self.watched(number, i, Kind::Validate, None, answer)
+    }
+
+    pub fn replay(&mut self, number: u8, i: usize) -> Watched {
+        let answer = self.laptop_mut(number).replay(i);
+        self.watched(number, i, Kind::Replay, None, answer)
+    }
+
+    pub fn resend(&mut self, number: u8, i: usize) -> Watched {
+        let answer = self.laptop_mut(number).resend(i);
+        self.watched(number, i, Kind::Resend, None, answer)
+    }
+
+    /// Message `k` of a packet, which is `came`.
+    pub fn deliver_packet(
+        &mut self,
+        number: u8,
+        packet: &[u8],
+        k: usize,
+        came: Envelope,
+    ) -> Watched {
+        let before = self.record(number, came.record);
+        let answer = self.laptop_mut(number).deliver_packet(packet, k);
+        let after = self.record(number, came.record);
+        let state = |r: Option<Record>| r.map(|r| r.state);
+        if (state(before), state(after)) == (Some(State::Write), Some(State::InvalidWrite)) {
+            self.counts.overtaken += 1;
+        }
+        self.watched(number, came.record, Kind::Deliver, Some(came), answer)
+    }
+
+    /// A message that came, handed over as another.
+    pub fn deliver_as(
+        &mut self,
+        number: u8,
+        came: Envelope,
+        handed: Envelope,
+        body: &[u8],
+    ) -> Watched {
+        let answer = self.laptop_mut(number).deliver(&handed, body);
+        self.watched(number, came.record, Kind::Deliver, Some(came), answer)
+    }
+
+    /// A view changes who stands in whose: all records are checked after it.
+    pub fn change_view(&mut self, number: u8, epoch: u32, view: Members) -> Watched {
+        let answer = self
+            .laptop_mut(number)
+            .change_view(epoch, view.bits())
+            .map(|()| None);
+        self.count(Kind::View, answer);
+        let event = self.event(number, Kind::View, None, answer, None);
+        self.history.on_view(event);
+        for i in 0..self.laptop(number).count() {
+            self.agreement.check(&self.laptops, i)?;
+        }
+        Ok(answer)
+    }
+
+    fn watched(
+        &mut self,
+        number: u8,
+        i: usize,
+        kind: Kind,
+        came: Option<Envelope>,
+        answer: Answer,
+    ) -> Watched {
+        self.count(kind, answer);
+        let event = self.event(number, kind, came, answer, self.record(number, i));
+        self.history.on_record(i, event);
+        self.agreement.check(&self.laptops, i)?;
+        Ok(answer)
+    }
+
+    fn event(
+        &self,
+        laptop: u8,
+        kind: Kind,
+        came: Option<Envelope>,
+        answer: Answer,
+        after: Option<Record>,
+    ) -> Event {
+        let (epoch, view) = (self.laptop(laptop).epoch(), self.laptop(laptop).members());
+        Event {
+            tick: self.now,
+            laptop,
+            kind,
+            came,
+            answer,
+            epoch,
+            view,
+            after,
+        }
+    }
+
+    fn count(&mut self, kind: Kind, answer: Answer) {
+        self.counts.events[kind as usize] += 1;
+        let left = match answer {
+            Ok(left) => left,
+            Err(refusal) => {
+                *self.counts.refused.entry(refusal.number()).or_default() += 1;
+                return;
+            }
+        };
+        self.counts.accepted[kind as usize] += 1;
+        if let Some(envelope) = left {
+            self.counts.messages[kind_of(envelope.message)] += 1;
+        }
+    }
+
+    fn laptop_mut(&mut self, number: u8) -> &mut Laptop {
+        &mut self.laptops[usize::from(number)]
+    }
+}

@@ -1,0 +1,37 @@
+//! A morning at the nets: a group of laptops on the proved engine, each with
+//! hut software as docs/GUIDE.md has it, over a radio link that loses, repeats
+//! and holds back packets. After every event the group's agreement is checked
+//! as document 01 words it.
+//!
+//! [`run`] plays one morning. Equal [`Settings`] give equal [`Report`]s.
+
+#![forbid(unsafe_code)]
+#![warn(missing_docs)]
+
+mod agreement;
+mod failure;
+mod fault;
+mod group;
+mod history;
+mod hut;
+mod link;
+mod morning;
+mod options;
+mod outbox;
+mod plan;
+mod report;
+mod ringer;
+mod settings;
+mod settled;
+mod text;
+
+pub use agreement::Disagreement;
+pub use failure::{Cause, Failure};
+pub use fault::Fault;
+pub use morning::run;
+pub use options::{Command, HELP};
+pub use report::Report;
+pub use settings::Settings;
+
+/// The simulation's clock. A tick is what the reader likes: ten seconds, say.
+pub(crate) type Tick = u32;

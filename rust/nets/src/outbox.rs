@@ -1,0 +1,108 @@
+//! Messages that wait for the end of the tick, to share packets.
+
+use std::collections::BTreeMap;
+
+use cetskobi::{packet, Envelope, Members};
+
+/// A message with the bytes that it takes along.
+type Parcel = (Envelope, Vec<u8>);
+
+/// What one hut will send, by who shall hear it.
+#[derive(Default)]
+pub(crate) struct Outbox {
+    waiting: BTreeMap<u16, Vec<Parcel>>,
+}
+
+impl Outbox {
+    pub fn put(&mut self, to: Members, envelope: Envelope, body: &[u8]) {
+        let parcels = self.waiting.entry(to.bits()).or_default();
+        // What is sent twice in one tick goes once.
+        if parcels.iter().all(|(e, _)| *e != envelope) {
+            parcels.push((envelope, body.to_vec()));
+        }
+    }
+
+    /// All of it as packets: as many messages in each as fit.
+    pub fn packets(&mut self) -> Vec<(Members, Vec<u8>)> {
+        let waiting = std::mem::take(&mut self.waiting);
+        let sets = waiting
+            .into_iter()
+            .map(|(to, parcels)| (Members::from(to), parcels));
+        sets.flat_map(|(to, parcels)| {
+            let packets: Vec<Vec<u8>> = loads(&parcels).into_iter().map(packed).collect();
+            packets.into_iter().map(move |p| (to, p))
+        })
+        .collect()
+    }
+}
+
+/// The messages parted, in their order, into loads of at most 64 messages and
+/// 1,400 bytes.
+fn loads(parcels: &[Parcel]) -> Vec<&[Parcel]> {
+    let mut loads = Vec::new();
+    let (mut from, mut bytes) = (0, packet::HEAD_LEN);
+    for (n, (_, body)) in parcels.iter().enumerate() {
+        let more = packet::ENTRY_LEN + body.len();
+        if n - from == packet::MESSAGES_MAX || bytes + more > packet::PACKET_MAX {
+            loads.push(&parcels[from..n]);
+            (from, bytes) = (n, packet::HEAD_LEN);
+        }
+        bytes += more;
+    }
+    loads.push(&parcels[from..]);
+    loads
+}
+
+fn packed(load: &[Parcel]) -> Vec<u8> {
+    let messages: Vec<(Envelope, &[u8])> = load.iter().map(|(e, b)| (*e, b.as_slice())).collect();
+    let mut bytes = vec![0; packet::PACKET_MAX];
+    let len = packet::pack(&messages, &mut bytes).expect("a load fits into a packet");
+    bytes.truncate(len);
+    bytes
+}
+
+#[cfg(test)]
+mod tests {
+    use super::*;
+    use cetskobi::{Message, Timestamp};
+
+    fn inv(record: usize) -> Envelope {
+        let message = Message::Inv(Timestamp { version: 1, tie: 0 });
+        Envelope {
+            sender: 0,
+            epoch: 0,
+            record,
+            message,
+        }
+    }
+
+    /// The records of the messages in each packet.
+    fn sent(count: usize, len: usize) -> Vec<Vec<usize>> {
+        let mut outbox = Outbox::default();
+        for i in 0..count {
+            outbox.put(Members::from(0b110), inv(i), &vec![b'x'; len]);
+            outbox.put(Members::from(0b110), inv(i), &vec![b'x'; len]);
+        }
+        let packets = outbox.packets();
+        assert!(outbox.packets().is_empty());
+        packets
+            .iter()
+            .map(|(to, bytes)| {
+                assert_eq!(to.bits(), 0b110);
+                let messages = packet::messages(bytes).expect("a packet");
+                messages.map(|m| m.envelope.record).collect()
+            })
+            .collect()
+    }
+
+    #[test]
+    fn as_many_messages_as_fit_share_a_packet() {
+        assert_eq!(sent(0, 0), Vec::<Vec<usize>>::new());
+        assert_eq!(sent(1, 192), [vec![0]]);
+        let sizes = |packets: Vec<Vec<usize>>| packets.iter().map(Vec::len).collect::<Vec<usize>>();
+        assert_eq!(sizes(sent(130, 0)), [64, 64, 2]);
+        assert_eq!(sizes(sent(13, 192)), [6, 6, 1]);
+        let all: Vec<usize> = sent(200, 31).concat();
+        assert_eq!(all, (0..200).collect::<Vec<usize>>());
+    }
+}

@@ -1,0 +1,95 @@
+//! The ringers: each bird's record is opened, and saved once it was read.
+
+use cetskobi::Members;
+use model::rng::Rng;
+
+use crate::agreement::Disagreement;
+use crate::group::Group;
+use crate::hut::{Done, Hut};
+use crate::plan::{Bird, MEASURING};
+use crate::text;
+use crate::Tick;
+
+/// A bird in the hand.
+#[derive(Clone, Copy, Debug)]
+struct Visit {
+    bird: Bird,
+    due: Tick,
+    opened: bool,
+}
+
+/// The birds that are still to come or in the hand.
+pub(crate) struct Ringers {
+    visits: Vec<Visit>,
+    rng: Rng,
+    pub saved: usize,
+    pub last_save: Tick,
+}
+
+/// Ticks until a refused ringer tries again.
+const PATIENCE: Tick = 5;
+
+impl Ringers {
+    pub fn new(birds: &[Bird], rng: Rng) -> Ringers {
+        let visit = |bird: &Bird| Visit {
+            bird: *bird,
+            due: bird.tick,
+            opened: false,
+        };
+        Ringers {
+            visits: birds.iter().map(visit).collect(),
+            rng,
+            saved: 0,
+            last_save: 0,
+        }
+    }
+
+    /// The records of the birds that are not saved yet.
+    pub fn waiting(&self) -> Vec<usize> {
+        self.visits.iter().map(|v| v.bird.record).collect()
+    }
+
+    /// All whose time has come. A ringer who cannot use a laptop goes to the next.
+    pub fn tick(&mut self, group: &mut Group, huts: &mut [Hut], usable: Members) -> Done {
+        let mut left = Vec::with_capacity(self.visits.len());
+        for mut visit in std::mem::take(&mut self.visits) {
+            while !usable.contains(visit.bird.laptop) {
+                visit.bird.laptop = (visit.bird.laptop + 1) % huts.len() as u8;
+                visit.opened = false;
+            }
+            let hut = &mut huts[usize::from(visit.bird.laptop)];
+            if visit.due > group.now || !self.go_on(group, hut, &mut visit)? {
+                left.push(visit);
+            }
+        }
+        self.visits = left;
+        Ok(())
+    }
+
+    /// One step of a visit; whether it was the last.
+    fn go_on(
+        &mut self,
+        group: &mut Group,
+        hut: &mut Hut,
+        visit: &mut Visit,
+    ) -> Result<bool, Disagreement> {
+        let Bird {
+            record, recapture, ..
+        } = visit.bird;
+        if !visit.opened {
+            visit.opened = hut.open(group, record)?;
+            visit.due += if visit.opened { MEASURING } else { PATIENCE };
+            return Ok(false);
+        }
+        let text = text::of_bird(&mut self.rng, recapture);
+        let saved = hut.save(group, record, &text)?;
+        if saved {
+            self.saved += 1;
+            self.last_save = group.now;
+        } else {
+            visit.opened = false;
+            visit.due += PATIENCE;
+        }
+        Ok(saved)
+    }
+}

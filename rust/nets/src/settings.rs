@@ -1,0 +1,139 @@
+//! What a morning is like.
+
+use cetskobi::Record;
+use model::rng::Rng;
+
+use crate::fault::Fault;
+use crate::Tick;
+
+/// Sizes of the group and of the morning, and the link's faults.
+#[derive(Clone, Debug, PartialEq, Eq)]
+pub struct Settings {
+    /// The beginning of all random numbers.
+    pub seed: u64,
+    /// Laptops in the group at the start.
+    pub laptops: u8,
+    /// Records of each laptop.
+    pub records: usize,
+    /// Birds ringed: saves to records that were empty.
+    pub rings: usize,
+    /// Birds met again: saves over a record that was read.
+    pub recaptures: usize,
+    /// Laptops that die and are struck off.
+    pub deaths: u8,
+    /// How many of those only slept: they wake without knowing that they are
+    /// struck off, and are told late.
+    pub sleepers: u8,
+    /// Laptops that get a new view late.
+    pub late: u8,
+    /// How much later they get it.
+    pub lateness: Tick,
+    /// Until when birds come; then the link heals.
+    pub ticks: Tick,
+    /// Copies of packets that the link loses, of 100.
+    pub loss: u8,
+    /// Copies that it repeats, of 100.
+    pub repeat: u8,
+    /// The most ticks that a packet usually takes; a few take far longer.
+    pub delay: Tick,
+    /// What is deliberately broken, to see the checks at work.
+    pub fault: Option<Fault>,
+}
+
+impl Default for Settings {
+    fn default() -> Settings {
+        Settings {
+            seed: 10,
+            laptops: 11,
+            records: Record::COUNT_MAX,
+            rings: 600,
+            recaptures: 40,
+            deaths: 1,
+            sleepers: 0,
+            late: 2,
+            lateness: 300,
+            ticks: 2000,
+            loss: 30,
+            repeat: 10,
+            delay: 6,
+            fault: None,
+        }
+    }
+}
+
+/// The parts of the simulation that take random numbers.
+#[derive(Clone, Copy, Debug)]
+pub(crate) enum Part {
+    Plan,
+    Link,
+    Texts,
+}
+
+impl Settings {
+    /// The random numbers of one part: how many one takes does not change
+    /// another's.
+    pub(crate) fn rng(&self, part: Part) -> Rng {
+        let mut seeds = Rng::new(self.seed);
+        for _ in 0..part as usize {
+            seeds.next_u64();
+        }
+        Rng::new(seeds.next_u64())
+    }
+
+    /// Whether such a morning can be played.
+    ///
+    /// # Errors
+    ///
+    /// What is wrong, in plain words.
+    pub fn check(&self) -> Result<(), String> {
+        let most = Record::COUNT_MAX;
+        let stay = self.laptops.saturating_sub(self.deaths);
+        ask(
+            (2..=16).contains(&self.laptops),
+            "a group has 2 to 16 laptops",
+        )?;
+        ask(
+            (1..=most).contains(&self.records),
+            "a laptop has 1 to 4096 records",
+        )?;
+        ask(
+            self.rings <= self.records,
+            "each ring needs a record of its own",
+        )?;
+        ask(
+            self.recaptures == 0 || self.rings > 0,
+            "who is met again was ringed before",
+        )?;
+        ask(
+            self.recaptures <= 100_000,
+            "at most 100000 birds are met again",
+        )?;
+        ask(stay >= 2, "two laptops must stay in the view")?;
+        ask(
+            self.sleepers <= self.deaths,
+            "only laptops that are struck off sleep",
+        )?;
+        ask(self.late <= stay, "no more laptops can be late than stay")?;
+        ask(
+            self.lateness <= 100_000,
+            "a view is at most 100000 ticks late",
+        )?;
+        ask(
+            (100..=100_000).contains(&self.ticks),
+            "a morning has 100 to 100000 ticks",
+        )?;
+        ask(self.loss <= 90, "at most 90 of 100 packets are lost")?;
+        ask(self.repeat <= 90, "at most 90 of 100 packets are repeated")?;
+        ask(
+            (1..=1000).contains(&self.delay),
+            "a packet takes 1 to 1000 ticks",
+        )
+    }
+}
+
+fn ask(holds: bool, rule: &str) -> Result<(), String> {
+    match holds {
+        true => Ok(()),
+        false => Err(rule.to_owned()),
+    }
+}

@@ -1,0 +1,142 @@
+//! What is left when the link has healed.
+
+use cetskobi::{Laptop, Record, State};
+
+use crate::failure::Cause;
+use crate::group::Group;
+
+/// The records as the laptops of the newest view hold them.
+#[derive(Clone, Debug, Default, PartialEq, Eq)]
+pub(crate) struct Settled {
+    pub settled: usize,
+    /// Left in invalid-write by a last writer who was struck off: document 02
+    /// knows that case as Wish 2.
+    pub hung: Vec<usize>,
+    /// Saves that nobody heard of before their laptop died.
+    pub lost: usize,
+}
+
+/// All records at the laptops of the newest view. Each is settled or hung;
+/// anything else is a failure.
+pub(crate) fn look(group: &Group, members: &[&Laptop]) -> Result<Settled, Cause> {
+    let mut found = Settled::default();
+    for i in 0..members[0].count() {
+        let records = members.iter().map(|l| l.record(i));
+        let records: Option<Vec<Record>> = records.collect();
+        let unsettled = Cause::Unsettled { record: i };
+        let records = records.ok_or(unsettled)?;
+        if records.iter().all(|r| r.state == State::Valid) {
+            same_text(group, members, i)?;
+            found.settled += 1;
+        } else if members.iter().zip(&records).any(|(l, r)| is_hung(l, r)) {
+            found.hung.push(i);
+        } else {
+            return Err(unsettled);
+        }
+    }
+    found.lost = lost(group, members);
+    Ok(found)
+}
+
+/// Valid everywhere: one timestamp and one text, that which was saved with it.
+fn same_text(group: &Group, members: &[&Laptop], i: usize) -> Result<(), Cause> {
+    let timestamp = members[0].record(i).map(|r| r.timestamp);
+    let fresh = Vec::new();
+    let saved = timestamp
+        .and_then(|t| group.saves.get(&(i, t)))
+        .unwrap_or(&fresh);
+    let same =
+        |l: &&Laptop| l.record(i).map(|r| r.timestamp) == timestamp && l.read(i) == Ok(saved);
+    match members.iter().all(same) {
+        true => Ok(()),
+        false => Err(Cause::OtherText { record: i }),
+    }
+}
+
+fn is_hung(laptop: &Laptop, r: &Record) -> bool {
+    r.state == State::InvalidWrite && !laptop.members().contains(r.writer)
+}
+
+fn lost(group: &Group, members: &[&Laptop]) -> usize {
+    let later = |i: usize, t| {
+        members
+            .iter()
+            .filter_map(|l| l.record(i))
+            .all(|r| r.timestamp < t)
+    };
+    group.saves.keys().filter(|(i, t)| later(*i, *t)).count()
+}
+
+#[cfg(test)]
+mod tests {
+    use super::*;
+    use crate::settings::Settings;
+    use cetskobi::Timestamp;
+
+    const SAVED: Timestamp = Timestamp { version: 1, tie: 0 };
+
+    /// Two laptops; laptop 0 has saved the one record.
+    fn saved() -> Group {
+        let settings = Settings {
+            laptops: 2,
+            records: 1,
+            ..Settings::default()
+        };
+        let mut group = Group::start(&settings).expect("a group of two");
+        let inv = group.write(0, 0, b"Wren").expect("agreement");
+        let inv = inv.expect("accepted").expect("an INV");
+        let ack = group.deliver_as(1, inv, inv, b"Wren").expect("agreement");
+        let ack = ack.expect("accepted").expect("an ACK");
+        group
+            .deliver_as(0, ack, ack, b"")
+            .expect("agreement")
+            .expect("accepted");
+        group
+    }
+
+    /// Its validation reaches the other.
+    fn finished() -> Group {
+        let mut group = saved();
+        let val = group.validate(0, 0).expect("agreement");
+        let val = val.expect("accepted").expect("a VAL");
+        group
+            .deliver_as(1, val, val, b"")
+            .expect("agreement")
+            .expect("accepted");
+        group
+    }
+
+    fn looked(group: &Group) -> Result<Settled, Cause> {
+        look(group, &[group.laptop(0), group.laptop(1)])
+    }
+
+    #[test]
+    fn a_finished_save_is_settled() {
+        let settled = looked(&finished()).expect("settled");
+        assert_eq!(
+            (settled.settled, settled.hung.len(), settled.lost),
+            (1, 0, 0)
+        );
+    }
+
+    #[test]
+    fn an_open_save_is_not() {
+        let cause = Cause::Unsettled { record: 0 };
+        assert_eq!(looked(&saved()), Err(cause));
+    }
+
+    #[test]
+    fn another_text_than_was_saved_is_noticed() {
+        let mut group = finished();
+        group.saves.insert((0, SAVED), b"Robin".to_vec());
+        assert_eq!(looked(&group), Err(Cause::OtherText { record: 0 }));
+    }
+
+    #[test]
+    fn a_save_that_nobody_heard_is_lost() {
+        let mut group = finished();
+        let later = Timestamp { version: 2, tie: 3 };
+        group.saves.insert((0, later), b"Robin".to_vec());
+        assert_eq!(looked(&group).map(|s| s.lost), Ok(1));
+    }
+}

@@ -1,0 +1,189 @@
+//! Whole mornings on the engine: agreement after every event, and what is left
+//! once the link has healed.
+
+use cetskobi::Refusal;
+use nets::{run, Report, Settings};
+
+fn agreed(settings: &Settings) -> Report {
+    settings.check().expect("settings that can be played");
+    match run(settings, |_| ()) {
+        Ok(report) => report,
+        Err(failure) => panic!("{failure}"),
+    }
+}
+
+/// Every bird was saved, but for those whose record hangs.
+fn all_saved(settings: &Settings, report: &Report) {
+    let birds = settings.rings + settings.recaptures;
+    assert_eq!(report.saved() + report.waiting(), birds);
+    assert!(report.waiting() == 0 || report.hung() > 0);
+}
+
+#[test]
+fn the_default_morning() {
+    let settings = Settings::default();
+    let report = agreed(&settings);
+    all_saved(&settings, &report);
+    // What makes a morning hard has happened.
+    assert!(report.overtaken() > 0, "no two saves met");
+    assert!(report.replays() > 0, "nothing was replayed");
+    for refusal in [
+        Refusal::NotReadable,
+        Refusal::OtherEpoch,
+        Refusal::StrayAck,
+        Refusal::StrayVal,
+        Refusal::NotFinished,
+    ] {
+        assert!(report.refused(refusal) > 0, "never {refusal}");
+    }
+    // Laptops and packets were never damaged, and nobody erred: all else is everyday.
+    let everyday = [6, 7, 10, 13, 14, 15, 16, 17];
+    for refusal in Refusal::ALL {
+        let expected = everyday.contains(&refusal.number());
+        assert!(expected || report.refused(refusal) == 0, "{refusal}");
+    }
+}
+
+/// Struck off while it slept, it goes on until it is told.
+#[test]
+fn laptops_that_only_slept() {
+    let settings = Settings {
+        deaths: 2,
+        sleepers: 2,
+        ..Settings::default()
+    };
+    let report = agreed(&settings);
+    all_saved(&settings, &report);
+    assert!(report.refused(Refusal::StruckOff) > 0);
+}
+
+#[test]
+fn other_seeds() {
+    for seed in 100..130 {
+        let settings = Settings {
+            seed,
+            ..Settings::default()
+        };
+        all_saved(&settings, &agreed(&settings));
+    }
+}
+
+#[test]
+fn other_groups() {
+    let usual = Settings {
+        rings: 120,
+        recaptures: 30,
+        ticks: 600,
+        ..Settings::default()
+    };
+    for seed in 1..5 {
+        let usual = Settings {
+            seed,
+            ..usual.clone()
+        };
+        for settings in [
+            Settings {
+                laptops: 2,
+                deaths: 0,
+                late: 0,
+                ..usual.clone()
+            },
+            Settings {
+                laptops: 3,
+                ..usual.clone()
+            },
+            Settings {
+                laptops: 16,
+                deaths: 5,
+                late: 6,
+                ..usual.clone()
+            },
+            Settings {
+                deaths: 9,
+                late: 2,
+                lateness: 50,
+                ..usual.clone()
+            },
+            Settings {
+                deaths: 3,
+                sleepers: 2,
+                ..usual.clone()
+            },
+            Settings {
+                loss: 70,
+                repeat: 50,
+                delay: 25,
+                ..usual.clone()
+            },
+            Settings {
+                loss: 0,
+                repeat: 0,
+                delay: 1,
+                ..usual.clone()
+            },
+            Settings {
+                records: 1,
+                rings: 1,
+                recaptures: 60,
+                ..usual.clone()
+            },
+            Settings {
+                rings: 0,
+                recaptures: 0,
+                ..usual.clone()
+            },
+            Settings {
+                lateness: 2000,
+                ..usual.clone()
+            },
+        ] {
+            all_saved(&settings, &agreed(&settings));
+        }
+    }
+}
+
+#[test]
+fn a_record_that_hangs_is_counted() {
+    let small = Settings {
+        laptops: 3,
+        late: 1,
+        rings: 60,
+        ticks: 300,
+        ..Settings::default()
+    };
+    let hung = |seed| {
+        agreed(&Settings {
+            seed,
+            ..small.clone()
+        })
+        .hung()
+    };
+    let hung: Vec<usize> = (1..60).map(hung).filter(|n| *n > 0).collect();
+    assert!(!hung.is_empty(), "in none of 59 mornings did a save hang");
+}
+
+#[test]
+fn the_same_seed_gives_the_same_report() {
+    let settings = Settings {
+        rings: 150,
+        ticks: 500,
+        ..Settings::default()
+    };
+    let other = Settings {
+        seed: 7,
+        ..settings.clone()
+    };
+    let printed = |s| agreed(s).to_string();
+    assert_eq!(printed(&settings), printed(&settings));
+    assert_ne!(printed(&settings), printed(&other));
+}
+
+#[test]
+fn the_readme_shows_the_default_morning() {
+    let shown = agreed(&Settings::default()).to_string();
+    let readme = include_str!("../README.md").replace("\n    ", "\n");
+    assert!(
+        readme.contains(&shown),
+        "rust/nets/README.md lacks this report:\n{shown}"
+    );
+}

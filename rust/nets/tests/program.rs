@@ -1,0 +1,92 @@
+//! The program as it is run from a shell.
+
+use std::process::{Command, Output};
+
+fn nets(options: &[&str]) -> Output {
+    let small = ["--rings", "60", "--recaptures", "20", "--ticks", "300"];
+    Command::new(env!("CARGO_BIN_EXE_nets"))
+        .args(small)
+        .args(options)
+        .output()
+        .expect("the program runs")
+}
+
+fn out(output: &Output) -> String {
+    String::from_utf8_lossy(&output.stdout).into_owned()
+}
+
+#[test]
+fn one_morning() {
+    let output = nets(&["--seed", "3"]);
+    assert_eq!(output.status.code(), Some(0));
+    let said = out(&output);
+    for part in [
+        "seed 3",
+        "packets",
+        "bytes",
+        "hung",
+        "ticks",
+        "wall time",
+        "  question 13",
+    ] {
+        assert!(said.contains(part), "{part} is missing:\n{said}");
+    }
+    // No progress unless on a terminal.
+    assert!(output.stderr.is_empty());
+}
+
+#[test]
+fn many_mornings() {
+    let output = nets(&["--seed", "8", "--seeds", "3"]);
+    assert_eq!(output.status.code(), Some(0));
+    let said = out(&output);
+    let begins: Vec<&str> = said
+        .lines()
+        .map(|l| l.split(':').next().unwrap_or(""))
+        .collect();
+    assert_eq!(begins[..3], ["seed 8", "seed 9", "seed 10"]);
+    assert!(said
+        .lines()
+        .last()
+        .is_some_and(|l| l.starts_with("3 mornings")));
+}
+
+#[test]
+fn a_failed_check() {
+    let output = nets(&["--seed", "4", "--fault", "text"]);
+    assert_eq!(output.status.code(), Some(1));
+    assert!(out(&output).starts_with("FAILED with seed 4"));
+}
+
+#[test]
+fn the_help_names_every_option() {
+    let output = nets(&["--help"]);
+    assert_eq!(output.status.code(), Some(0));
+    assert_eq!(out(&output), nets::HELP);
+}
+
+#[test]
+fn wrong_options() {
+    for wrong in [
+        &["--laptops", "17"][..],
+        &["--laptops", "1"],
+        &["--laptops", "3", "--deaths", "2"],
+        &["--records", "0"],
+        &["--records", "59"],
+        &["--loss", "91"],
+        &["--loss", "-1"],
+        &["--delay", "0"],
+        &["--seeds", "0"],
+        &["--seed"],
+        &["--fault", "rain"],
+        &["--nets", "3"],
+        &["3"],
+    ] {
+        let output = nets(wrong);
+        assert_eq!(output.status.code(), Some(2), "{wrong:?}");
+        assert!(
+            output.stdout.is_empty() && !output.stderr.is_empty(),
+            "{wrong:?}"
+        );
+    }
+}
