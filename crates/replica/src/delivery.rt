@@ -1,9 +1,11 @@
 // Deliver: an invalidation, an acknowledgement or a validation comes in.
 ghost use mathlib.Core.Path.{_≡_};
 ghost use Prim.Native.Nat.{_≤_, _+_, _*_};
+ghost use mathlib.Core.List.{[], _∷_};
 ghost use lib.ListN.{length};
 ghost use Rattle.hermes.specs.Order.{higher, later};
 ghost use Rattle.hermes.specs.Event.{common, own, effect, decide, invStep};
+ghost use Rattle.hermes.specs.Guards.{question10, question11, question12};
 ghost use Rattle.hermes.specs.declared.event.Event.the-variants.{Deliver};
 ghost use Rattle.replica.specs.Asked.{asked};
 use crate::guards;
@@ -19,7 +21,8 @@ use hermes::Record;
 use hermes::Replica;
 use hermes::Timestamp;
 
-fn asks(
+// The questions of every message: 1 to 5, and 10 to 12.
+fn asks_any(
     me: Replica,
     count: usize,
     bytes: usize,
@@ -28,7 +31,7 @@ fn asks(
     m: Received,
     n: usize,
 ) -> Asked
-    ensures { λ a. ⌜ a ≡ asked (common me count bytes i r (own me r (Deliver m) n)) r ⌝ }
+    ensures { λ a. ⌜ a ≡ asked (common me count bytes i r (question10 me m ∷ question11 me m ∷ question12 m n ∷ [])) r ⌝ }
 {
     let a = guards::every(me, count, bytes, i, r);
     let Asked::Passed(r1) = a else {
@@ -42,12 +45,27 @@ fn asks(
     let Asked::Passed(r3) = c else {
         return c;
     };
-    let d = guards::question12(m, n, r3);
-    let Asked::Passed(r4) = d else {
-        return d;
+    guards::question12(m, n, r3)
+}
+
+// The same, and those of the message's kind.
+fn asks(
+    me: Replica,
+    count: usize,
+    bytes: usize,
+    i: usize,
+    r: Record,
+    m: Received,
+    n: usize,
+) -> Asked
+    ensures { λ a. ⌜ a ≡ asked (common me count bytes i r (own me r (Deliver m) n)) r ⌝ }
+{
+    let a = asks_any(me, count, bytes, i, r, m, n);
+    let Asked::Passed(r1) = a else {
+        return a;
     };
     let message = m.message;
-    guards::of_kind(message, m.sender, r4)
+    guards::of_kind(message, m.sender, r1)
 }
 
 // An accepted invalidation: its acknowledgement always leaves; only a greater timestamp is taken.

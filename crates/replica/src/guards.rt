@@ -21,11 +21,34 @@ pub(crate) enum Asked {
     Refused(u8),
 }
 
+// The record as it is, field by field: a copy of the whole would take its padding along, byte by byte.
+fn same(r: Record) -> Record
+    ensures { λ s. ⌜ s ≡ r ⌝ }
+{
+    let state = r.state;
+    let now = Timestamp {
+        version: r.timestamp.version,
+        tie: r.timestamp.tie,
+    };
+    let own = Timestamp {
+        version: r.written.version,
+        tie: r.written.tie,
+    };
+    Record {
+        state: state,
+        timestamp: now,
+        writer: r.writer,
+        written: own,
+        acks: r.acks,
+        len: r.len,
+    }
+}
+
 fn question(number: u8, yes: bool, r: Record) -> Asked
     ensures { λ a. ⌜ a ≡ asked (ask number yes ∷ []) r ⌝ }
 {
     if yes {
-        Asked::Passed(r)
+        Asked::Passed(same(r))
     } else {
         Asked::Refused(number)
     }
@@ -38,7 +61,7 @@ pub(crate) fn stopped(a: Asked, r: Record) -> Moved
     match a {
         Asked::Refused(k) => Moved {
             answer: Answer::Refused(k),
-            after: r,
+            after: same(r),
         },
         Asked::Passed(_) => Moved {
             answer: Answer::Accepted(Outgoing::None),

@@ -1,0 +1,287 @@
+//! What is measured: each case with its two sides, on equal inputs.
+
+use cetskobi::sys::{Message, Replica};
+
+use crate::engine::{self, Engine, Words};
+use crate::packets;
+use crate::plain::{self, Plain};
+use crate::scripts;
+use crate::side::{About, On, Side};
+
+/// What is done with each case.
+pub trait Visit {
+    /// The sides are made only where they are asked for.
+    fn case<E: Side, M: Side>(
+        &mut self,
+        about: About,
+        engine: impl FnOnce() -> E,
+        model: impl FnOnce() -> M,
+    );
+}
+
+/// Laptop 2 with view {1,2,5} at epoch 9.
+pub const ME: Replica = Replica {
+    number: 2,
+    view: 0b10_0110,
+    epoch: 9,
+};
+
+/// A value of 32 bytes.
+pub const TEXT: &[u8; 32] = b"Blue tit, f, wing 62, 10.9 g, wj";
+
+// Records as the events find them: at version 8, or at 7 with 8 to come.
+pub const VALID: Words = [0, 7, 5, 5, 0, 1, 0, 32];
+const WRITING: Words = [3, 8, 2, 2, 8, 2, 0, 32];
+const ACKNOWLEDGED: Words = [3, 8, 2, 2, 8, 2, 0b10_0010, 32];
+const INVALID: Words = [1, 8, 5, 5, 0, 1, 0, 32];
+const ORPHAN: Words = [1, 8, 4, 4, 0, 1, 0, 32];
+
+/// A message from laptop 5.
+const fn message(kind: u8, version: u32, tie: u8) -> Message {
+    Message {
+        kind,
+        sender: 5,
+        tie,
+        epoch: 9,
+        version,
+    }
+}
+
+/// An event on one record, whose cost does not grow with the table.
+pub fn event(name: &'static str, title: &'static str, records: usize) -> About {
+    About {
+        name,
+        title,
+        records,
+        from: records.saturating_sub(64),
+        flat: true,
+    }
+}
+
+/// A call that is no event on a record.
+pub fn other(name: &'static str, title: &'static str, calls: usize) -> About {
+    About {
+        flat: false,
+        ..event(name, title, calls)
+    }
+}
+
+/// Every case, with a table of this many records.
+pub fn all(records: usize, visit: &mut impl Visit) {
+    events(records, visit);
+    deliveries(records, visit);
+    membership(records, visit);
+    packets::all(records, visit);
+    scripts::all(visit);
+}
+
+fn events(n: usize, visit: &mut impl Visit) {
+    visit.case(
+        event("read", "read", n),
+        || On {
+            lent: Engine::new(ME, n, VALID, ()),
+            prepare: |_: &mut _, _| (),
+            call: |e: &mut Engine<()>, i| engine::read(e.me, &e.words, &e.store, i),
+        },
+        || On {
+            lent: Plain::new(ME, n, VALID, ()),
+            prepare: |_: &mut _, _| (),
+            call: |m: &mut Plain<()>, i| m.replica.read(&m.table, &m.store, i).map(<[u8]>::len),
+        },
+    );
+    write(
+        event("write", "write, 32 bytes", n),
+        VALID,
+        TEXT.to_vec(),
+        visit,
+    );
+    write(
+        event("write-192", "write, 192 bytes", n),
+        VALID,
+        TEXT.repeat(6),
+        visit,
+    );
+    write(
+        event("write-7", "write, refused by question 7", n),
+        WRITING,
+        TEXT.to_vec(),
+        visit,
+    );
+    visit.case(
+        event("validate", "validate", n),
+        || On {
+            lent: Engine::new(ME, n, VALID, ()),
+            prepare: |e: &mut Engine<()>, i| e.set(i, ACKNOWLEDGED),
+            call: |e: &mut Engine<()>, i| engine::validate(e.me, &mut e.words, &e.store, i),
+        },
+        || On {
+            lent: Plain::new(ME, n, VALID, ()),
+            prepare: |m: &mut Plain<()>, i| m.table[i] = plain::record(ACKNOWLEDGED),
+            call: |m: &mut Plain<()>, i| m.replica.validate(&mut m.table, &m.store, i),
+        },
+    );
+    visit.case(
+        event("replay", "replay", n),
+        || On {
+            lent: Engine::new(ME, n, VALID, ()),
+            prepare: |e: &mut Engine<()>, i| e.set(i, ORPHAN),
+            call: |e: &mut Engine<()>, i| engine::replay(e.me, &mut e.words, &e.store, i),
+        },
+        || On {
+            lent: Plain::new(ME, n, VALID, ()),
+            prepare: |m: &mut Plain<()>, i| m.table[i] = plain::record(ORPHAN),
+            call: |m: &mut Plain<()>, i| m.replica.replay(&mut m.table, &m.store, i),
+        },
+    );
+    visit.case(
+        event("resend", "resend", n),
+        || On {
+            lent: Engine::new(ME, n, WRITING, ()),
+            prepare: |_: &mut _, _| (),
+            call: |e: &mut Engine<()>, i| engine::resend(e.me, &mut e.words, &e.store, i),
+        },
+        || On {
+            lent: Plain::new(ME, n, WRITING, ()),
+            prepare: |_: &mut _, _| (),
+            call: |m: &mut Plain<()>, i| m.replica.resend(&m.table, &m.store, i),
+        },
+    );
+    leaving(n, visit);
+}
+
+fn write(about: About, record: Words, value: Vec<u8>, visit: &mut impl Visit) {
+    let n = about.records;
+    visit.case(
+        about,
+        || On {
+            lent: Engine::new(ME, n, VALID, value.clone()),
+            prepare: move |e: &mut Engine<Vec<u8>>, i| e.set(i, record),
+            call: |e: &mut Engine<Vec<u8>>, i| {
+                engine::write(e.me, &mut e.words, &mut e.store, i, &e.input)
+            },
+        },
+        || On {
+            lent: Plain::new(ME, n, VALID, value.clone()),
+            prepare: move |m: &mut Plain<Vec<u8>>, i| m.table[i] = plain::record(record),
+            call: |m: &mut Plain<Vec<u8>>, i| {
+                m.replica.write(&mut m.table, &mut m.store, i, &m.input)
+            },
+        },
+    );
+}
+
+fn deliveries(n: usize, visit: &mut impl Visit) {
+    let inv = event("inv", "deliver INV, 32 bytes", n);
+    deliver(inv, VALID, message(1, 8, 5), TEXT.to_vec(), visit);
+    let older = event("inv-older", "deliver INV of an older stamp", n);
+    deliver(older, VALID, message(1, 6, 5), TEXT.to_vec(), visit);
+    let ack = event("ack", "deliver ACK", n);
+    deliver(ack, WRITING, message(2, 8, 2), vec![], visit);
+    let val = event("val", "deliver VAL", n);
+    deliver(val, INVALID, message(3, 8, 5), vec![], visit);
+}
+
+fn deliver(about: About, record: Words, m: Message, body: Vec<u8>, visit: &mut impl Visit) {
+    let n = about.records;
+    visit.case(
+        about,
+        || On {
+            lent: Engine::new(ME, n, VALID, (m, body.clone())),
+            prepare: move |e: &mut Engine<(Message, Vec<u8>)>, i| e.set(i, record),
+            call: |e: &mut Engine<(Message, Vec<u8>)>, i| {
+                let (message, body) = &e.input;
+                engine::deliver(e.me, &mut e.words, &mut e.store, i, *message, body)
+            },
+        },
+        || On {
+            lent: Plain::new(ME, n, VALID, (plain::envelope(m, 0), body.clone())),
+            prepare: move |m: &mut Plain<_>, i| m.table[i] = plain::record(record),
+            call: |m: &mut Plain<(model::engine::Envelope, Vec<u8>)>, i| {
+                let (envelope, body) = &mut m.input;
+                envelope.record = i;
+                m.replica
+                    .deliver(&mut m.table, &mut m.store, envelope, body)
+            },
+        },
+    );
+}
+
+fn leaving(n: usize, visit: &mut impl Visit) {
+    let sent = plain::envelope(message(1, 8, 2), 0).message;
+    visit.case(
+        event("body", "bytes that an INV takes along", n),
+        || On {
+            lent: Engine::new(ME, n, WRITING, 1),
+            prepare: |_: &mut _, _| (),
+            call: |e: &mut Engine<u8>, i| engine::body(&e.words, &e.store, i, e.input),
+        },
+        || On {
+            lent: Plain::new(ME, n, WRITING, sent),
+            prepare: |_: &mut _, _| (),
+            call: |m: &mut Plain<model::engine::Message>, i| {
+                model::engine::body(m.input, &m.table, &m.store, i).len()
+            },
+        },
+    );
+    visit.case(
+        other("recipients", "who gets an INV", n),
+        || On {
+            lent: (ME, 1u8, 5u8),
+            prepare: |_: &mut _, _| (),
+            call: |e: &mut (Replica, u8, u8), _| engine::recipients(e.0, e.1, e.2),
+        },
+        || On {
+            lent: (plain::replica(ME), sent, 5u8),
+            prepare: |_: &mut _, _| (),
+            call: |m: &mut (model::engine::Replica, model::engine::Message, u8), _| {
+                m.0.recipients(m.1, m.2)
+            },
+        },
+    );
+}
+
+fn membership(n: usize, visit: &mut impl Visit) {
+    visit.case(
+        other("view", "view", n),
+        || On {
+            lent: (ME, 10u32, 0b110u16),
+            prepare: |_: &mut _, _| (),
+            call: |e: &mut (Replica, u32, u16), _| engine::view(e.0, e.1, e.2),
+        },
+        || On {
+            lent: (plain::replica(ME), 10u32, 0b110u16),
+            prepare: |_: &mut _, _| (),
+            call: |m: &mut (model::engine::Replica, u32, u16), _| {
+                let mut next = m.0;
+                next.change_view(m.1, m.2).map(|_| next)
+            },
+        },
+    );
+    start(other("start", "fresh start, 1 record", n), 1, visit);
+    start(
+        other("start-4096", "fresh start, 4,096 records", n),
+        4096,
+        visit,
+    );
+}
+
+fn start(about: About, n: usize, visit: &mut impl Visit) {
+    visit.case(
+        about,
+        || On {
+            lent: Engine::new(ME, n, VALID, ()),
+            prepare: |_: &mut _, _| (),
+            call: |e: &mut Engine<()>, _| {
+                engine::start(e.me.number, e.me.view, &mut e.words, &mut e.store)
+            },
+        },
+        || On {
+            lent: Plain::new(ME, n, VALID, ()),
+            prepare: |_: &mut _, _| (),
+            call: |m: &mut Plain<()>, _| {
+                let (number, view) = (m.replica.number, m.replica.view);
+                model::engine::Replica::start(number, view, &mut m.table, &mut m.store)
+            },
+        },
+    );
+}

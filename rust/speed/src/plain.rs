@@ -1,0 +1,93 @@
+//! The model's side.
+
+use model::engine::{self, Envelope, Message, Record, Refusal, Replica, State, Timestamp};
+
+use crate::engine::Words;
+use crate::side::{Answers, Told};
+
+/// A replica with its lent memory, and what its calls are given.
+pub struct Plain<I> {
+    pub replica: Replica,
+    pub table: Vec<Record>,
+    pub store: Vec<u8>,
+    pub input: I,
+}
+
+impl<I> Plain<I> {
+    pub fn new(me: cetskobi::Replica, records: usize, record: Words, input: I) -> Plain<I> {
+        Plain {
+            replica: replica(me),
+            table: vec![self::record(record); records],
+            store: vec![7; 192 * records],
+            input,
+        }
+    }
+}
+
+pub fn replica(me: cetskobi::Replica) -> Replica {
+    Replica {
+        number: me.number,
+        epoch: me.epoch,
+        view: me.view,
+    }
+}
+
+pub fn record(words: Words) -> Record {
+    let [state, version, tie, writer, written_version, written_tie, acks, len] = words;
+    Record {
+        state: State::ALL[state as usize],
+        timestamp: Timestamp::new(version, tie as u8),
+        last_writer: writer as u8,
+        last_write: Timestamp::new(written_version, written_tie as u8),
+        acks: acks as u16,
+        len: len as u8,
+    }
+}
+
+pub fn envelope(m: cetskobi::sys::Message, record: usize) -> Envelope {
+    let timestamp = Timestamp::new(m.version, m.tie);
+    Envelope {
+        sender: m.sender,
+        epoch: m.epoch,
+        record,
+        message: match m.kind {
+            1 => Message::Inv(timestamp),
+            2 => Message::Ack(timestamp),
+            _ => Message::Val(timestamp),
+        },
+    }
+}
+
+impl Answers for engine::Answer {
+    fn told(&self) -> Told {
+        let kind = match self {
+            Ok(None) | Err(_) => return (engine::number(self), [0; 3]),
+            Ok(Some(Message::Inv(_))) => 1,
+            Ok(Some(Message::Ack(_))) => 2,
+            Ok(Some(Message::Val(_))) => 3,
+        };
+        let Timestamp { version, tie } = self
+            .ok()
+            .flatten()
+            .map(Message::timestamp)
+            .unwrap_or(Timestamp::new(0, 0));
+        (0, [kind, tie.into(), version as usize])
+    }
+}
+
+impl Answers for Result<usize, Refusal> {
+    fn told(&self) -> Told {
+        let len = self.unwrap_or(0);
+        (engine::number(self), [len, 0, 0])
+    }
+}
+
+impl Answers for Result<Replica, Refusal> {
+    fn told(&self) -> Told {
+        let identity = match self {
+            Ok(me) => [me.number.into(), me.view.into(), me.epoch as usize],
+            Err(_) => [0; 3],
+        };
+        (engine::number(self), identity)
+    }
+}

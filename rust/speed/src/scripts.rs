@@ -1,0 +1,83 @@
+//! The cases of the playing program.
+
+use crate::cases::{other, Visit};
+use crate::engine;
+use crate::side::{About, On};
+
+/// Document 01's example.
+const EXAMPLE: &str = "group 3\nwrite 0 A1\ndeliver 1 0\ndeliver 2 0\ndeliver 0 1\ndeliver 0 2\nvalidate 0\ndeliver 1 3\nread 1\nread 2\n";
+
+/// 30 writes with all their deliveries, which fill the log to 240, and then
+/// reads and repeated deliveries up to 65,536 bytes.
+fn long() -> String {
+    let mut script = String::from("group 4\n");
+    for round in 0..30 {
+        let log = 8 * round;
+        let writer = round % 4;
+        script += &format!("write {writer} wing 62, round {round}\n");
+        for other in (0..4).filter(|&k| k != writer) {
+            script += &format!("deliver {other} {log}\n");
+        }
+        for ack in 1..4 {
+            script += &format!("deliver {writer} {}\n", log + ack);
+        }
+        script += &format!("validate {writer}\n");
+        for other in (0..4).filter(|&k| k != writer) {
+            script += &format!("deliver {other} {}\nread {other}\n", log + 4);
+        }
+        script += &format!("resend {writer}\nresend {writer}\nresend {writer}\n");
+    }
+    for k in 0.. {
+        let line = match k % 4 {
+            0 => format!("read {}\n", k / 4 % 4),
+            1 => format!("deliver {} {}\n", k / 4 % 4, k % 240),
+            2 => format!("validate {}\n", k / 4 % 4),
+            _ => format!("write {} \n", 9),
+        };
+        if script.len() + line.len() > 65_536 {
+            break;
+        }
+        script += &line;
+    }
+    script
+}
+
+pub fn all(visit: &mut impl Visit) {
+    play(
+        other("play", "player, document 01's example", 1),
+        EXAMPLE,
+        visit,
+    );
+    play(
+        other("play-long", "player, 65,536 bytes of script", 1),
+        &long(),
+        visit,
+    );
+}
+
+fn play(about: About, script: &str, visit: &mut impl Visit) {
+    let script = script.as_bytes().to_vec();
+    let room = 25 * script.len() + 2;
+    visit.case(
+        about,
+        || On {
+            lent: (script.clone(), vec![0; room]),
+            prepare: |_: &mut _, _| (),
+            call: |(script, out): &mut (Vec<u8>, Vec<u8>), _| engine::play(script, out),
+        },
+        || On {
+            lent: script.clone(),
+            prepare: |_: &mut _, _| (),
+            call: |script: &mut Vec<u8>, _| Played(model::player::play(script)),
+        },
+    );
+}
+
+/// What the model printed.
+struct Played(Vec<u8>);
+
+impl crate::side::Answers for Played {
+    fn told(&self) -> crate::side::Told {
+        (0, [self.0.len(), 0, 0])
+    }
+}

@@ -1,0 +1,78 @@
+//! The two sides of a case: memory of its own, and one call on it.
+
+use std::fmt::Debug;
+use std::hint::black_box;
+
+/// What is compared of two answers: document 01's number, and what came with it.
+pub type Told = (u8, [usize; 3]);
+
+/// An answer of either side.
+pub trait Answers {
+    fn told(&self) -> Told;
+}
+
+/// One side of a case.
+pub trait Side {
+    type Answer: Answers;
+
+    /// Sets record `i` as the event is to find it.
+    fn prepare(&mut self, i: usize);
+
+    /// The call that is measured.
+    fn call(&mut self, i: usize) -> Self::Answer;
+}
+
+/// A side out of its memory and two functions on it. All that a call is given
+/// lies in the memory, so the compiler knows none of it.
+pub struct On<S, P, C> {
+    pub lent: S,
+    pub prepare: P,
+    pub call: C,
+}
+
+impl<S, A: Answers, P: Fn(&mut S, usize), C: Fn(&mut S, usize) -> A> Side for On<S, P, C> {
+    type Answer = A;
+
+    fn prepare(&mut self, i: usize) {
+        (self.prepare)(&mut self.lent, i);
+    }
+
+    #[inline(always)]
+    fn call(&mut self, i: usize) -> A {
+        (self.call)(&mut self.lent, i)
+    }
+}
+
+/// The calls on records `from` to `to`, and nothing else: callgrind counts
+/// inside this function alone.
+#[inline(never)]
+pub fn measured_calls<S: Side>(side: &mut S, from: usize, to: usize) {
+    for i in from..to {
+        // The compiler knows neither what is lent nor what becomes of the answer, which stays where it is.
+        let answer = black_box(&mut *side).call(i);
+        black_box(&answer);
+    }
+}
+
+/// Both sides answer this call alike, and as the case expects.
+pub fn agree(name: &str, i: usize, engine: &mut impl Side, model: &mut impl Side) -> Told {
+    engine.prepare(i);
+    model.prepare(i);
+    let told = engine.call(i).told();
+    assert_eq!(told, model.call(i).told(), "{name}: the sides differ");
+    told
+}
+
+/// A case that visits get: its name, and how many calls there are in a round.
+#[derive(Clone, Copy, Debug)]
+pub struct About {
+    pub name: &'static str,
+    /// What it is, for the table.
+    pub title: &'static str,
+    /// The records of the lent table.
+    pub records: usize,
+    /// Calls from `from` to `records` may be made once prepared.
+    pub from: usize,
+    /// Its cost does not grow with the table.
+    pub flat: bool,
+}

@@ -1,0 +1,109 @@
+//! The table of both, and the rule that an event's cost does not grow.
+
+use crate::cases::{self, Visit};
+use crate::count::{self, instructions, Which};
+use crate::measure::{ratio, Ratio};
+use crate::side::{agree, About, Side};
+
+/// The records of the table that times are taken on.
+const RECORDS: usize = 64;
+/// Calls for a count.
+const CALLS: u64 = 20;
+/// Records of the two tables that are compared, and how far their counts may be apart.
+const FEW: usize = 1;
+const MANY: usize = 4096;
+const PERCENT: u64 = 2;
+
+/// Times of every case.
+#[derive(Default)]
+struct Times(Vec<(About, Ratio)>);
+
+impl Visit for Times {
+    fn case<E: Side, M: Side>(
+        &mut self,
+        about: About,
+        engine: impl FnOnce() -> E,
+        model: impl FnOnce() -> M,
+    ) {
+        let (mut engine, mut model) = (engine(), model());
+        agree(about.name, about.records - 1, &mut engine, &mut model);
+        let ratio = ratio(&about, &mut engine, &mut model);
+        self.0.push((about, ratio));
+    }
+}
+
+pub fn print() -> Result<(), String> {
+    let mut times = Times::default();
+    cases::all(RECORDS, &mut times);
+    let counted = count::valgrind();
+    if !counted {
+        eprintln!("no valgrind: instructions were not counted");
+    }
+
+    println!("| case | engine, instructions | at 4,096 records | model, instructions | engine : model | time, best | time, median |");
+    println!("|---|--:|--:|--:|--:|--:|--:|");
+    let mut grown = vec![];
+    for (about, time) in &times.0 {
+        let count = |which, records| match counted {
+            true => instructions(about.name, which, CALLS, records).map_err(|e| e.to_string()),
+            false => Ok(0),
+        };
+        let engine = count(Which::Engine, FEW)?;
+        let model = count(Which::Model, FEW)?;
+        let mut many = String::new();
+        if about.flat {
+            let engine_many = count(Which::Engine, MANY)?;
+            if grows(engine, engine_many) {
+                grown.push(about.name);
+            }
+            many = thousands(engine_many);
+        }
+        println!(
+            "| {} | {} | {many} | {} | {:.2} | {:.2} | {:.2} |",
+            about.title,
+            thousands(engine),
+            thousands(model),
+            engine as f64 / model as f64,
+            time.best,
+            time.median,
+        );
+    }
+    verdict(&grown)
+}
+
+/// The rule for some events alone.
+pub fn flat(names: &[&str]) -> Result<(), String> {
+    let mut grown = vec![];
+    for name in names {
+        let count =
+            |records| instructions(name, Which::Engine, CALLS, records).map_err(|e| e.to_string());
+        let (few, many) = (count(FEW)?, count(MANY)?);
+        println!("{name}: {few} instructions in a table of {FEW}, {many} in one of {MANY}");
+        if grows(few, many) {
+            grown.push(*name);
+        }
+    }
+    verdict(&grown)
+}
+
+fn grows(few: u64, many: u64) -> bool {
+    few.abs_diff(many) * 100 > few * PERCENT
+}
+
+fn verdict(grown: &[&str]) -> Result<(), String> {
+    match grown {
+        [] => Ok(()),
+        _ => Err(format!(
+            "the cost changes with the table: {}",
+            grown.join(", ")
+        )),
+    }
+}
+
+/// 12,345
+fn thousands(n: u64) -> String {
+    match n {
+        0..1000 => n.to_string(),
+        _ => format!("{},{:03}", thousands(n / 1000), n % 1000),
+    }
+}
