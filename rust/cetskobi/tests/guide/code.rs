@@ -29,7 +29,11 @@ fn packet_came(laptop: &mut Laptop, radio: &mut Radio, bytes: &[u8]) -> Result<(
 fn strike_off(laptop: &mut Laptop, radio: &mut Radio, epoch: u32, view: u16) -> Result<(), Refusal> {
     laptop.change_view(epoch, view)?;
     for ring in 0..laptop.count() {
-        let left = laptop.validate(ring).or_else(|_| laptop.replay(ring)).or_else(|_| laptop.resend(ring));
+        let saved = laptop.record(ring).is_some_and(|r| r.timestamp.version > 0);
+        let mut left = laptop.validate(ring).or_else(|_| laptop.replay(ring));
+        if left.is_err() && saved {
+            left = laptop.resend(ring);
+        }
         send_left(laptop, radio, left.unwrap_or(None), 0)?;
     }
     Ok(())
