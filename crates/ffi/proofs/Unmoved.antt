@@ -34,8 +34,8 @@ module _ (me : CetskobiReplica) (words store : List ℕ) (i : ℕ) (v : List ℕ
   unfolding effect
   unmoved e d h =
       d .words ∙ settled-back (refusalOf (nodeOf me words store) i e v) words i (stepOf higher (nodeOf me words store) i e v) (λ z.
-        let c = event-passed (replicaOf me) (length (tableOf words)) (length store) i (recordAt (tableOf words) i) e (length v) z in
-        (rw (length-table words) at (c .inside), c .sound .short)) h
+      let c = event-passed (replicaOf me) (length (tableOf words)) (length store) i (recordAt (tableOf words) i) e (length v) z in
+      (rw (length-table words) at (c .inside), c .sound .short)) h
 
   step-unmoved : (e : Event) → stepOf higher (nodeOf me words store) i e v .after ≡ recordAt (tableOf words) i
       → effectOf higher (nodeOf me words store) i e v .moved .after ≡ recordAt (tableOf words) i

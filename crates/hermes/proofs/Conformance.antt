@@ -237,9 +237,10 @@ module _ (wins : ℕ → ℕ → Bool) (n : Node) (i sender epoch : ℕ) (t : Ti
   follows-ack : Follows wins n i (Deliver (message sender epoch (Ack t))) v (delivered n i (message sender epoch (Ack t)) v) (HRcvAckGuard (n .me) sender epoch t) (source.HRcvAck sender)
   follows-ack = follows wins n i (Deliver (message sender epoch (Ack t))) v (delivered n i (message sender epoch (Ack t)) v) (HRcvAckGuard (n .me) sender epoch t) (source.HRcvAck sender)
       (λ y. let o = yes (Ack t) y in
-      let (p, e, c) = o .kind in
-      (five wins n i (Deliver (message sender epoch (Ack t))) v (ask 11 (has (n .me .view) sender) ∷ question12 (message sender epoch (Ack t)) (length v) ∷ []) y (o .known, (o .shape, tt)),
-      (o .epoch, apart (Ack t) y, c, equal-ts e, one-in (recordOf i n .state) (state.Write ∷ state.InvalidWrite ∷ state.Replay ∷ []) p)))
+      let (p, e, c) = o .kind in (
+        five wins n i (Deliver (message sender epoch (Ack t))) v (ask 11 (has (n .me .view) sender) ∷ question12 (message sender epoch (Ack t)) (length v) ∷ []) y (o .known, (o .shape, tt)),
+        (o .epoch, apart (Ack t) y, c, equal-ts e, one-in (recordOf i n .state) (state.Write ∷ state.InvalidWrite ∷ state.Replay ∷ []) p),
+      ))
       (λ g. back wins n i (Deliver (message sender epoch (Ack t))) v (ask 11 (has (n .me .view) sender) ∷ question12 (message sender epoch (Ack t)) (length v) ∷ []) (g .0) (
         eq-eqb epoch (n .me .epoch) (g .1 .0),
         (
