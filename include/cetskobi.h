@@ -98,8 +98,8 @@ struct cetskobi_written {
 
 /* 0 or the number of the question that said no; and the identity from then on. */
 struct cetskobi_admission {
-    uint8_t number;
     struct cetskobi_replica replica;
+    uint8_t number;
 };
 
 /* Events on record i. A message that leaves is about record i, from me.number at me.epoch. */

@@ -47,8 +47,8 @@ pub struct CetskobiRead {
 // The answer to a fresh start and to a view: 0 or the number of the question that said no, and the identity from then on.
 #[repr(C)]
 pub struct CetskobiAdmission {
-    pub number: u8,
     pub replica: CetskobiReplica,
+    pub number: u8,
 }
 
 pub(crate) fn replica_of(me: CetskobiReplica) -> Replica

@@ -20,7 +20,7 @@ use Rattle.hermes.specs.Store.{slot, padded}
 use Rattle.hermes.specs.Event.{numberOf}
 use Rattle.hermes.specs.Node.{Node, Outcome, recordOf, apply, newcomer}
 use Rattle.hermes.specs.Run.{Entry, Group, nodeAfter, result, advance, run}
-use Rattle.hermes.specs.Agreement.{FreshStart, Started, AsIssued, Entries, Sees, Shows, Alike, Validation, validates, Agreement, Demand3By, Demand3}
+use Rattle.hermes.specs.Agreement.{FreshStart, Started, AsIssued, Entries, Sees, Shows, Alike, Validation, validates, Agreement, Demand3Any, Demand3}
 use Rattle.hermes.proofs.Members.{has-zero}
 use Rattle.hermes.proofs.Order.{higher-order, notAfter-refl, notAfter-trans}
 use Rattle.hermes.proofs.Store.{zeros, slot-zero}
@@ -219,7 +219,7 @@ module _ (wins : ℕ → ℕ → Bool) (ord : TieOrder wins) (member : ℕ → B
 -- ---- the theorems
 
 -- over every strict total order of ties
-pub agreement-by : (wins : ℕ → ℕ → Bool) → TieOrder wins → Demand3By wins
+pub agreement-by : Demand3Any
 agreement-by wins ord = claim wins ord
 
 -- demand 3

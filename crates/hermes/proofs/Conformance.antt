@@ -331,8 +331,18 @@ start-follows k view table store = record { accepted = (to, from); does = λ a i
 
 view-follows : (n : Node) (epoch alive : ℕ) → ViewFollows n epoch alive
 unfolding viewed view
-view-follows n epoch alive = record { accepted = (to (firstNo questions) refl, from); does = view-frame n epoch alive .accepted; refused = view-frame n epoch alive .refused }
+view-follows n epoch alive = record {
+  accepted = (to (firstNo questions) refl, from);
+  does = λ a. let q = view-frame n epoch alive .accepted a in
+      record { aliveNodes = ap (λ (x : Node). x .me .view) q; epochID = ap (λ (x : Node). x .me .epoch) q; node = ap (λ (x : Node). x .me .number) q; send = quiet (firstNo questions) };
+  unchanged = (refl, refl);
+  refused = λ a. (view-frame n epoch alive .refused a, quiet (firstNo questions));
+}
   where
+    quiet : (k : ℕ) → sentBy (answerOf (admissionNumber (admissionOf k (record { number = n .me .number; epoch = epoch; view = alive }))) None) ≡ None
+    quiet zero = refl
+    quiet (suc k) = refl
+
     questions : List Question
     questions = viewQuestions (n .me) epoch alive
 

@@ -12,11 +12,13 @@ use Rattle.hermes.specs.declared.message.Outgoing.the-variants.{None, Se
 use Rattle.hermes.specs.declared.event.Event.{Event}
 use Rattle.hermes.specs.declared.event.Event.the-variants.{Read}
 use Rattle.hermes.specs.declared.event.Answer.the-variants.{Accepted, Refused}
+use Rattle.hermes.specs.Order.{higher}
 use Rattle.hermes.specs.Store.{slot, valueAt}
 use Rattle.hermes.specs.Event.{Step, refusal, step, partOf, readPart, bodyOf, leavingBody}
 use Rattle.hermes.specs.Node.{Node, Outcome, recordOf, apply}
 use Rattle.hermes.specs.Frame.{bytesAfter, Changed}
-use Rattle.hermes.specs.Locality.{EqualAt, AnswersAlike, Locality, ReadLocality}
+use Rattle.hermes.specs.Locality.{EqualAt, AnswersAlike, Locality, ReadLocality, Demand1}
+use Rattle.hermes.proofs.Frame.{event-frame, view-frame, start-frame}
 use Rattle.hermes.proofs.Store.{value-slot}
 use Rattle.hermes.specs.Guards.{AllYes}
 use Rattle.hermes.proofs.Guards.{event-passed}
@@ -86,3 +88,9 @@ read-locality i n m q = go (refusalOf n i Read []) refl
     go : (k : ℕ) → refusalOf n i Read [] ≡ k → partOf (refusalOf n i Read []) (valueAt i (recordOf i n .len) (n .store)) ≡ partOf (refusalOf m i Read []) (valueAt i (recordOf i m .len) (m .store))
     go zero z = ap₂ partOf same (value n z ∙ (λ t. take (q .here t .len) (q .bytes t)) ∙ sym (value m (sym same ∙ z)))
     go (suc k) z = rw (z, sym same ∙ z)
+
+-- ---- the theorem
+
+-- demand 1
+pub confinement : Demand1
+confinement = record { event = event-frame higher; view = view-frame; start = start-frame; locality = locality higher; readLocality = read-locality }

@@ -8,7 +8,7 @@ use Rattle.hermes.specs.declared.record.Record.{Record}
 use Rattle.hermes.specs.declared.record.State.the-variants.{Valid}
 use Rattle.hermes.specs.declared.event.Admission.the-variants.{Admitted}
 use Rattle.hermes.specs.Members.{has}
-use Rattle.hermes.specs.Order.{higher, NotAfter}
+use Rattle.hermes.specs.Order.{TieOrder, higher, NotAfter}
 use Rattle.hermes.specs.Store.{slot}
 use Rattle.hermes.specs.Event.{numberOf}
 use Rattle.hermes.specs.Node.{Node, recordOf, start}
@@ -93,6 +93,10 @@ module _ (wins : ℕ → ℕ → Bool) where
   Demand3By = (member : ℕ → Bool) (count : ℕ) (issued : ℕ → ℕ) (g : Group) → Started member count issued g
       → (entries : List Entry) → Entries member issued entries → Agreement member count g entries
 
--- demand 3, with document 01's order of ties; `proofs/Agreement` proves it
+-- demand 3, over every strict total order of ties
+abbrev pub Demand3Any : Type 0
+Demand3Any = (wins : ℕ → ℕ → Bool) → TieOrder wins → Demand3By wins
+
+-- demand 3, with document 01's order of ties; `proofs/Agreement` proves both
 abbrev pub Demand3 : Type 0
 Demand3 = Demand3By higher

@@ -22,7 +22,7 @@ use Rattle.hermes.specs.Guards.{Question, AllYes, ask, question1, questi
 use Rattle.hermes.specs.Event.{numberOf, sentBy}
 use Rattle.hermes.specs.Node.{Node, recordOf, valueOf, apply, viewed, newcomer, start}
 use Rattle.hermes.specs.Locality.{body}
-use Rattle.hermes.specs.Source.{Vars, Sending, HInit, HReadGuard, HRead, HWriteGuard, HWrite, HReplayWriteGuard, HReplayWrite, HRcvInvGuard, HRcvInv, HRcvAckGuard, HRcvAck, HRcvValGuard, HRcvVal, HSendValsGuard, HSendVals, NodeFailureGuard, ResendGuard, Resent}
+use Rattle.hermes.specs.Source.{Vars, Sending, HInit, HReadGuard, HRead, HWriteGuard, HWrite, HReplayWriteGuard, HReplayWrite, HRcvInvGuard, HRcvInv, HRcvAckGuard, HRcvAck, HRcvValGuard, HRcvVal, HSendValsGuard, HSendVals, NodeFailureGuard, NodeFailure, ResendGuard, Resent}
 
 -- the source's variables of record i
 abbrev pub varsOf : ℕ → Node → Vars
@@ -56,10 +56,10 @@ message sender epoch m = record { sender = sender; epoch = epoch; message = m }
 -- a view: 1 and 3 are document 01's own
 pub record ViewFollows (n : Node) (epoch alive : ℕ) : Type 0 where
   pub accepted : (numberOf (viewed n epoch alive .answer) ≡ 0) ↔ (AllYes (question1 (n .me) ∷ question3 (n .me) ∷ []) × NodeFailureGuard (n .me) epoch alive)
-  -- aliveNodes and the epoch are replaced, the rest is UNCHANGED
-  pub does : numberOf (viewed n epoch alive .answer) ≡ 0
-      → viewed n epoch alive .node ≡ record { me = record { number = n .me .number; epoch = epoch; view = alive }; table = n .table; store = n .store }
-  pub refused : numberOf (viewed n epoch alive .answer) ≢ 0 → viewed n epoch alive .node ≡ n
+  pub does : numberOf (viewed n epoch alive .answer) ≡ 0 → NodeFailure (n .me) (viewed n epoch alive .node .me) epoch alive (sentBy (viewed n epoch alive .answer))
+  -- the variables of every record are UNCHANGED
+  pub unchanged : (viewed n epoch alive .node .table ≡ n .table) × (viewed n epoch alive .node .store ≡ n .store)
+  pub refused : numberOf (viewed n epoch alive .answer) ≢ 0 → (viewed n epoch alive .node ≡ n) × (sentBy (viewed n epoch alive .answer) ≡ None)
 
 -- a fresh start: 1, 2 and 3 are document 01's own, and every record is as HInit says
 pub record StartFollows (k view : ℕ) (table : List Record) (store : List ℕ) : Type 0 where

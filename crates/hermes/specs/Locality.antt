@@ -5,9 +5,12 @@ use mathlib.Core.Path.{_≡_}
 use mathlib.Core.Bool.{Bool}
 use mathlib.Core.List.{List}
 use lib.ListN.{length}
+use Rattle.hermes.specs.declared.record.Record.{Record}
 use Rattle.hermes.specs.declared.event.Event.{Event}
+use Rattle.hermes.specs.Order.{higher}
 use Rattle.hermes.specs.Store.{slot}
 use Rattle.hermes.specs.Event.{sentBy, leavingBody}
+use Rattle.hermes.specs.Frame.{EventFrame, ViewFrame, StartFrame}
 use Rattle.hermes.specs.Node.{Node, Outcome, recordOf, apply, read}
 
 pub record EqualAt (i : ℕ) (n m : Node) : Type 0 where
@@ -35,3 +38,15 @@ Locality wins = (i : ℕ) (n m : Node) → EqualAt i n m → (e : Event) (v : Li
 -- the same of the part that a read hands out
 abbrev pub ReadLocality : Type 0
 ReadLocality = (i : ℕ) (n m : Node) → EqualAt i n m → read n i ≡ read m i
+
+-- demand 1: what an event changes, and what it looks at
+pub record Demand1By (wins : ℕ → ℕ → Bool) : Type 0 where
+  pub event : (n : Node) (i : ℕ) (e : Event) (v : List ℕ) → EventFrame wins n i e v
+  pub view : (n : Node) (epoch set : ℕ) → ViewFrame n epoch set
+  pub start : (k set : ℕ) (table : List Record) (store : List ℕ) → StartFrame k set table store
+  pub locality : Locality wins
+  pub readLocality : ReadLocality
+
+-- demand 1, with document 01's order of ties; `proofs/Locality` proves it
+abbrev pub Demand1 : Type 0
+Demand1 = Demand1By higher

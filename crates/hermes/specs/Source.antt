@@ -208,6 +208,13 @@ pub record NodeFailureGuard (n : Replica) (epoch alive : ℕ) : Type 0 where
   pub oneStays : Member alive one
   pub twoStays : Member alive two
 
+-- n before, n′ after, m what is sent; the nodes' other variables are UNCHANGED
+pub record NodeFailure (n n′ : Replica) (epoch alive : ℕ) (m : Outgoing) : Type 0 where
+  pub aliveNodes : n′ .view ≡ alive
+  pub epochID : n′ .epoch ≡ epoch
+  pub node : n′ .number ≡ n .number
+  pub send : m ≡ None
+
 -- ---- no action of the source: 01, Resend
 
 abbrev pub ResendGuard : Replica → Vars → Type 0

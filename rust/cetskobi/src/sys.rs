@@ -68,10 +68,10 @@ pub struct Read {
 #[repr(C)]
 #[derive(Clone, Copy, Debug, PartialEq, Eq)]
 pub struct Admission {
-    /// 0, or the number of the question that said no.
-    pub number: u8,
     /// The identity from then on.
     pub replica: Replica,
+    /// 0, or the number of the question that said no.
+    pub number: u8,
 }
 
 /// 0 or the number of the question that said no; and the message that the packet holds.
