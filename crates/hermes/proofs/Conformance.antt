@@ -34,12 +34,13 @@ use Rattle.hermes.specs.Source as source
 use Rattle.hermes.specs.Source.{Vars, Sending, In, HInit, HReadGuard, HWriteGuard, HReplayWriteGuard, HRcvInvGuard, HRcvInv, HRcvAckGuard, HRcvValGuard, HSendValsGuard, NodeFailureGuard, ResendGuard, Resent, sendInv}
 use Rattle.hermes.specs.Conformance.{varsOf, fiveAnd, delivered, message, Follows, ViewFollows, StartFollows, Demand2By, Demand2}
 use Rattle.hermes.proofs.Tests.{and-both, is-false, or-true}
-use Rattle.hermes.proofs.Members.{Has, has-small, has-zero, within-members, members-within, others-members, members-others, with-members, members-with}
+use Rattle.hermes.proofs.Members.{Has, has-zero, within-members, members-within, others-members, members-others, adds-sender}
+use Rattle.hermes.proofs.Order.{later-greater, greater-later}
 use Rattle.hermes.proofs.Store.{value-slot, take-padded}
-use Rattle.hermes.proofs.Guards.{DeliverOwn, ResendOwn, read-own, write-own, deliver-own, validate-own, replay-own, resend-own, view-own, all-yes, none-says-no}
+use Rattle.hermes.proofs.Guards.{DeliverOwn, ResendOwn, read-own, write-own, deliver-own, validate-own, replay-own, resend-own, view-later, view-inside, all-yes, none-says-no}
 use Rattle.hermes.proofs.Steps.{next-version, step-about}
 use Rattle.hermes.proofs.Apply.{passed-zero, questionsOf, ownOf, stepOf, done, Applied, refused, accepted, applied, first-five, its-own, sound-step}
-use Rattle.hermes.proofs.Words.{one-in, in-one, is-state, state-is, equal-ts, ts-same, later-greater, greater-later, Two, size-two, two-size}
+use Rattle.hermes.proofs.Words.{one-in, in-one, is-state, state-is, equal-ts, ts-same, Two, size-two, two-size}
 use Rattle.hermes.proofs.Locality.{leavingSlot, leaving-slot}
 use Rattle.hermes.proofs.Frame.{view-frame}
 use Rattle.hermes.proofs.Start.{Begun, begun, lowest-lowest}
@@ -252,7 +253,7 @@ module _ (wins : ℕ → ℕ → Bool) (n : Node) (i sender epoch : ℕ) (t : Ti
         ),
       ))
       (λ y. record {
-        nodeRcvdAcks = λ m. (with-members (recordOf i n .acks) sender m, members-with (recordOf i n .acks) sender m (has-small (n .me .view) sender (yes (Ack t) y .known)));
+        nodeRcvdAcks = adds-sender (n .me .view) (recordOf i n .acks) sender (yes (Ack t) y .known);
         nodeLastWriter = refl;
         nodeLastWriteTS = refl;
         nodeTS = refl;
@@ -351,9 +352,9 @@ view-follows n epoch alive = record {
 
     guard : AllYes questions → NodeFailureGuard (n .me) epoch alive
     guard y =
-        let o = view-own (n .me) epoch alive y in
-        let w : Two 16 (has alive) = size-two alive (o .two) in
-        record { later = o .later; fewer = within-members alive (n .me .view) (o .inside); one = w .one; two = w .two; apart = w .apart; oneStays = w .onePasses; twoStays = w .twoPasses }
+        let (p, q) = view-inside (n .me) epoch alive y in
+        let w : Two 16 (has alive) = size-two alive q in
+        record { later = view-later (n .me) epoch alive y; fewer = within-members alive (n .me .view) p; one = w .one; two = w .two; apart = w .apart; oneStays = w .onePasses; twoStays = w .twoPasses }
 
     to : (k : ℕ) → firstNo questions ≡ k → numberOf (answerOf (admissionNumber (admissionOf k next)) None) ≡ 0
         → AllYes (question1 (n .me) ∷ question3 (n .me) ∷ []) × NodeFailureGuard (n .me) epoch alive

@@ -139,11 +139,6 @@ pub record ReplayOwn (me : Replica) (r : Record) : Type 0 where
 abbrev pub ResendOwn : Replica → Record → Type 0
 ResendOwn me r = (oneOf (r .state) (state.Write ∷ state.Replay ∷ []) ≡ true) ⊎ ((oneOf (r .state) (state.Valid ∷ []) ≡ true) × (r .writer ≡ me .number))
 
-pub record ViewOwn (me : Replica) (epoch view : ℕ) : Type 0 where
-  pub later : me .epoch < epoch
-  pub inside : within view (me .view) ≡ true
-  pub two : leb 2 (size view) ≡ true
-
 module _ (me : Replica) (r : Record) where
   pub read-own : (n : ℕ) → AllYes (own me r Read n) → oneOf (r .state) (state.Valid ∷ []) ≡ true
   read-own n y = y .0
@@ -189,11 +184,12 @@ module _ (me : Replica) (r : Record) where
       go (inl h) = inl h
       go (inr h) = let (p, q) = both (oneOf (r .state) (state.Valid ∷ [])) (eqb (r .writer) (me .number)) h in inr (p, eqb-true _ _ q)
 
--- of a view, questions 18 and 19
-pub view-own : (me : Replica) (epoch view : ℕ) → AllYes (viewQuestions me epoch view) → ViewOwn me epoch view
-view-own me epoch view y =
-    let (p, q) = both (within view (me .view)) (leb 2 (size view)) (y .1 .1 .1 .0) in
-    record { later = ltb-true (me .epoch) epoch (y .1 .1 .0); inside = p; two = q }
+-- of a view, question 18, and question 19; each by itself, since agreement needs 19 alone
+pub view-later : (me : Replica) (epoch view : ℕ) → AllYes (viewQuestions me epoch view) → me .epoch < epoch
+view-later me epoch view y = ltb-true (me .epoch) epoch (y .1 .1 .0)
+
+pub view-inside : (me : Replica) (epoch view : ℕ) → AllYes (viewQuestions me epoch view) → (within view (me .view) ≡ true) × (leb 2 (size view) ≡ true)
+view-inside me epoch view y = both (within view (me .view)) (leb 2 (size view)) (y .1 .1 .1 .0)
 
 module _ (me : Replica) (count bytes i : ℕ) (r : Record) where
   -- every answer is yes: no question says no

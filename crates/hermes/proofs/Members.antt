@@ -3,7 +3,7 @@
 use Prim.Native.Nat.{ℕ, zero, suc, _+_, _-_, _/_, _%_, _^_, _≤_, _<_, min, max}
 use mathlib.Core.Path.{_≡_, refl, sym, ap, ap₂, _∙_}
 use mathlib.Core.Bool.{Bool, true, false, cond, not, _&&_, _||_}
-use mathlib.Core.Logic.{_⊎_, inl, inr, _≢_}
+use mathlib.Core.Logic.{_⊎_, inl, inr, _≢_, _↔_}
 use native.Mathlib.Omega.{arith}
 use native.Mathlib.Decide.{ℕ-discrete, decLt}
 use native.Mathlib.Nat.{mod-lt, mod-eq-of-lt, one-mul, zero-div, div-eq-of-lt, pow-suc}
@@ -188,6 +188,10 @@ with-members s n m h = go (either (has s m) (eqb m n && ltb n 16) (sym (has-with
 pub members-with : (s n m : ℕ) → n < 16 → Has s m ⊎ (m ≡ n) → Has (with s n) m
 members-with s n m l (inl k) = rw (has-with s n m, k)
 members-with s n m l (inr e) = rw (has-with s n m, eq-eqb m n e, lt-ltb n 16 l) (or-true (has s m))
+
+-- question 11 asks that the sender is in the view, so an acknowledgement adds that sender and nobody else
+pub adds-sender : (view s n : ℕ) → Has view n → (m : ℕ) → Has (with s n) m ↔ (Has s m ⊎ (m ≡ n))
+adds-sender view s n h m = (with-members s n m, members-with s n m (has-small view n h))
 
 pub has-without : (s n m : ℕ) → has (without s n) m ≡ (has s m && not (eqb m n))
 has-without s n m = go (decLt n 16) (decLt m 16) (ℕ-discrete m n)

@@ -30,6 +30,20 @@ higher-order = record {
   total = λ a b d p. lt-ltb a b (omega (arith, d, ltb-false b a p));
 }
 
+-- `later`, read as facts, and back
+pub later-greater : (wins : ℕ → ℕ → Bool) (s t : Timestamp) → later wins s t ≡ true → (t .version < s .version) ⊎ ((s .version ≡ t .version) × (wins (s .tie) (t .tie) ≡ true))
+unfolding later
+later-greater wins s t h = go (either _ _ h)
+  where
+    go : (ltb (t .version) (s .version) ≡ true) ⊎ ((eqb (s .version) (t .version) && wins (s .tie) (t .tie)) ≡ true) → (t .version < s .version) ⊎ ((s .version ≡ t .version) × (wins (s .tie) (t .tie) ≡ true))
+    go (inl e) = inl (ltb-true _ _ e)
+    go (inr e) = let (p, q) = both _ _ e in inr (eqb-true _ _ p, q)
+
+pub greater-later : (wins : ℕ → ℕ → Bool) (s t : Timestamp) → (t .version < s .version) ⊎ ((s .version ≡ t .version) × (wins (s .tie) (t .tie) ≡ true)) → later wins s t ≡ true
+unfolding later
+greater-later wins s t (inl l) = rw (lt-ltb (t .version) (s .version) l)
+greater-later wins s t (inr (p, q)) = or-right (ltb (t .version) (s .version)) _ (and-both (eqb (s .version) (t .version)) (wins (s .tie) (t .tie)) (eq-eqb (s .version) (t .version) p) q)
+
 -- `NotAfter`, read as facts
 data Before (wins : ℕ → ℕ → Bool) (s t : Timestamp) : Type 0 where
   one : s ≡ t → Before wins s t

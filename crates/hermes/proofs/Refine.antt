@@ -35,7 +35,7 @@ use Rattle.hermes.specs.Agreement.{AsIssued}
 use Rattle.hermes.proofs.Members.{Has, within-members, others-members, has-zero, with-members}
 use Rattle.hermes.proofs.Order.{notAfter-refl, notAfter-total}
 use Rattle.hermes.proofs.Store.{take-padded, value-slot, slot-elsewhere}
-use Rattle.hermes.proofs.Guards.{KindOwn, all-yes, deliver-own, validate-own, view-own, slot-fits}
+use Rattle.hermes.proofs.Guards.{KindOwn, all-yes, deliver-own, validate-own, view-inside, slot-fits}
 use Rattle.hermes.proofs.Steps.{next-version}
 use Rattle.hermes.proofs.Apply.{stepOf, ownOf, done, Applied, refused, accepted, applied, first-five, its-own, sound-step}
 use Rattle.hermes.proofs.Protocol.{Setting, Copy, Msg, inv, ack, val, Move, stay, write, replay, rcvInv, rcvAck, rcvVal, sendVals, shrink, Honest}
@@ -259,7 +259,7 @@ module _ (wins : ℕ → ℕ → Bool) (ord : TieOrder wins) (issued : ℕ → �
           (run.event (record { answer = answerOf (admissionNumber (admissionOf k to)) None; node = record { me = identity (admissionOf k to) (n .me); table = n .table; store = n .store } }))
       go zero z = record {
         number = refl;
-        moves = shrink epoch (λ m h. within-members next (n .me .view) (view-own (n .me) epoch next (all-yes (viewQuestions (n .me) epoch next) refl z) .inside) m (rw (← q) at h)) (rw (← q));
+        moves = shrink epoch (λ m h. within-members next (n .me .view) (view-inside (n .me) epoch next (all-yes (viewQuestions (n .me) epoch next) refl z) .0) m (rw (← q) at h)) (rw (← q));
         left = λ p k. inl k;
       }
       go (suc k) z = record { number = refl; moves = stay refl; left = λ p k. inl k }

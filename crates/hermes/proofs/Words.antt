@@ -1,21 +1,21 @@
 -- The tests of the questions and the words of the source say the same: states, timestamps, and "at least two laptops".
 use Prim.Native.Nat.{ℕ, zero, suc, _+_, _≤_, _<_}
 use mathlib.Core.Path.{_≡_, refl, sym, ap, _∙_}
-use mathlib.Core.Bool.{Bool, true, false, cond, _&&_, false≢true}
+use mathlib.Core.Bool.{Bool, true, false, cond, false≢true}
 use mathlib.Core.Logic.{_⊎_, inl, inr, _≢_}
 use mathlib.Core.List.{List, [], _∷_}
 use native.Mathlib.Omega.{arith}
 use native.Mathlib.Decide.{ℕ-discrete}
-use lib.Dec.{ltb, leb, eqb}
-use borrow.Author.Tests.{ltb-true, leb-true, eqb-true, lt-ltb, le-leb, eq-eqb}
+use lib.Dec.{leb, eqb}
+use borrow.Author.Tests.{leb-true, eqb-true, le-leb, eq-eqb}
 use Rattle.hermes.specs.declared.timestamp.Timestamp.{Timestamp}
 use Rattle.hermes.specs.declared.record.State.{State}
 use Rattle.hermes.specs.declared.record.State.the-variants.{Valid, Invalid, InvalidWrite, Write, Replay}
 use Rattle.hermes.specs.Members.{has, countBelow, size}
-use Rattle.hermes.specs.Order.{later, sameTimestamp}
+use Rattle.hermes.specs.Order.{sameTimestamp}
 use Rattle.hermes.specs.Record.{code, oneOf}
-use Rattle.hermes.specs.Source.{In, equalTS, greaterTS}
-use Rattle.hermes.proofs.Tests.{both, either, or-true}
+use Rattle.hermes.specs.Source.{In, equalTS}
+use Rattle.hermes.proofs.Tests.{either, or-true}
 use Rattle.hermes.proofs.Members.{Has, has-small}
 use Rattle.hermes.proofs.Order.{timestamp-path, equal-same}
 
@@ -67,19 +67,6 @@ equal-ts e = (ap (λ (x : Timestamp). x .version) e, ap (λ (x : Timestamp). x .
 
 pub ts-same : (s t : Timestamp) → equalTS s t → sameTimestamp s t ≡ true
 ts-same s t (p, q) = equal-same s t (timestamp-path p q)
-
-pub later-greater : (wins : ℕ → ℕ → Bool) (s t : Timestamp) → later wins s t ≡ true → greaterTS wins s t
-unfolding later
-later-greater wins s t h = go (either _ _ h)
-  where
-    go : (ltb (t .version) (s .version) ≡ true) ⊎ ((eqb (s .version) (t .version) && wins (s .tie) (t .tie)) ≡ true) → greaterTS wins s t
-    go (inl e) = inl (ltb-true _ _ e)
-    go (inr e) = let (p, q) = both _ _ e in inr (eqb-true _ _ p, q)
-
-pub greater-later : (wins : ℕ → ℕ → Bool) (s t : Timestamp) → greaterTS wins s t → later wins s t ≡ true
-unfolding later
-greater-later wins s t (inl l) = rw (lt-ltb (t .version) (s .version) l)
-greater-later wins s t (inr (p, q)) = rw (eq-eqb (s .version) (t .version) p, q) (or-true (ltb (t .version) (s .version)))
 
 -- ---- at least two
 
