@@ -1,4 +1,4 @@
--- An exported event's end: what the parts of its code give is what hermes's `apply` says of the replica with its words.
+-- An exported event's end: what the parts of its code give is what hermes's `apply` says of the replica with its bytes.
 use Prim.Native.Nat.{ℕ, zero, suc, _*_}
 use mathlib.Core.Path.{_≡_, refl, sym, ap, _∙_}
 use mathlib.Core.List.{List, [], _∷_}
@@ -19,63 +19,63 @@ use Rattle.ffi.specs.declared.crossing.CetskobiReplica.{CetskobiReplica}
 use Rattle.ffi.specs.declared.crossing.CetskobiAnswer.{CetskobiAnswer}
 use Rattle.ffi.specs.declared.crossing.CetskobiRead.{CetskobiRead}
 use Rattle.ffi.specs.Crossing.{replicaOf, answerOut}
-use Rattle.words.specs.Words.{countOf, tableOf, wordsAfter, tableAfter}
+use Rattle.record_bytes.specs.Layout.{countOf, tableOf, bytesAfter, tableAfter}
 use Rattle.ffi.specs.Leaving.{PartAt}
 use Rattle.ffi.specs.Events.{nodeOf, subjectOf, Finished, Done, ReadDone}
-use Rattle.words.proofs.Lent.{length-table}
+use Rattle.record_bytes.proofs.Lent.{length-table}
 use Rattle.ffi.proofs.Parts.{cut, no-part}
-use Rattle.words.proofs.Table.{settled-step}
+use Rattle.record_bytes.proofs.Table.{settled-step}
 
--- what the code takes out of the words and hands to the engine
-pub record Taken (me : CetskobiReplica) (words : List ℕ) (i : ℕ) (who : Replica) (count : ℕ) (r : Record) : Type 0 where
+-- what the code takes out of the bytes and hands to the engine
+pub record Taken (me : CetskobiReplica) (bytes : List ℕ) (i : ℕ) (who : Replica) (count : ℕ) (r : Record) : Type 0 where
   pub identity : who ≡ replicaOf me
-  pub counted : count ≡ countOf (length words)
-  pub found : r ≡ recordAt (tableOf words) i
+  pub counted : count ≡ countOf (length bytes)
+  pub found : r ≡ recordAt (tableOf bytes) i
 
-pub taken : (me : CetskobiReplica) (words : List ℕ) (i : ℕ) (s : Subject) → s ≡ subjectOf me words i → Taken me words i (s .who) (s .count) (s .found)
-taken me words i s e =
+pub taken : (me : CetskobiReplica) (bytes : List ℕ) (i : ℕ) (s : Subject) → s ≡ subjectOf me bytes i → Taken me bytes i (s .who) (s .count) (s .found)
+taken me bytes i s e =
     record { identity = ap (λ (x : Subject). x .who) e; counted = ap (λ (x : Subject). x .count) e; found = ap (λ (x : Subject). x .found) e }
 
-module _ (me : CetskobiReplica) (words : List ℕ) (i : ℕ) (who : Replica) (count : ℕ) (r : Record) (t : Taken me words i who count r) where
+module _ (me : CetskobiReplica) (bytes : List ℕ) (i : ℕ) (who : Replica) (count : ℕ) (r : Record) (t : Taken me bytes i who count r) where
   -- the engine's effect is that of the node
-  same : (store : List ℕ) (e : Event) (v : List ℕ) → effect higher who count i r store e v ≡ effectOf higher (nodeOf me words store) i e v
-  same store e v = rw (t .identity, t .counted, t .found, length-table words)
+  same : (store : List ℕ) (e : Event) (v : List ℕ) → effect higher who count i r store e v ≡ effectOf higher (nodeOf me bytes store) i e v
+  same store e v = rw (t .identity, t .counted, t .found, length-table bytes)
 
   -- an event that stores
-  pub done : (store : List ℕ) (e : Event) (v : List ℕ) (m : Moved) (a : CetskobiAnswer) (words′ store′ : List ℕ)
+  pub done : (store : List ℕ) (e : Event) (v : List ℕ) (m : Moved) (a : CetskobiAnswer) (bytes′ store′ : List ℕ)
       → (m ≡ effect higher who count i r store e v .moved) × (store′ ≡ effect higher who count i r store e v .store)
-      → Finished words i m a words′ → Done (nodeOf me words store) words i e v a words′ store′
+      → Finished bytes i m a bytes′ → Done (nodeOf me bytes store) bytes i e v a bytes′ store′
   unfolding apply effect
-  done store e v m a words′ store′ (hm, hs) f =
-      let moves : m ≡ effectOf higher (nodeOf me words store) i e v .moved = hm ∙ ap (λ (x : Effect). x .moved) (same store e v) in
+  done store e v m a bytes′ store′ (hm, hs) f =
+      let moves : m ≡ effectOf higher (nodeOf me bytes store) i e v .moved = hm ∙ ap (λ (x : Effect). x .moved) (same store e v) in
       record {
         answer = f .answer ∙ ap (λ (x : Moved). answerOut (x .answer)) moves;
-        words = f .words ∙ ap (λ (x : Moved). wordsAfter x words i) moves;
-        table = f .table ∙ ap (λ (x : Moved). tableAfter x (tableOf words) i) moves ∙ settled-step (refusal (replicaOf me) (length (tableOf words)) (length store) i (recordAt (tableOf words) i) e (length v)) (tableOf words) i (step higher (replicaOf me) i (recordAt (tableOf words) i) e v);
+        bytes = f .bytes ∙ ap (λ (x : Moved). bytesAfter x bytes i) moves;
+        table = f .table ∙ ap (λ (x : Moved). tableAfter x (tableOf bytes) i) moves ∙ settled-step (refusal (replicaOf me) (length (tableOf bytes)) (length store) i (recordAt (tableOf bytes) i) e (length v)) (tableOf bytes) i (step higher (replicaOf me) i (recordAt (tableOf bytes) i) e v);
         store = hs ∙ ap (λ (x : Effect). x .store) (same store e v);
       }
 
   -- an event that stores nothing and looks at no value
-  pub done-quiet : (store : List ℕ) (e : Event) (m : Moved) (a : CetskobiAnswer) (words′ : List ℕ)
+  pub done-quiet : (store : List ℕ) (e : Event) (m : Moved) (a : CetskobiAnswer) (bytes′ : List ℕ)
       → effect higher who count i r store e [] ≡ record { moved = moved higher who count (length store) i r e []; store = store }
       → m ≡ moved higher who count (length store) i r e []
-      → Finished words i m a words′ → Done (nodeOf me words store) words i e [] a words′ store
-  done-quiet store e m a words′ q hm h =
-      done store e [] m a words′ store (hm ∙ ap (λ (x : Effect). x .moved) (sym q), ap (λ (x : Effect). x .store) (sym q)) h
+      → Finished bytes i m a bytes′ → Done (nodeOf me bytes store) bytes i e [] a bytes′ store
+  done-quiet store e m a bytes′ q hm h =
+      done store e [] m a bytes′ store (hm ∙ ap (λ (x : Effect). x .moved) (sym q), ap (λ (x : Effect). x .store) (sym q)) h
 
 part-read : (store : List ℕ) (i k n : ℕ) → PartAt store i (partOf k (valueAt i n store)) (length (partOf k (valueAt i n store)))
 part-read store i zero n = cut store i n
 part-read store i (suc k) n = no-part store i
 
-module _ (me : CetskobiReplica) (words : List ℕ) (i : ℕ) (who : Replica) (count : ℕ) (r : Record) (t : Taken me words i who count r) where
+module _ (me : CetskobiReplica) (bytes : List ℕ) (i : ℕ) (who : Replica) (count : ℕ) (r : Record) (t : Taken me bytes i who count r) where
   -- a read: its number and its part
   pub read-done : (store : List ℕ) (a : Answer) (part : List ℕ) (p : CetskobiRead)
       → a ≡ moved higher who count (length store) i r event.Read [] .answer → p .number ≡ numberOf a
-      → part ≡ readPart who count i r store → p .len ≡ length part → ReadDone (nodeOf me words store) i p
+      → part ≡ readPart who count i r store → p .len ≡ length part → ReadDone (nodeOf me bytes store) i p
   unfolding apply readPart
   read-done store a part p ha hn hp hl =
       let q = quiet higher who count i r store event.Read [] tt in
       record {
-        number = hn ∙ ap numberOf (ha ∙ ap (λ (x : Effect). x .moved .answer) (sym q ∙ same me words i who count r t store event.Read []));
-        part = rw (hl, hp, t .identity, t .counted, t .found, length-table words) (part-read store i (refusal (replicaOf me) (countOf (length words)) (length store) i (recordAt (tableOf words) i) event.Read 0) (recordAt (tableOf words) i .len));
+        number = hn ∙ ap numberOf (ha ∙ ap (λ (x : Effect). x .moved .answer) (sym q ∙ same me bytes i who count r t store event.Read []));
+        part = rw (hl, hp, t .identity, t .counted, t .found, length-table bytes) (part-read store i (refusal (replicaOf me) (countOf (length bytes)) (length store) i (recordAt (tableOf bytes) i) event.Read 0) (recordAt (tableOf bytes) i .len));
       }

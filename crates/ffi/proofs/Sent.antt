@@ -23,7 +23,7 @@ use Rattle.hermes.specs.Members.{with}
 use Rattle.hermes.specs.Order.{higher, later}
 use Rattle.hermes.specs.Event.{leavingBody, recipients, sentBy, send, Step, step, movedBy, deliverStep, invStep, resent, refusal, effect}
 use Rattle.hermes.specs.Node.{Node, recordAt, recordOf, leaving, apply}
-use Rattle.words.specs.Words.{tableOf}
+use Rattle.record_bytes.specs.Layout.{tableOf}
 use Rattle.ffi.specs.declared.crossing.CetskobiAnswer.{CetskobiAnswer}
 use Rattle.ffi.specs.Crossing.{messageIn, answerOut}
 use Rattle.ffi.specs.Leaving.{pickLeft, leftOf, recipientsOf, bodyOf, Delivered, PartAt}
@@ -41,10 +41,10 @@ part-of false false (Inv t) store i r o e = rw e (cut store i (r .len))
 part-of false false (Ack t) store i r o e = rw e (no-part store i)
 part-of false false (Val t) store i r o e = rw e (no-part store i)
 
-pub part-left : (words store : List ℕ) (i kind : ℕ) (r : Record) (o : Outgoing) (part : List ℕ) → r ≡ recordAt (tableOf words) i → o ≡ leftOf kind i
-    → part ≡ leavingBody o r store → PartAt store i (bodyOf words store i kind) (length part)
-part-left words store i kind r o part hr ho hp =
-    rw (hp, ho, hr) (part-of (eqb kind 0) (ltb 3 kind) (messageIn kind 0 0) store i (recordAt (tableOf words) i) (leftOf kind i) refl)
+pub part-left : (bytes store : List ℕ) (i kind : ℕ) (r : Record) (o : Outgoing) (part : List ℕ) → r ≡ recordAt (tableOf bytes) i → o ≡ leftOf kind i
+    → part ≡ leavingBody o r store → PartAt store i (bodyOf bytes store i kind) (length part)
+part-left bytes store i kind r o part hr ho hp =
+    rw (hp, ho, hr) (part-of (eqb kind 0) (ltb 3 kind) (messageIn kind 0 0) store i (recordAt (tableOf bytes) i) (leftOf kind i) refl)
 
 -- ---- what left an event
 
@@ -99,11 +99,11 @@ module _ (n : Node) (i : ℕ) (e : Event) (v : List ℕ) (sender : ℕ) (d : Del
   applied =
       answers (n .me) i sender (refusal (n .me) (length (n .table)) (length (n .store)) i (recordOf i n) e (length v)) (recordOf i n) e (step higher (n .me) i (recordOf i n) e v) (steps (n .me) i sender (recordOf i n) e v d)
 
-  module _ (before : List ℕ) (a : CetskobiAnswer) (words′ store′ : List ℕ) (done : Done n before i e v a words′ store′) where
+  module _ (before : List ℕ) (a : CetskobiAnswer) (bytes′ store′ : List ℕ) (done : Done n before i e v a bytes′ store′) where
     -- cetskobi_recipients, asked with an event's answer, gives those who get what left it
     pub recipients-after : recipientsOf (n .me) (a .kind) sender ≡ recipients (n .me) e (sentBy (apply higher n i e v .answer))
     recipients-after = rw (done .answer) (applied .0)
 
     -- cetskobi_body, asked with an event's answer on the memory that the event left, gives the bytes that what left it takes along
-    pub body-after : bodyOf words′ store′ i (a .kind) ≡ leaving (sentBy (apply higher n i e v .answer)) (apply higher n i e v .node .table) (apply higher n i e v .node .store)
+    pub body-after : bodyOf bytes′ store′ i (a .kind) ≡ leaving (sentBy (apply higher n i e v .answer)) (apply higher n i e v .node .table) (apply higher n i e v .node .store)
     body-after = rw (done .answer, done .table, done .store) (applied .1 (apply higher n i e v .node .table) (apply higher n i e v .node .store))

@@ -1,4 +1,4 @@
--- An exported event that leaves its record as found leaves every word as found.
+-- An exported event that leaves its record as found leaves every byte of the table as found.
 use Prim.Native.Nat.{ℕ, zero, suc}
 use mathlib.Core.Path.{_≡_, refl, _∙_}
 use mathlib.Core.Bool.{false}
@@ -15,9 +15,10 @@ use Rattle.hermes.specs.Event.{Step, movedBy, effect}
 use Rattle.hermes.specs.Node.{recordAt, effectOf}
 use Rattle.hermes.proofs.Guards.{event-passed}
 use Rattle.hermes.proofs.Apply.{refusalOf, stepOf}
-use Rattle.words.specs.Words.{tableOf}
-use Rattle.words.proofs.Lent.{length-table}
-use Rattle.words.proofs.Back.{settled-back}
+use Rattle.record_bytes.specs.Layout.{tableOf}
+use Rattle.record_bytes.specs.Back.{Bytes}
+use Rattle.record_bytes.proofs.Lent.{length-table}
+use Rattle.record_bytes.proofs.Back.{settled-back}
 use Rattle.ffi.specs.declared.crossing.CetskobiReplica.{CetskobiReplica}
 use Rattle.ffi.specs.declared.crossing.CetskobiAnswer.{CetskobiAnswer}
 use Rattle.ffi.specs.Crossing.{replicaOf}
@@ -28,25 +29,25 @@ same-after : (k : ℕ) (r : Record) (s : Step) → s .after ≡ r → movedBy k 
 same-after zero r s e = e
 same-after (suc k) r s e = refl
 
-module _ (me : CetskobiReplica) (words store : List ℕ) (i : ℕ) (v : List ℕ) (a : CetskobiAnswer) (words′ store′ : List ℕ) where
-  pub unmoved : (e : Event) → Done (nodeOf me words store) words i e v a words′ store′
-      → effectOf higher (nodeOf me words store) i e v .moved .after ≡ recordAt (tableOf words) i → words′ ≡ words
+module _ (me : CetskobiReplica) (bytes store : List ℕ) (i : ℕ) (v : List ℕ) (a : CetskobiAnswer) (bytes′ store′ : List ℕ) (lent : Bytes bytes) where
+  pub unmoved : (e : Event) → Done (nodeOf me bytes store) bytes i e v a bytes′ store′
+      → effectOf higher (nodeOf me bytes store) i e v .moved .after ≡ recordAt (tableOf bytes) i → bytes′ ≡ bytes
   unfolding effect
   unmoved e d h =
-      d .words ∙ settled-back (refusalOf (nodeOf me words store) i e v) words i (stepOf higher (nodeOf me words store) i e v) (λ z.
-      let c = event-passed (replicaOf me) (length (tableOf words)) (length store) i (recordAt (tableOf words) i) e (length v) z in
-      (rw (length-table words) at (c .inside), c .sound .short)) h
+      d .bytes ∙ settled-back (refusalOf (nodeOf me bytes store) i e v) bytes i (stepOf higher (nodeOf me bytes store) i e v) lent (λ z.
+      let c = event-passed (replicaOf me) (length (tableOf bytes)) (length store) i (recordAt (tableOf bytes) i) e (length v) z in
+      (rw (length-table bytes) at (c .inside), c .sound .short)) h
 
-  step-unmoved : (e : Event) → stepOf higher (nodeOf me words store) i e v .after ≡ recordAt (tableOf words) i
-      → effectOf higher (nodeOf me words store) i e v .moved .after ≡ recordAt (tableOf words) i
+  step-unmoved : (e : Event) → stepOf higher (nodeOf me bytes store) i e v .after ≡ recordAt (tableOf bytes) i
+      → effectOf higher (nodeOf me bytes store) i e v .moved .after ≡ recordAt (tableOf bytes) i
   unfolding effect
-  step-unmoved e h = same-after (refusalOf (nodeOf me words store) i e v) (recordAt (tableOf words) i) (stepOf higher (nodeOf me words store) i e v) h
+  step-unmoved e h = same-after (refusalOf (nodeOf me bytes store) i e v) (recordAt (tableOf bytes) i) (stepOf higher (nodeOf me bytes store) i e v) h
 
   -- 01, Resend: the record is unchanged
-  pub resend-unmoved : Done (nodeOf me words store) words i Resend v a words′ store′ → words′ ≡ words
+  pub resend-unmoved : Done (nodeOf me bytes store) bytes i Resend v a bytes′ store′ → bytes′ ≡ bytes
   resend-unmoved d = unmoved Resend d (step-unmoved Resend refl)
 
   -- 01, Deliver INV: "only if that stamp is greater" is it taken
-  pub inv-unmoved : (m : Received) (t : Timestamp) → m .message ≡ Inv t → later higher t (recordAt (tableOf words) i .timestamp) ≡ false
-      → Done (nodeOf me words store) words i (Deliver m) v a words′ store′ → words′ ≡ words
+  pub inv-unmoved : (m : Received) (t : Timestamp) → m .message ≡ Inv t → later higher t (recordAt (tableOf bytes) i .timestamp) ≡ false
+      → Done (nodeOf me bytes store) bytes i (Deliver m) v a bytes′ store′ → bytes′ ≡ bytes
   inv-unmoved m t e g d = unmoved (Deliver m) d (step-unmoved (Deliver m) (rw (e, g)))

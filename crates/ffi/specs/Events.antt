@@ -1,4 +1,4 @@
--- What an exported event does: that of hermes's `apply` on the replica whose table the words hold.
+-- What an exported event does: that of hermes's `apply` on the replica whose table the bytes hold.
 use Prim.Native.Nat.{ℕ}
 use mathlib.Core.Path.{_≡_}
 use mathlib.Core.List.{List, []}
@@ -15,27 +15,27 @@ use Rattle.ffi.specs.declared.crossing.CetskobiRead.{CetskobiRead}
 use Rattle.ffi.specs.declared.events.Subject.{Subject}
 use Rattle.ffi.specs.Crossing.{replicaOf, answerOut}
 use Rattle.ffi.specs.Leaving.{PartAt}
-use Rattle.words.specs.Words.{countOf, tableOf, wordsAfter, tableAfter}
+use Rattle.record_bytes.specs.Layout.{countOf, tableOf, bytesAfter, tableAfter}
 
 -- the replica with the memory that came from outside
 abbrev pub nodeOf : CetskobiReplica → List ℕ → List ℕ → Node
-nodeOf me words store = lent (replicaOf me) (tableOf words) store
+nodeOf me bytes store = lent (replicaOf me) (tableOf bytes) store
 
 -- whom an event is asked of, of how many records, and on which
 abbrev pub subjectOf : CetskobiReplica → List ℕ → ℕ → Subject
-subjectOf me words i = record { who = replicaOf me; count = countOf (length words); found = recordAt (tableOf words) i }
+subjectOf me bytes i = record { who = replicaOf me; count = countOf (length bytes); found = recordAt (tableOf bytes) i }
 
--- the answer, the words and the table that they hold, after an event that moved record i so
-pub record Finished (before : List ℕ) (i : ℕ) (m : Moved) (a : CetskobiAnswer) (words′ : List ℕ) : Type 0 where
+-- the answer, the bytes and the table that they hold, after an event that moved record i so
+pub record Finished (before : List ℕ) (i : ℕ) (m : Moved) (a : CetskobiAnswer) (bytes′ : List ℕ) : Type 0 where
   pub answer : a ≡ answerOut (m .answer)
-  pub words : words′ ≡ wordsAfter m before i
-  pub table : tableOf words′ ≡ tableAfter m (tableOf before) i
+  pub bytes : bytes′ ≡ bytesAfter m before i
+  pub table : tableOf bytes′ ≡ tableAfter m (tableOf before) i
 
--- the answer, the words, the table that they hold, and the store after event e on record i, with the value v
-pub record Done (n : Node) (before : List ℕ) (i : ℕ) (e : Event) (v : List ℕ) (a : CetskobiAnswer) (words′ store′ : List ℕ) : Type 0 where
+-- the answer, the bytes, the table that they hold, and the store after event e on record i, with the value v
+pub record Done (n : Node) (before : List ℕ) (i : ℕ) (e : Event) (v : List ℕ) (a : CetskobiAnswer) (bytes′ store′ : List ℕ) : Type 0 where
   pub answer : a ≡ answerOut (apply higher n i e v .answer)
-  pub words : words′ ≡ wordsAfter (effectOf higher n i e v .moved) before i
-  pub table : tableOf words′ ≡ apply higher n i e v .node .table
+  pub bytes : bytes′ ≡ bytesAfter (effectOf higher n i e v .moved) before i
+  pub table : tableOf bytes′ ≡ apply higher n i e v .node .table
   pub store : store′ ≡ apply higher n i e v .node .store
 
 -- 01, Read: its number, and the value as that part of the store that begins at 192 times the record's number; of a refused read the empty part

@@ -14,7 +14,7 @@ use Rattle.hermes.specs.declared.event.Event.{Event}
 use Rattle.hermes.specs.declared.event.Event.the-variants.{Read, Write, Replay, Deliver, Validate, Resend}
 use Rattle.hermes.specs.Event.{leavingBody, recipients}
 use Rattle.hermes.specs.Node.{recordAt}
-use Rattle.words.specs.Words.{tableOf}
+use Rattle.record_bytes.specs.Layout.{tableOf}
 use Rattle.ffi.specs.Crossing.{messageIn}
 
 abbrev pub pickLeft : Bool → Outgoing → Outgoing → Outgoing
@@ -36,7 +36,7 @@ recipientsOf me kind sender = recipients me (Deliver (cameFrom sender)) (leftOf 
 
 -- the bytes that a message of this kind about record i takes along
 abbrev pub bodyOf : List ℕ → List ℕ → ℕ → ℕ → List ℕ
-bodyOf words store i kind = leavingBody (leftOf kind i) (recordAt (tableOf words) i) store
+bodyOf bytes store i kind = leavingBody (leftOf kind i) (recordAt (tableOf bytes) i) store
 
 -- this is the sender of the message that the event delivered; an event that delivers none leaves no ACK, and any number will do
 abbrev pub Delivered : Event → ℕ → Type 0

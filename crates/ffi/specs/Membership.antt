@@ -1,4 +1,4 @@
--- What an exported fresh start does: that of hermes's `start` on the table that the words hold.
+-- What an exported fresh start does: that of hermes's `start` on the table that the bytes hold.
 use Prim.Native.Nat.{ℕ}
 use mathlib.Core.Path.{_≡_}
 use mathlib.Core.List.{List}
@@ -8,16 +8,16 @@ use Rattle.hermes.specs.declared.event.Admission.the-variants.{Admitted, Refuse
 use Rattle.hermes.specs.Node.{newcomer, firstRecord, start}
 use Rattle.ffi.specs.declared.crossing.CetskobiAdmission.{CetskobiAdmission}
 use Rattle.ffi.specs.Crossing.{identityOf, admissionOut}
-use Rattle.words.specs.Words.{countOf, tableOf, fill}
+use Rattle.record_bytes.specs.Layout.{countOf, tableOf, fill}
 
--- the words after an admission: every record the first one; after a refusal as they were
+-- the bytes after an admission: every record the first one; after a refusal as they were
 abbrev pub filledBy : Admission → List ℕ → ℕ → List ℕ
-filledBy (Admitted me) words view = fill (countOf (length words)) words (firstRecord view)
-filledBy (Refused k) words view = words
+filledBy (Admitted me) bytes view = fill (countOf (length bytes)) bytes (firstRecord view)
+filledBy (Refused k) bytes view = bytes
 
--- the admission, the words, the table that they hold, and the store after a fresh start
-pub record StartDone (number view : ℕ) (before : List ℕ) (bytes : List ℕ) (a : CetskobiAdmission) (words′ store′ : List ℕ) : Type 0 where
-  pub admission : a ≡ admissionOut (start number view (tableOf before) bytes .admission) (identityOf (newcomer number view))
-  pub words : words′ ≡ filledBy (start number view (tableOf before) bytes .admission) before view
-  pub table : tableOf words′ ≡ start number view (tableOf before) bytes .table
-  pub store : store′ ≡ start number view (tableOf before) bytes .store
+-- the admission, the bytes, the table that they hold, and the store after a fresh start
+pub record StartDone (number view : ℕ) (before : List ℕ) (memory : List ℕ) (a : CetskobiAdmission) (bytes′ store′ : List ℕ) : Type 0 where
+  pub admission : a ≡ admissionOut (start number view (tableOf before) memory .admission) (identityOf (newcomer number view))
+  pub bytes : bytes′ ≡ filledBy (start number view (tableOf before) memory .admission) before view
+  pub table : tableOf bytes′ ≡ start number view (tableOf before) memory .table
+  pub store : store′ ≡ start number view (tableOf before) memory .store

@@ -16,7 +16,7 @@ use Rattle.packet.specs.Reading.{bodyOf}
 use Rattle.packet.specs.Writing.{written}
 use Rattle.entries.specs.Words.{messagesIn}
 use Rattle.inbox.specs.Arrival.{receivedOf, receiptOf}
-use Rattle.words.specs.Words.{tableOf, wordsAfter}
+use Rattle.record_bytes.specs.Layout.{tableOf, bytesAfter}
 use Rattle.ffi.specs.declared.crossing.CetskobiAnswer.{CetskobiAnswer}
 use Rattle.ffi.specs.declared.packets.CetskobiFetched.{CetskobiFetched}
 use Rattle.ffi.specs.declared.packets.CetskobiWritten.{CetskobiWritten}
@@ -49,7 +49,7 @@ fetchedOut (Refused k) = fieldsOut k noFields
 
 -- ---- writing
 
--- 01, "Writing takes messages and their bodies": what the writer answers to the messages that the words hold
+-- 01, "Writing takes messages and their bodies": what the writer answers to the messages that the bytes hold
 abbrev pub packed : List ℕ → List ℕ → ℕ → Written
 packed words bodies room = written (messagesIn words) (length (messagesIn words)) bodies room
 
@@ -65,15 +65,15 @@ abbrev pub indexOf : Fetched → ℕ
 indexOf (Found e at) = e .header .index
 indexOf (Refused k) = 0
 
--- the words after the delivery of what a fetch from the packet p answered
-abbrev pub wordsArrived : Node → List ℕ → List ℕ → Fetched → List ℕ
-wordsArrived n before p (Found e at) =
-    wordsAfter (effectOf higher n (e .header .index) (Deliver (receivedOf e)) (bodyOf p (Found e at)) .moved) before (e .header .index)
-wordsArrived n before p (Refused k) = before
+-- the bytes after the delivery of what a fetch from the packet p answered
+abbrev pub bytesArrived : Node → List ℕ → List ℕ → Fetched → List ℕ
+bytesArrived n before p (Found e at) =
+    bytesAfter (effectOf higher n (e .header .index) (Deliver (receivedOf e)) (bodyOf p (Found e at)) .moved) before (e .header .index)
+bytesArrived n before p (Refused k) = before
 
--- the answer, the words, the table that they hold, and the store after it
-pub record Arrived (n : Node) (before p : List ℕ) (f : Fetched) (a : CetskobiAnswer) (words′ store′ : List ℕ) : Type 0 where
+-- the answer, the bytes, the table that they hold, and the store after it
+pub record Arrived (n : Node) (before p : List ℕ) (f : Fetched) (a : CetskobiAnswer) (bytes′ store′ : List ℕ) : Type 0 where
   pub answer : a ≡ answerOut (receiptOf higher n p f .answer)
-  pub words : words′ ≡ wordsArrived n before p f
-  pub table : tableOf words′ ≡ receiptOf higher n p f .node .table
+  pub bytes : bytes′ ≡ bytesArrived n before p f
+  pub table : tableOf bytes′ ≡ receiptOf higher n p f .node .table
   pub store : store′ ≡ receiptOf higher n p f .node .store

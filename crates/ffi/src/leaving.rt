@@ -49,10 +49,10 @@ pub extern "C" fn cetskobi_recipients(me: CetskobiReplica, kind: u8, sender: u8)
 
 // How many bytes at 192 times i a message of this kind about record i takes along, out of the memory that its event left.
 #[no_mangle]
-pub extern "C" fn cetskobi_body(words: &[u32], store: &[u8], i: usize, kind: u8) -> usize
-    ensures { λ n. ⌜ PartAt (now (store .entry)) i (bodyOf (now (words .entry)) (now (store .entry)) i kind) n ⌝ }
+pub extern "C" fn cetskobi_body(table: &[u8], store: &[u8], i: usize, kind: u8) -> usize
+    ensures { λ n. ⌜ PartAt (now (store .entry)) i (bodyOf (now (table .entry)) (now (store .entry)) i kind) n ⌝ }
 {
-    let r = words::record_at(words, i);
+    let r = record_bytes::record_at(table, i);
     let part = replica::body(left_of(kind, i), r, store);
     part.len()
 }

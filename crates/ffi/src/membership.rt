@@ -22,12 +22,12 @@ pub extern "C" fn cetskobi_view(me: CetskobiReplica, epoch: u32, set: u16) -> Ce
 pub extern "C" fn cetskobi_start(
     number: u8,
     view: u16,
-    words: &mut [u32],
+    table: &mut [u8],
     store: &mut [u8],
 ) -> CetskobiAdmission
-    ensures { λ a. ⌜ StartDone number view (now (words .entry)) (now (store .entry)) a (now (words .exit)) (now (store .exit)) ⌝ }
+    ensures { λ a. ⌜ StartDone number view (now (table .entry)) (now (store .entry)) a (now (table .exit)) (now (store .exit)) ⌝ }
 {
-    let count = words::count(words.len());
+    let count = record_bytes::count(table.len());
     let a = replica::admit(number, view, count, store.len());
     let old = CetskobiReplica {
         number: number,
@@ -36,8 +36,8 @@ pub extern "C" fn cetskobi_start(
     };
     match a {
         Admission::Admitted(_) => {
-            words::fill(words, replica::fresh_record(view));
-            words::zero(store);
+            record_bytes::fill(table, replica::fresh_record(view));
+            table::zero(store);
             crossing::admission_out(a, old)
         }
         Admission::Refused(_) => crossing::admission_out(a, old),

@@ -109,16 +109,16 @@ fn index_of(fetched: Fetched) -> usize
 #[no_mangle]
 pub extern "C" fn cetskobi_deliver_packet(
     me: CetskobiReplica,
-    words: &mut [u32],
+    table: &mut [u8],
     store: &mut [u8],
     packet: &[u8],
     i: usize,
 ) -> CetskobiAnswer
-    ensures { λ a. ⌜ Arrived (nodeOf me (now (words .entry)) (now (store .entry))) (now (words .entry)) (now (packet .entry)) (fetched (now (packet .entry)) i) a (now (words .exit)) (now (store .exit)) ⌝ }
+    ensures { λ a. ⌜ Arrived (nodeOf me (now (table .entry)) (now (store .entry))) (now (table .entry)) (now (packet .entry)) (fetched (now (packet .entry)) i) a (now (table .exit)) (now (store .exit)) ⌝ }
 {
     let fetched = packet::fetch(packet, i);
     let index = index_of(fetched);
-    let s = events::subject_of(me, words, index);
+    let s = events::subject_of(me, table, index);
     let m = inbox::deliver_fetched(s.who, s.count, s.found, store, packet, fetched);
-    events::finish(words, index, m)
+    events::finish(table, index, m)
 }

@@ -10,3 +10,4 @@ pub use reading::read;
 pub use reading::read_number;
 pub use replica::view;
 pub use starting::start;
+pub use starting::zero;

@@ -16,13 +16,13 @@ struct Begun {
 }
 
 // Every byte of the store becomes zero.
-fn zero(store: &mut [u8])
+pub fn zero(store: &mut [u8])
     ensures { λ _. ⌜ now (store .exit) ≡ replicate (length (now (store .entry))) 0 ⌝ }
 {
-    let mut k: usize = 0;
-    while k < store.len() {
-        store[k] = 0;
-        k += 1;
+    let mut at: usize = 0;
+    while at < store.len() {
+        store[at] = 0;
+        at += 1;
     }
 }
 

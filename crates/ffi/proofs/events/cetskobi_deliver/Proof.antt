@@ -25,7 +25,7 @@ same-length-2 : tie.Need-same-length-2
 same-length-2 c = search needs
 
 returns : tie.Need-returns
-returns c = let v = c .before .before .before .before .before .before .before .before .before .before .before .before .before .before .args in done (v .me) (v .words .now) (v .i) _ _ _ (taken _ _ _ _ (c .before .before .before .before .before .before .before .before .before .subject-of .ensures)) (v .store .now) (event.Deliver (receivedIn (v .message))) (v .value .now) _ _ _ _ (rw (c .before .before .before .before .before .before .before .before .received-in .ensures) at (c .before .before .before .before .before .before .deliver .ensures)) (c .before .before .finish .ensures)
+returns c = let v = c .before .before .before .before .before .before .before .before .before .before .before .before .before .before .args in done (v .me) (v .table .now) (v .i) _ _ _ (taken _ _ _ _ (c .before .before .before .before .before .before .before .before .before .subject-of .ensures)) (v .store .now) (event.Deliver (receivedIn (v .message))) (v .value .now) _ _ _ _ (rw (c .before .before .before .before .before .before .before .before .received-in .ensures) at (c .before .before .before .before .before .before .deliver .ensures)) (c .before .before .finish .ensures)
 
 pub cetskobi-deliver-spec : {M : Type 1} → statement M
 cetskobi-deliver-spec = tie.close (tie.spec subject-of-requires received-in-requires deliver-requires finish-requires same-length same-length-2 returns)

@@ -18,7 +18,7 @@ read-requires : tie.Need-read-requires
 read-requires c κs = search needs
 
 returns : tie.Need-returns
-returns c = let v = c .before .before .before .before .before .before .args in read-done (v .me) (v .words .now) (v .i) _ _ _ (taken _ _ _ _ (c .before .before .before .subject-of .ensures)) (v .store .now) _ _ _ (c .before .before .read-number .ensures) (c .before .number-out .ensures) (c .read .ensures) refl
+returns c = let v = c .before .before .before .before .before .before .args in read-done (v .me) (v .table .now) (v .i) _ _ _ (taken _ _ _ _ (c .before .before .before .subject-of .ensures)) (v .store .now) _ _ _ (c .before .before .read-number .ensures) (c .before .number-out .ensures) (c .read .ensures) refl
 
 pub cetskobi-read-spec : {M : Type 1} → statement M
 cetskobi-read-spec = tie.close (tie.spec subject-of-requires read-number-requires number-out-requires read-requires returns)

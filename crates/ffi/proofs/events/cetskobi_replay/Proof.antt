@@ -21,7 +21,7 @@ same-length : tie.Need-same-length
 same-length c = search needs
 
 returns : tie.Need-returns
-returns c = let v = c .before .before .before .before .before .before .before .before .before .args in done-quiet (v .me) (v .words .now) (v .i) _ _ _ (taken _ _ _ _ (c .before .before .before .before .before .subject-of .ensures)) (v .store .now) event.Replay _ _ _ (quiet higher _ _ _ _ _ event.Replay [] tt) (c .before .before .before .before .replay .ensures) (c .before .before .finish .ensures)
+returns c = let v = c .before .before .before .before .before .before .before .before .before .args in done-quiet (v .me) (v .table .now) (v .i) _ _ _ (taken _ _ _ _ (c .before .before .before .before .before .subject-of .ensures)) (v .store .now) event.Replay _ _ _ (quiet higher _ _ _ _ _ event.Replay [] tt) (c .before .before .before .before .replay .ensures) (c .before .before .finish .ensures)
 
 pub cetskobi-replay-spec : {M : Type 1} → statement M
 cetskobi-replay-spec = tie.close (tie.spec subject-of-requires replay-requires finish-requires same-length returns)

@@ -21,7 +21,7 @@ same-length : tie.Need-same-length
 same-length c = search needs
 
 returns : tie.Need-returns
-returns c = let v = c .before .before .before .before .before .before .before .before .before .args in done-quiet (v .me) (v .words .now) (v .i) _ _ _ (taken _ _ _ _ (c .before .before .before .before .before .subject-of .ensures)) (v .store .now) event.Validate _ _ _ (quiet higher _ _ _ _ _ event.Validate [] tt) (c .before .before .before .before .validate .ensures) (c .before .before .finish .ensures)
+returns c = let v = c .before .before .before .before .before .before .before .before .before .args in done-quiet (v .me) (v .table .now) (v .i) _ _ _ (taken _ _ _ _ (c .before .before .before .before .before .subject-of .ensures)) (v .store .now) event.Validate _ _ _ (quiet higher _ _ _ _ _ event.Validate [] tt) (c .before .before .before .before .validate .ensures) (c .before .before .finish .ensures)
 
 pub cetskobi-validate-spec : {M : Type 1} → statement M
 cetskobi-validate-spec = tie.close (tie.spec subject-of-requires validate-requires finish-requires same-length returns)

@@ -21,7 +21,7 @@ same-length-2 : tie.Need-same-length-2
 same-length-2 c = search needs
 
 returns : tie.Need-returns
-returns c = let v = c .before .before .before .before .before .before .before .before .before .before .before .before .before .args in done (v .me) (v .words .now) (v .i) _ _ _ (taken _ _ _ _ (c .before .before .before .before .before .before .before .before .subject-of .ensures)) (v .store .now) event.Write (v .value .now) _ _ _ _ (c .before .before .before .before .before .before .write .ensures) (c .before .before .finish .ensures)
+returns c = let v = c .before .before .before .before .before .before .before .before .before .before .before .before .before .args in done (v .me) (v .table .now) (v .i) _ _ _ (taken _ _ _ _ (c .before .before .before .before .before .before .before .before .subject-of .ensures)) (v .store .now) event.Write (v .value .now) _ _ _ _ (c .before .before .before .before .before .before .write .ensures) (c .before .before .finish .ensures)
 
 pub cetskobi-write-spec : {M : Type 1} → statement M
 cetskobi-write-spec = tie.close (tie.spec subject-of-requires write-requires finish-requires same-length same-length-2 returns)

@@ -13,7 +13,7 @@ same-length : tie.Need-same-length
 same-length c = search needs
 
 returns : tie.Need-returns
-returns c = record { answer = c .answer-out .ensures; words = c .before .before .before .settle .ensures .0; table = c .before .before .before .settle .ensures .1 }
+returns c = record { answer = c .answer-out .ensures; bytes = c .before .before .before .settle .ensures .0; table = c .before .before .before .settle .ensures .1 }
 
 pub finish-spec : {M : Type 1} → statement M
 finish-spec = tie.close (tie.spec settle-requires answer-out-requires same-length returns)

@@ -15,7 +15,7 @@ body-requires : tie.Need-body-requires
 body-requires c κs = search needs
 
 returns : tie.Need-returns
-returns c = let v = c .before .before .before .before .before .args in part-left (v .words .now) (v .store .now) (v .i) (v .kind) _ _ _ (c .before .before .record-at .ensures) (c .before .left-of .ensures) (c .body .ensures)
+returns c = let v = c .before .before .before .before .before .args in part-left (v .table .now) (v .store .now) (v .i) (v .kind) _ _ _ (c .before .before .record-at .ensures) (c .before .left-of .ensures) (c .body .ensures)
 
 pub cetskobi-body-spec : {M : Type 1} → statement M
 cetskobi-body-spec = tie.close (tie.spec record-at-requires left-of-requires body-requires returns)

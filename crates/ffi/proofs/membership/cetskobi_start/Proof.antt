@@ -38,10 +38,10 @@ same-length-2 : tie.Need-same-length-2
 same-length-2 c = search needs
 
 returns : tie.Need-returns
-returns c = let v = c .before .before .before .before .before .before .before .before .before .before .before .before .before .before .before .before .args in started (v .number) (v .view) (v .words .now) (v .store .now) _ _ (c .before .before .before .before .before .before .before .before .before .before .before .before .before .count .ensures) (c .before .before .before .before .before .before .before .before .before .before .before .before .admit .ensures) _ _ _ _ _ (c .before .before .before .before .before .before .before .before .before .before .enum-told .given .1) (c .before .before .before .before .before .before .before .before .fresh-record .ensures) (c .before .before .before .before .before .before .before .fill .ensures) (c .before .before .before .zero .ensures) (c .admission-out .ensures)
+returns c = let v = c .before .before .before .before .before .before .before .before .before .before .before .before .before .before .before .before .args in started (v .number) (v .view) (v .table .now) (v .store .now) _ _ (c .before .before .before .before .before .before .before .before .before .before .before .before .before .count .ensures) (c .before .before .before .before .before .before .before .before .before .before .before .before .admit .ensures) _ _ _ _ _ (c .before .before .before .before .before .before .before .before .before .before .enum-told .given .1) (c .before .before .before .before .before .before .before .before .fresh-record .ensures) (c .before .before .before .before .before .before .before .fill .ensures) (c .before .before .before .zero .ensures) (c .admission-out .ensures)
 
 returns-2 : tie.Need-returns-2
-returns-2 c = let v = c .before .before .before .before .before .before .before .args in not-started (v .number) (v .view) (v .words .now) (v .store .now) _ _ (c .before .before .before .before .count .ensures) (c .before .before .before .admit .ensures) _ _ (c .before .enum-told2 .given .1) (c .admission-out2 .ensures)
+returns-2 c = let v = c .before .before .before .before .before .before .before .args in not-started (v .number) (v .view) (v .table .now) (v .store .now) _ _ (c .before .before .before .before .count .ensures) (c .before .before .before .admit .ensures) _ _ (c .before .enum-told2 .given .1) (c .admission-out2 .ensures)
 
 pub cetskobi-start-spec : {M : Type 1} → statement M
 cetskobi-start-spec =

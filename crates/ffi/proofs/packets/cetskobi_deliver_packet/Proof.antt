@@ -31,7 +31,7 @@ returns c =
     let v = c .before .before .before .before .before .before .before .before .before .before .before .before .before .before .before .args in
     let k = c .before .before .before .before .before .before .before .before .before .before .index-of .ensures in
     rw (← c .before .before .before .before .before .before .before .before .before .before .before .fetch .ensures)
-    (arrived (v .me) (v .words .now) (v .store .now) (v .packet .now) _ _ _ _ (taken _ _ _ _ (rw k at (c .before .before .before .before .before .before .before .before .subject-of .ensures)))
+    (arrived (v .me) (v .table .now) (v .store .now) (v .packet .now) _ _ _ _ (taken _ _ _ _ (rw k at (c .before .before .before .before .before .before .before .before .subject-of .ensures)))
     _ _ _ _ (c .before .before .before .before .before .before .deliver-fetched .ensures) (rw k at (c .before .before .finish .ensures)))
 
 pub cetskobi-deliver-packet-spec : {M : Type 1} → statement M

@@ -1,55 +1,45 @@
--- The store as the loop leaves it: k bytes are zero, and the others are as they were.
-use Prim.Native.Nat.{ℕ, _≤_, _<_, _-_}
-use mathlib.Core.Path.{_≡_, refl, sym, ap, _∙_}
-use mathlib.Core.List.{List}
+-- The store as the loop leaves it: so many bytes are zero, and the others are as they were.
+use Prim.Native.Nat.{_≤_, _<_, _-_}
+use mathlib.Core.Path.{_≡_, refl, ap, _∙_}
 use native.Mathlib.Numerals.{add-one}
 use native.Mathlib.Omega.{arith}
 use borrow.Author.Needs.{needs}
-use lib.ListN.{length, set, length-set}
+use lib.ListN.{length, length-set}
 use Rattle.hermes.proofs.Filling.{filled, filled-suc, filled-all}
 use Rattle.table.proofs.starting.zero.Statement.{statement}
 use Rattle.table.proofs.starting.zero.Tie as tie
-use Rattle.table.proofs.starting.zero.Reads as reads
-use Rattle.table.proofs.starting.zero.Lts as lts
 
 abbrev Inv-loop : tie.InvT-loop
-Inv-loop store₀ k₀ store k = (k ≤ length store₀) × ((store ≡ filled 0 store₀ k) × (length store ≡ length store₀))
+Inv-loop store₀ at₀ store at = (at ≤ length store₀) × ((store ≡ filled 0 store₀ at) × (length store ≡ length store₀))
 
 abbrev μ-loop : tie.MeasureT-loop
-μ-loop store₀ k₀ store k = length store₀ - k
+μ-loop store₀ at₀ store at = length store₀ - at
 
--- src/starting.rt:23:5
 loop-holds : tie.Need-loop-holds Inv-loop μ-loop
 loop-holds c = (omega arith, (refl, refl))
 
--- src/starting.rt:24:9
 slice-write-store : tie.Need-slice-write-store Inv-loop μ-loop
 slice-write-store c = search needs
 
--- src/starting.rt:25:9
-add-k : tie.Need-add-k Inv-loop μ-loop
-add-k c = search needs
+add-at : tie.Need-add-at Inv-loop μ-loop
+add-at c = search needs
 
--- src/starting.rt:23:5
 loop-less : tie.Need-loop-less Inv-loop μ-loop
 loop-less c = search needs
 
--- src/starting.rt:23:5
 loop-again : tie.Need-loop-again Inv-loop μ-loop
 loop-again c =
     let l = c .before .loop in let a = c .before .before .args in
-    let here : l .k < length (a .store .now) = omega arith in
-    (omega arith, (rw (l .inv .1 .0, filled-suc 0 (a .store .now) (l .k) here, add-one (l .k)), simp length-set (l .inv .1 .1)))
+    let here : l .at < length (a .store .now) = omega arith in
+    (omega arith, (rw (l .inv .1 .0, filled-suc 0 (a .store .now) (l .at) here, add-one (l .at)), simp length-set (l .inv .1 .1)))
 
--- src/starting.rt:19:1
 same-length : tie.Need-same-length Inv-loop μ-loop
 same-length c = search needs
 
--- src/starting.rt:19:1
 returns : tie.Need-returns Inv-loop μ-loop
 returns c =
     let l = c .before .loop in let a = c .before .before .args in
-    let e : l .k ≡ length (a .store .now) = omega arith in
+    let e : l .at ≡ length (a .store .now) = omega arith in
     l .inv .1 .0 ∙ ap (filled 0 (a .store .now)) e ∙ filled-all 0 (a .store .now)
 
 pub zero-spec : {M : Type 1} → statement M
@@ -60,7 +50,7 @@ zero-spec =
     μ-loop
     loop-holds
     slice-write-store
-    add-k
+    add-at
     loop-less
     loop-again
     same-length

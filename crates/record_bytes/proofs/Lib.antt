@@ -1,0 +1,5 @@
+-- Laws of records as bytes.
+pub mod Back
+pub mod Lent
+pub mod RoundTrip
+pub mod Table

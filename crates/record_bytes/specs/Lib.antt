@@ -1,0 +1,3 @@
+-- Records as bytes.
+pub mod Back
+pub mod Layout

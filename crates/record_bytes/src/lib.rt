@@ -1,0 +1,10 @@
+// The table as bytes, sixteen for each record, for callers that cannot lend records.
+mod decoding;
+mod filling;
+mod putting;
+mod reading;
+
+pub use filling::fill;
+pub use putting::settle;
+pub use reading::count;
+pub use reading::record_at;

@@ -1,3 +1,0 @@
--- Records as words.
-pub mod Back
-pub mod Words
