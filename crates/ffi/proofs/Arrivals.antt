@@ -1,34 +1,40 @@
--- An exported delivery from a packet: what a fetch answered is delivered as a message from elsewhere is, or changes nothing.
+-- An exported delivery from a packet: a message found there is delivered as one from elsewhere is, and a refused fetch changes nothing.
 use Prim.Native.Nat.{ℕ}
-use mathlib.Core.Path.{_≡_, ap, _∙_}
+use mathlib.Core.Path.{_≡_, refl, sym, _∙_}
 use mathlib.Core.List.{List}
-use Rattle.hermes.specs.declared.record.Record.{Record}
-use Rattle.hermes.specs.declared.event.Replica.{Replica}
+use Rattle.hermes.specs.declared.message.Message.{Message}
+use Rattle.hermes.specs.declared.message.Message.the-variants.{Inv, Ack, Val}
 use Rattle.hermes.specs.declared.event.Event.the-variants.{Deliver}
-use Rattle.hermes.specs.declared.event.Moved.{Moved}
-use Rattle.hermes.specs.Order.{higher}
+use Rattle.hermes.specs.declared.event.Answer.the-variants as answer
+use Rattle.packet.specs.declared.entry.Entry.{Entry}
+use Rattle.packet.specs.declared.entry.Fields.{Fields}
 use Rattle.packet.specs.declared.answer.Fetched.{Fetched}
 use Rattle.packet.specs.declared.answer.Fetched.the-variants.{Found, Refused}
-use Rattle.packet.specs.Reading.{bodyOf}
-use Rattle.inbox.specs.Arrival.{receivedOf, arrivalOf}
-use Rattle.record_bytes.specs.Layout.{tableOf, bytesAfter, tableAfter}
+use Rattle.packet.specs.Entry.{kindOf, timestampOf, fieldsFor}
+use Rattle.packet.specs.Reading.{fetched, bodyOf}
 use Rattle.ffi.specs.declared.crossing.CetskobiReplica.{CetskobiReplica}
 use Rattle.ffi.specs.declared.crossing.CetskobiAnswer.{CetskobiAnswer}
-use Rattle.ffi.specs.Crossing.{answerOut}
-use Rattle.ffi.specs.Events.{nodeOf, Finished}
-use Rattle.ffi.specs.Packets.{indexOf, Arrived}
-use Rattle.ffi.proofs.Ends.{Taken, done}
+use Rattle.ffi.specs.declared.crossing.CetskobiMessage.{CetskobiMessage}
+use Rattle.ffi.specs.Crossing.{answerOut, messageIn, receivedIn}
+use Rattle.ffi.specs.Events.{nodeOf, Done}
+use Rattle.ffi.specs.Packets.{Arrived}
 
-pub arrived : (me : CetskobiReplica) (bytes store p : List ℕ) (who : Replica) (count : ℕ) (r : Record) (f : Fetched) → Taken me bytes (indexOf f) who count r
-    → (m : Moved) (a : CetskobiAnswer) (bytes′ store′ : List ℕ)
-    → (m ≡ arrivalOf higher who count r store p f .moved) × (store′ ≡ arrivalOf higher who count r store p f .store)
-    → Finished bytes (indexOf f) m a bytes′ → Arrived (nodeOf me bytes store) bytes p f a bytes′ store′
-arrived me bytes store p who count r (Found e at) t m a bytes′ store′ h f =
-    let d = done me bytes (e .header .index) who count r t store (Deliver (receivedOf e)) (bodyOf p (Found e at)) m a bytes′ store′ h f in
-    record { answer = d .answer; bytes = d .bytes; table = d .table; store = d .store }
-arrived me bytes store p who count r (Refused k) t m a bytes′ store′ (hm, hs) f = record {
-  answer = f .answer ∙ ap (λ (x : Moved). answerOut (x .answer)) hm;
-  bytes = f .bytes ∙ ap (λ (x : Moved). bytesAfter x bytes 0) hm;
-  table = f .table ∙ ap (λ (x : Moved). tableAfter x (tableOf bytes) 0) hm;
-  store = hs;
-}
+-- a message that crossed as its numbers is that message
+back : (m : Message) → messageIn (kindOf m) (timestampOf m .version) (timestampOf m .tie) ≡ m
+back (Inv t) = refl
+back (Ack t) = refl
+back (Val t) = refl
+
+-- the numbers of a packet's message
+abbrev numbers : Fields → CetskobiMessage
+numbers f = record { kind = f .kind; sender = f .sender; tie = f .tie; epoch = f .epoch; version = f .version }
+
+module _ (me : CetskobiReplica) (bytes store p : List ℕ) (i : ℕ) (f : Fetched) (fetches : f ≡ fetched p i) (a : CetskobiAnswer) where
+  pub found : (e : Entry) (at : ℕ) (b : Fields) (v bytes′ store′ : List ℕ) → f ≡ Found e at → b ≡ fieldsFor e at → v ≡ bodyOf p (Found e at)
+      → Done (nodeOf me bytes store) bytes (b .index) (Deliver (receivedIn (numbers b))) v a bytes′ store′ → Arrived (nodeOf me bytes store) bytes p (fetched p i) a bytes′ store′
+  found e at b v bytes′ store′ finds takes brings d =
+      let s = rw (takes, back (e .message), brings) at d in
+      rw (sym fetches ∙ finds) (record { answer = s .answer; bytes = s .bytes; table = s .table; store = s .store })
+
+  pub refused : (k : ℕ) → f ≡ Refused k → a ≡ answerOut (answer.Refused k) → Arrived (nodeOf me bytes store) bytes p (fetched p i) a bytes store
+  refused k refuses says = rw (sym fetches ∙ refuses) (record { answer = says; bytes = refl; table = refl; store = refl })

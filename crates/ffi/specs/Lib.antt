@@ -3,4 +3,3 @@ pub mod Leaving
 pub mod Events
 pub mod Membership
 pub mod Packets
-pub mod Playing

@@ -60,11 +60,6 @@ writtenOut (answer.Refused k) = record { number = k; len = 0 }
 
 -- ---- delivery
 
--- the record that a fetched message is about; a refused fetch changes no record
-abbrev pub indexOf : Fetched → ℕ
-indexOf (Found e at) = e .header .index
-indexOf (Refused k) = 0
-
 -- the bytes after the delivery of what a fetch from the packet p answered
 abbrev pub bytesArrived : Node → List ℕ → List ℕ → Fetched → List ℕ
 bytesArrived n before p (Found e at) =

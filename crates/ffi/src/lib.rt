@@ -4,7 +4,6 @@ mod events;
 mod leaving;
 mod membership;
 mod packets;
-mod playing;
 
 pub use crossing::CetskobiAdmission;
 pub use crossing::CetskobiAnswer;
@@ -26,4 +25,3 @@ pub use packets::CetskobiWritten;
 pub use packets::cetskobi_deliver_packet;
 pub use packets::cetskobi_fetch;
 pub use packets::cetskobi_pack;
-pub use playing::cetskobi_play;

@@ -4,11 +4,14 @@ ghost use lib.ListN.{length};
 ghost use Rattle.packet.specs.Reading.{fetched};
 ghost use Rattle.packet.specs.Writing.{outputOf};
 ghost use Rattle.entries.specs.Words.{messagesIn};
-ghost use Rattle.ffi.specs.Packets.{fetchedOut, writtenOut, packed, indexOf, Arrived};
+ghost use Rattle.ffi.specs.Packets.{fetchedOut, writtenOut, packed, Arrived};
 ghost use Rattle.ffi.specs.Events.{nodeOf};
+use crate::crossing;
 use crate::crossing::CetskobiAnswer;
+use crate::crossing::CetskobiMessage;
 use crate::crossing::CetskobiReplica;
 use crate::events;
+use hermes::Answer;
 use packet::Fetched;
 use packet::Written;
 
@@ -95,17 +98,8 @@ pub extern "C" fn cetskobi_pack(messages: &[u32], bodies: &[u8], out: &mut [u8])
     written_out(written)
 }
 
-// The record that a fetched message is about. A refused fetch is about none, and changes none.
-fn index_of(fetched: Fetched) -> usize
-    ensures { λ k. ⌜ k ≡ indexOf fetched ⌝ }
-{
-    match fetched {
-        Fetched::Found(entry, _) => entry.header.index,
-        Fetched::Refused(_) => 0,
-    }
-}
-
-// Delivery of message i of a packet, with its body, to the record that it is about.
+// Delivery of message i of a packet, with its body, to the record that it is about: that of `cetskobi_deliver`, so that
+// `replica::deliver` has one caller and the compiler inlines it.
 #[no_mangle]
 pub extern "C" fn cetskobi_deliver_packet(
     me: CetskobiReplica,
@@ -117,8 +111,19 @@ pub extern "C" fn cetskobi_deliver_packet(
     ensures { λ a. ⌜ Arrived (nodeOf me (now (table .entry)) (now (store .entry))) (now (table .entry)) (now (packet .entry)) (fetched (now (packet .entry)) i) a (now (table .exit)) (now (store .exit)) ⌝ }
 {
     let fetched = packet::fetch(packet, i);
-    let index = index_of(fetched);
-    let s = events::subject_of(me, table, index);
-    let m = inbox::deliver_fetched(s.who, s.count, s.found, store, packet, fetched);
-    events::finish(table, index, m)
+    match fetched {
+        Fetched::Found(entry, at) => {
+            let f = packet_writer::fields_for(entry, at);
+            let message = CetskobiMessage {
+                kind: f.kind,
+                sender: f.sender,
+                tie: f.tie,
+                epoch: f.epoch,
+                version: f.version,
+            };
+            let value = packet::body(packet, fetched);
+            events::cetskobi_deliver(me, table, store, f.index, message, value)
+        }
+        Fetched::Refused(k) => crossing::answer_out(Answer::Refused(k)),
+    }
 }

@@ -3,5 +3,4 @@ mod lent;
 mod one;
 
 pub use lent::receive;
-pub use one::deliver_fetched;
 pub use one::deliver_packet;

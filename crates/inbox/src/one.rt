@@ -24,7 +24,7 @@ pub(crate) fn received(entry: Entry) -> Received
 
 // What a fetch from this packet answered is delivered to r, the record that it is about, of replica me with count records and this store.
 // A refused fetch changes nothing.
-pub fn deliver_fetched(
+fn deliver_fetched(
     me: Replica,
     count: usize,
     r: Record,

@@ -1,9 +1,9 @@
--- `ffi::playing::cetskobi_play` meets its contract.
+-- `playing::cetskobi_play` meets its contract.
 use mathlib.Core.Path.{ap, _∙_}
-use Rattle.ffi.specs.Playing.{playedOut}
+use Rattle.playing.specs.Playing.{playedOut}
 use borrow.Author.Needs.{needs}
-use Rattle.ffi.proofs.playing.cetskobi_play.Statement.{statement}
-use Rattle.ffi.proofs.playing.cetskobi_play.Tie as tie
+use Rattle.playing.proofs.cetskobi_play.Statement.{statement}
+use Rattle.playing.proofs.cetskobi_play.Tie as tie
 
 play-requires : tie.Need-play-requires
 play-requires c κs = search needs

@@ -1,7 +1,7 @@
--- `ffi::playing::played_out` meets its contract.
+-- `playing::played_out` meets its contract.
 use borrow.Author.Needs.{needs}
-use Rattle.ffi.proofs.playing.played_out.Statement.{statement}
-use Rattle.ffi.proofs.playing.played_out.Tie as tie
+use Rattle.playing.proofs.played_out.Statement.{statement}
+use Rattle.playing.proofs.played_out.Tie as tie
 
 enum-known-p : tie.Need-enum-known-p
 enum-known-p c = search needs
