@@ -146,13 +146,14 @@ static void ending(void) {
     CHECK(answers(cetskobi_resend(LENT, 1), 0, 3, 4, VERSION));
 }
 
-/* A table that was filled byte by byte, at an odd address; a state that is none. */
+/* A table by its bytes, at an odd address; a byte too few and one too many; a state that is none. */
 static void bytes(void) {
     static const uint8_t before[] = {1, 4, 3, 5, 4, 3, 2, 1, 8, 7, 6, 5, 0x22, 0x81, 62, OLD};
     static const uint8_t after[] = {4, 4, 2, 4, 4, 3, 2, 1, 4, 3, 2, 1, 0, 0, 62, OLD};
-    uint8_t room[1 + CETSKOBI_RECORD_BYTES], *record = room + 1;
+    uint8_t room[1 + CETSKOBI_RECORD_BYTES + 1] = {0}, *record = room + 1;
     memcpy(record, before, sizeof before);
     CHECK(cetskobi_replay(me, record, sizeof before - 1, store, CETSKOBI_VALUE_MAX, 0).number == 2);
+    CHECK(cetskobi_replay(me, record, sizeof before + 1, store, CETSKOBI_VALUE_MAX, 0).number == 2);
     CHECK(memcmp(record, before, sizeof before) == 0);
     CHECK(answers(cetskobi_replay(me, record, sizeof before, store, CETSKOBI_VALUE_MAX, 0), 0, 1, 4, VERSION));
     CHECK(memcmp(record, after, sizeof after) == 0);
