@@ -51,6 +51,19 @@ fn no_memory() {
 }
 
 #[test]
+fn a_table_or_a_store_alone() {
+    let (table, store) = ([0; 16], [7; 192]);
+    unsafe {
+        let read = sys::cetskobi_read(ME, table.as_ptr(), 16, null(), 0, 0);
+        assert_eq!((read.number, read.len), (2, 0));
+        let read = sys::cetskobi_read(ME, null(), 0, store.as_ptr(), 192, 0);
+        assert_eq!((read.number, read.len), (2, 0));
+        assert_eq!(sys::cetskobi_body(null(), 0, store.as_ptr(), 192, 0, 1), 0);
+        assert_eq!(sys::cetskobi_body(table.as_ptr(), 16, null(), 0, 0, 1), 0);
+    }
+}
+
+#[test]
 fn an_empty_value() {
     let mut table = [0; 16];
     let mut store = [7; 192];
