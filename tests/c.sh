@@ -1,5 +1,6 @@
 #!/bin/sh
-# The engine from C: every function of the header called and its answers checked, and the example's output as stored.
+# The engine from C: every function of the header called and its answers checked, the guide's code compiled, and the example's output as
+# stored.
 cd "$(dirname "$0")/.." || exit 2
 if ! command -v cc >/dev/null 2>&1; then
     echo "no cc: the C programs were not run"
@@ -10,12 +11,20 @@ dir=$(mktemp -d) || exit 2
 trap 'rm -rf "$dir"' EXIT
 bad=0
 
-build() { # SOURCE PROGRAM
-    cc -std=c99 -Wall -Wextra -Wpedantic -Werror -O2 "$1" -Iinclude target/staticlib/libffi.a -o "$dir/$2" || bad=1
+compile() { # STANDARD ARGUMENT..
+    standard=$1
+    shift
+    cc -std="$standard" -Wall -Wextra -Wpedantic -Werror -O2 -Iinclude "$@" || bad=1
 }
 
-build tests/c/every_function.c every_function
-build examples/c/two_laptops.c two_laptops
+# Both archives whole: they share no name. The example needs no player.
+compile c11 tests/c/every_function.c -Wl,--whole-archive target/staticlib/libffi.a target/staticlib/libplaying.a -Wl,--no-whole-archive \
+    -o "$dir/every_function"
+compile c99 examples/c/two_laptops.c target/staticlib/libffi.a -o "$dir/two_laptops"
+# The guide's code.
+awk '/^```c$/ { in_c = 1; next } /^```$/ { in_c = 0 } in_c' docs/GUIDE.md >"$dir/guide.c"
+[ -s "$dir/guide.c" ] || bad=1
+compile c99 -c "$dir/guide.c" -o "$dir/guide.o"
 [ $bad = 0 ] || exit 1
 
 for name in $(grep -o 'cetskobi_[a-z_]*(' include/cetskobi.h | sort -u); do
@@ -34,5 +43,5 @@ if ! cmp -s examples/c/two_laptops.out rust/cetskobi/examples/two_laptops.out; t
     echo "the C and the Rust example do not tell the same"
     bad=1
 fi
-[ $bad = 0 ] && echo "C: every function, and the example as stored"
+[ $bad = 0 ] && echo "C: every function, the guide's code, and the example as stored"
 exit $bad

@@ -1,5 +1,5 @@
 #!/bin/sh
-# The Rust crates on the engine's archive: the wrapper's tests, the model against the papers, the engine against the model.
+# The Rust crates on the archives: the wrapper's tests, the model against the papers, the engine against the model.
 cd "$(dirname "$0")/.." || exit 2
 if ! command -v cargo >/dev/null 2>&1; then
     echo "no cargo: the Rust comparisons were not run"

@@ -12,7 +12,7 @@ static const uint8_t TEXT[] = "Blue tit, wing 62, weight 11";
 
 struct laptop {
     struct cetskobi_replica me;
-    struct cetskobi_record table[COUNT];
+    uint8_t table[COUNT * CETSKOBI_RECORD_BYTES];
     uint8_t store[COUNT * CETSKOBI_VALUE_MAX];
 };
 
@@ -21,8 +21,9 @@ struct packet {
     size_t len;
 };
 
-/* What each event on a record gets first: identity, table and store. */
-#define LENT(l) (l)->me, (uint32_t *)(l)->table, COUNT *CETSKOBI_WORDS, (l)->store, sizeof (l)->store
+/* The lent memory, and what each event on a record gets first: the identity with it. */
+#define MEMORY(l) (l)->table, sizeof (l)->table, (l)->store, sizeof (l)->store
+#define LENT(l) (l)->me, MEMORY(l)
 
 static void accepted(uint8_t number) {
     if (number != 0) {
@@ -32,8 +33,7 @@ static void accepted(uint8_t number) {
 }
 
 static void start(struct laptop *l, uint8_t number) {
-    struct cetskobi_admission a =
-        cetskobi_start(number, 3, (uint32_t *)l->table, COUNT * CETSKOBI_WORDS, l->store, sizeof l->store);
+    struct cetskobi_admission a = cetskobi_start(number, 3, MEMORY(l));
     accepted(a.number);
     l->me = a.replica;
 }
@@ -42,7 +42,7 @@ static void start(struct laptop *l, uint8_t number) {
 static struct packet send(const struct laptop *l, struct cetskobi_answer left, uint8_t inv_sender) {
     static const char *const names[] = {"none", "INV", "ACK", "VAL"};
     accepted(left.number);
-    size_t len = cetskobi_body((const uint32_t *)l->table, COUNT * CETSKOBI_WORDS, l->store, sizeof l->store, RING, left.kind);
+    size_t len = cetskobi_body(MEMORY(l), RING, left.kind);
     struct cetskobi_entry entry = {left.kind, l->me.number, l->me.epoch, RING, left.version, left.tie, (uint32_t)len};
     struct packet p;
     struct cetskobi_written w = cetskobi_pack((const uint32_t *)&entry, CETSKOBI_ENTRY_WORDS, l->store + RING * CETSKOBI_VALUE_MAX,
@@ -62,8 +62,7 @@ static struct cetskobi_answer take(struct laptop *l, const struct packet *p) {
 
 /* What the laptop's screen has. */
 static void show(const struct laptop *l) {
-    struct cetskobi_read r =
-        cetskobi_read(l->me, (const uint32_t *)l->table, COUNT * CETSKOBI_WORDS, l->store, sizeof l->store, RING);
+    struct cetskobi_read r = cetskobi_read(LENT(l), RING);
     if (r.number == 0)
         printf("  laptop %d shows: %.*s\n", l->me.number, (int)r.len, (const char *)l->store + RING * CETSKOBI_VALUE_MAX);
     else

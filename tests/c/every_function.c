@@ -1,8 +1,24 @@
 /* Calls every function of include/cetskobi.h and checks every number of the answers; few are alike, so a wrong declaration shows.
  * Run by tests/c.sh. */
 #include "cetskobi.h"
+#include <stddef.h>
 #include <stdio.h>
 #include <string.h>
+
+/* A record has its fields at the bytes that the header names, so an array of them is a table. */
+#define AT(field, place) _Static_assert(offsetof(struct cetskobi_record, field) == (place), #field)
+_Static_assert(sizeof(struct cetskobi_record) == CETSKOBI_RECORD_BYTES, "a record");
+AT(state, 0);
+AT(tie, 1);
+AT(writer, 2);
+AT(written_tie, 3);
+AT(version, 4);
+AT(written_version, 8);
+AT(acks, 12);
+AT(len, 14);
+AT(unused, 15);
+/* A message is words without gaps. */
+_Static_assert(sizeof(struct cetskobi_entry) == CETSKOBI_ENTRY_WORDS * sizeof(uint32_t), "a message");
 
 static int failed;
 
@@ -18,15 +34,15 @@ static void check(int holds, const char *fact, int line) {
 /* A version with four different bytes. */
 #define VERSION UINT32_C(0x01020304)
 
-/* Laptop 2 with view {1,2,5} at epoch 9, two records. */
-enum { COUNT = 2, TABLE_WORDS = COUNT * CETSKOBI_WORDS, STORE = COUNT * CETSKOBI_VALUE_MAX };
+/* Laptop 2 with view {1,2,5} at epoch 9, two records. What lies in their byte 15 is to stay. */
+enum { COUNT = 2, STORE = COUNT * CETSKOBI_VALUE_MAX, OLD = 9 };
 static const struct cetskobi_replica me = {.number = 2, .view = 38, .epoch = 9};
-static const struct cetskobi_record fresh = {.tie = 1, .writer = 1, .written_tie = 1};
+static const struct cetskobi_record fresh = {.tie = 1, .writer = 1, .written_tie = 1, .unused = OLD};
 static struct cetskobi_record table[COUNT];
 static uint8_t store[STORE];
 
-#define WORDS (uint32_t *)table, TABLE_WORDS
-#define LENT me, WORDS, store, STORE
+#define TABLE (uint8_t *)table, sizeof table
+#define LENT me, TABLE, store, STORE
 
 /* Record 1 as given, record 0 fresh, the store all sevens. */
 static void lay(struct cetskobi_record record) {
@@ -55,20 +71,16 @@ static int admits(struct cetskobi_admission a, int number, struct cetskobi_repli
     return a.number == number && a.replica.number == r.number && a.replica.view == r.view && a.replica.epoch == r.epoch;
 }
 
-static void layouts(void) {
-    CHECK(sizeof(struct cetskobi_record) == CETSKOBI_WORDS * sizeof(uint32_t));
-    CHECK(sizeof(struct cetskobi_entry) == CETSKOBI_ENTRY_WORDS * sizeof(uint32_t));
-}
-
 static void membership(void) {
-    memset(table, 9, sizeof table);
+    memset(table, OLD, sizeof table);
     memset(store, 7, sizeof store);
     struct cetskobi_replica newcomer = {.number = 3, .view = 38, .epoch = 0};
-    CHECK(admits(cetskobi_start(3, 38, WORDS, store, STORE), 3, newcomer));
-    CHECK(cetskobi_start(5, 38, WORDS, store, STORE - 1).number == 2);
-    CHECK(table[0].state == 0x09090909 && store[0] == 7);
+    CHECK(admits(cetskobi_start(3, 38, TABLE, store, STORE), 3, newcomer));
+    CHECK(cetskobi_start(5, 38, TABLE, store, STORE - 1).number == 2);
+    CHECK(cetskobi_start(5, 38, (uint8_t *)table, sizeof table - 1, store, STORE).number == 2);
+    CHECK(table[0].state == OLD && store[0] == 7);
     newcomer.number = 5;
-    CHECK(admits(cetskobi_start(5, 38, WORDS, store, STORE), 0, newcomer));
+    CHECK(admits(cetskobi_start(5, 38, TABLE, store, STORE), 0, newcomer));
     CHECK(is(fresh));
     CHECK(store[0] == 0 && store[STORE - 1] == 0);
 
@@ -80,18 +92,18 @@ static void membership(void) {
 
 static void writing(void) {
     const uint8_t value[CETSKOBI_VALUE_MAX + 1] = "wing";
-    lay((struct cetskobi_record){0, VERSION - 1, 5, 5, 0, 1, 0, 62});
+    lay((struct cetskobi_record){0, 5, 5, 1, VERSION - 1, 0, 0, 62, OLD});
     struct cetskobi_read r = cetskobi_read(LENT, 1);
     CHECK(r.number == 0 && r.len == 62);
     r = cetskobi_read(LENT, COUNT);
     CHECK(r.number == 4 && r.len == 0);
     CHECK(answers(cetskobi_write(LENT, 1, value, sizeof value), 8, 0, 0, 0));
     CHECK(answers(cetskobi_write(LENT, 1, value, 4), 0, 1, 2, VERSION));
-    CHECK(is((struct cetskobi_record){3, VERSION, 2, 2, VERSION, 2, 0, 4}));
+    CHECK(is((struct cetskobi_record){3, 2, 2, 2, VERSION, VERSION, 0, 4, OLD}));
     CHECK(holds("wing"));
-    CHECK(cetskobi_body(WORDS, store, STORE, 1, CETSKOBI_INV) == 4);
-    CHECK(cetskobi_body(WORDS, store, STORE, 1, CETSKOBI_ACK) == 0);
-    CHECK(cetskobi_body(WORDS, store, STORE, COUNT, CETSKOBI_INV) == 0);
+    CHECK(cetskobi_body(TABLE, store, STORE, 1, CETSKOBI_INV) == 4);
+    CHECK(cetskobi_body(TABLE, store, STORE, 1, CETSKOBI_ACK) == 0);
+    CHECK(cetskobi_body(TABLE, store, STORE, COUNT, CETSKOBI_INV) == 0);
 }
 
 static void recipients(void) {
@@ -105,7 +117,7 @@ static void delivery(void) {
     const uint8_t *value = (const uint8_t *)"weight";
     struct cetskobi_message inv = {.kind = CETSKOBI_INV, .sender = 5, .tie = 4, .epoch = 9, .version = VERSION};
     struct cetskobi_message other = inv;
-    lay((struct cetskobi_record){3, 6, 2, 2, 6, 2, 2, 62});
+    lay((struct cetskobi_record){3, 2, 2, 2, 6, 6, 2, 62, OLD});
     other.epoch = 4;
     CHECK(cetskobi_deliver(LENT, 1, other, value, 6).number == 10);
     other = inv;
@@ -116,22 +128,38 @@ static void delivery(void) {
     CHECK(cetskobi_deliver(LENT, 1, other, value, 6).number == 12);
     CHECK(cetskobi_deliver(LENT, 1, other, value, 0).number == 14);
     CHECK(answers(cetskobi_deliver(LENT, 1, inv, value, 6), 0, 2, 4, VERSION));
-    CHECK(is((struct cetskobi_record){2, VERSION, 4, 5, 6, 2, 2, 6}));
+    CHECK(is((struct cetskobi_record){2, 4, 5, 2, VERSION, 6, 2, 6, OLD}));
     CHECK(holds("weight"));
 }
 
 static void ending(void) {
-    lay((struct cetskobi_record){1, VERSION, 4, 4, 6, 2, 2, 62});
+    lay((struct cetskobi_record){1, 4, 4, 2, VERSION, 6, 2, 62, OLD});
     CHECK(answers(cetskobi_replay(LENT, 0), 16, 0, 0, 0));
     CHECK(answers(cetskobi_replay(LENT, 1), 0, 1, 4, VERSION));
-    CHECK(is((struct cetskobi_record){4, VERSION, 4, 2, VERSION, 4, 0, 62}));
+    CHECK(is((struct cetskobi_record){4, 4, 2, 4, VERSION, VERSION, 0, 62, OLD}));
     CHECK(answers(cetskobi_resend(LENT, 1), 0, 1, 4, VERSION));
-    CHECK(is((struct cetskobi_record){4, VERSION, 4, 2, VERSION, 4, 0, 62}));
+    CHECK(is((struct cetskobi_record){4, 4, 2, 4, VERSION, VERSION, 0, 62, OLD}));
     CHECK(answers(cetskobi_validate(LENT, 1), 15, 0, 0, 0));
-    table[1].acks = 34;
+    table[1].acks = 0x8122;
     CHECK(answers(cetskobi_validate(LENT, 1), 0, 3, 4, VERSION));
-    CHECK(is((struct cetskobi_record){0, VERSION, 4, 2, VERSION, 4, 34, 62}));
+    CHECK(is((struct cetskobi_record){0, 4, 2, 4, VERSION, VERSION, 0x8122, 62, OLD}));
     CHECK(answers(cetskobi_resend(LENT, 1), 0, 3, 4, VERSION));
+}
+
+/* A table by its bytes, at an odd address; a byte too few and one too many; a state that is none. */
+static void bytes(void) {
+    static const uint8_t before[] = {1, 4, 3, 5, 4, 3, 2, 1, 8, 7, 6, 5, 0x22, 0x81, 62, OLD};
+    static const uint8_t after[] = {4, 4, 2, 4, 4, 3, 2, 1, 4, 3, 2, 1, 0, 0, 62, OLD};
+    uint8_t room[1 + CETSKOBI_RECORD_BYTES + 1] = {0}, *record = room + 1;
+    memcpy(record, before, sizeof before);
+    CHECK(cetskobi_replay(me, record, sizeof before - 1, store, CETSKOBI_VALUE_MAX, 0).number == 2);
+    CHECK(cetskobi_replay(me, record, sizeof before + 1, store, CETSKOBI_VALUE_MAX, 0).number == 2);
+    CHECK(memcmp(record, before, sizeof before) == 0);
+    CHECK(answers(cetskobi_replay(me, record, sizeof before, store, CETSKOBI_VALUE_MAX, 0), 0, 1, 4, VERSION));
+    CHECK(memcmp(record, after, sizeof after) == 0);
+    record[0] = 5;
+    CHECK(answers(cetskobi_resend(me, record, sizeof before, store, CETSKOBI_VALUE_MAX, 0), 5, 0, 0, 0));
+    CHECK(record[0] == 5 && memcmp(record + 1, after + 1, sizeof after - 1) == 0);
 }
 
 static void packets(void) {
@@ -166,26 +194,26 @@ static void packets(void) {
     CHECK(cetskobi_deliver_packet(LENT, out, 41, 0).number == 20);
     CHECK(cetskobi_deliver_packet(LENT, out, 40, 1).number == 4);
     CHECK(answers(cetskobi_deliver_packet(LENT, out, 40, 0), 0, 2, 4, VERSION));
-    CHECK(is((struct cetskobi_record){1, VERSION, 4, 5, 0, 1, 0, 4}));
+    CHECK(is((struct cetskobi_record){1, 4, 5, 1, VERSION, 0, 0, 4, OLD}));
     CHECK(holds("wing"));
 }
 
 static void playing(void) {
     const char script[] = "group 2\nwrite 0 A1\n";
     uint8_t out[25 * sizeof script];
-    struct cetskobi_written w = cetskobi_play((const uint8_t *)script, strlen(script), out, 9);
-    CHECK(w.number == 255 && w.len == 0);
-    w = cetskobi_play((const uint8_t *)script, strlen(script), out, sizeof out);
-    CHECK(w.number == 0 && w.len == 10 && memcmp(out, "0 W 1 0 0\n", 10) == 0);
+    struct cetskobi_played p = cetskobi_play((const uint8_t *)script, strlen(script), out, 9);
+    CHECK(p.number == 255 && p.len == 0);
+    p = cetskobi_play((const uint8_t *)script, strlen(script), out, sizeof out);
+    CHECK(p.number == 0 && p.len == 10 && memcmp(out, "0 W 1 0 0\n", 10) == 0);
 }
 
 int main(void) {
-    layouts();
     membership();
     writing();
     recipients();
     delivery();
     ending();
+    bytes();
     packets();
     playing();
     return failed;

@@ -2,28 +2,28 @@
 
 use std::fmt;
 
-use crate::sys::{Answer, WORDS};
+use crate::sys::{Answer, RECORD_BYTES};
 use crate::{packet, raw, Envelope, Members, Message, Record, Refusal, Replica};
 
 /// A laptop on memory that the caller lends: [`Laptop::start_in`] and
 /// [`Laptop::from_parts`].
-pub type Lent<'a> = Laptop<&'a mut [u32], &'a mut [u8]>;
+pub type Lent<'a> = Laptop<&'a mut [u8], &'a mut [u8]>;
 
 /// One laptop of a group: its number, epoch and view, its records and their
 /// bytes.
 ///
 /// [`Laptop::start`] makes one that owns its memory. [`Laptop::start_in`] and
 /// [`Laptop::from_parts`] take the caller's, for software that keeps the records
-/// itself: a table of words, eight for each record ([`Record::to_words`]), and a
-/// store of 192 bytes for each.
+/// itself: a table of 16 bytes for each record ([`Record::to_bytes`]), and a store
+/// of 192 bytes for each.
 ///
 /// An event on record `i` gives `Ok` with the message that leaves, if one does,
 /// or `Err` with the question of document 01 that said no; then nothing has
 /// changed. Every number and every slice may be passed.
 #[derive(Clone, PartialEq, Eq)]
-pub struct Laptop<W = Vec<u32>, S = Vec<u8>> {
+pub struct Laptop<T = Vec<u8>, S = Vec<u8>> {
     me: Replica,
-    words: W,
+    table: T,
     store: S,
 }
 
@@ -39,13 +39,13 @@ impl Laptop {
     pub fn start(number: u8, view: impl Into<Members>, count: usize) -> Result<Laptop, Refusal> {
         // One record beyond the most is as wrong as a million.
         let count = count.min(Record::COUNT_MAX + 1);
-        let words = vec![0; count * WORDS];
+        let table = vec![0; count * RECORD_BYTES];
         let store = vec![0; count * Record::VALUE_MAX];
-        Laptop::start_in(number, view, words, store)
+        Laptop::start_in(number, view, table, store)
     }
 }
 
-impl<W: AsMut<[u32]>, S: AsMut<[u8]>> Laptop<W, S> {
+impl<T: AsMut<[u8]>, S: AsMut<[u8]>> Laptop<T, S> {
     /// A fresh start in this memory, as [`Laptop::start`]: a refused one leaves
     /// the memory as it is.
     ///
@@ -55,14 +55,14 @@ impl<W: AsMut<[u32]>, S: AsMut<[u8]>> Laptop<W, S> {
     pub fn start_in(
         number: u8,
         view: impl Into<Members>,
-        mut words: W,
+        mut table: T,
         mut store: S,
     ) -> Result<Self, Refusal> {
         let view = view.into().bits();
-        let admission = raw::start(number, view, words.as_mut(), store.as_mut());
+        let admission = raw::start(number, view, table.as_mut(), store.as_mut());
         Refusal::check(admission.number)?;
         let me = admission.replica;
-        Ok(Laptop { me, words, store })
+        Ok(Laptop { me, table, store })
     }
 
     /// Saves a value as record `i`. An INV leaves, with the value.
@@ -72,8 +72,8 @@ impl<W: AsMut<[u32]>, S: AsMut<[u8]>> Laptop<W, S> {
     /// Questions 1 to 5, then [`NotWritable`](Refusal::NotWritable),
     /// [`ValueTooLong`](Refusal::ValueTooLong), [`LastVersion`](Refusal::LastVersion).
     pub fn write(&mut self, i: usize, value: &[u8]) -> Result<Option<Envelope>, Refusal> {
-        let (me, words, store) = self.parts();
-        let answer = raw::write(me, words, store, i, value);
+        let (me, table, store) = self.parts();
+        let answer = raw::write(me, table, store, i, value);
         self.answered(answer, i)
     }
 
@@ -84,8 +84,8 @@ impl<W: AsMut<[u32]>, S: AsMut<[u8]>> Laptop<W, S> {
     ///
     /// Questions 1 to 5, then [`NotReplayable`](Refusal::NotReplayable).
     pub fn replay(&mut self, i: usize) -> Result<Option<Envelope>, Refusal> {
-        let (me, words, store) = self.parts();
-        let answer = raw::replay(me, words, store, i);
+        let (me, table, store) = self.parts();
+        let answer = raw::replay(me, table, store, i);
         self.answered(answer, i)
     }
 
@@ -96,8 +96,8 @@ impl<W: AsMut<[u32]>, S: AsMut<[u8]>> Laptop<W, S> {
     ///
     /// Questions 1 to 5, then [`NotFinished`](Refusal::NotFinished).
     pub fn validate(&mut self, i: usize) -> Result<Option<Envelope>, Refusal> {
-        let (me, words, store) = self.parts();
-        let answer = raw::validate(me, words, store, i);
+        let (me, table, store) = self.parts();
+        let answer = raw::validate(me, table, store, i);
         self.answered(answer, i)
     }
 
@@ -107,8 +107,8 @@ impl<W: AsMut<[u32]>, S: AsMut<[u8]>> Laptop<W, S> {
     ///
     /// Questions 1 to 5, then [`NotResendable`](Refusal::NotResendable).
     pub fn resend(&mut self, i: usize) -> Result<Option<Envelope>, Refusal> {
-        let (me, words, store) = self.parts();
-        let answer = raw::resend(me, words, store, i);
+        let (me, table, store) = self.parts();
+        let answer = raw::resend(me, table, store, i);
         self.answered(answer, i)
     }
 
@@ -126,8 +126,8 @@ impl<W: AsMut<[u32]>, S: AsMut<[u8]>> Laptop<W, S> {
         body: &[u8],
     ) -> Result<Option<Envelope>, Refusal> {
         let i = envelope.record;
-        let (me, words, store) = self.parts();
-        let answer = raw::deliver(me, words, store, i, envelope.to_raw(), body);
+        let (me, table, store) = self.parts();
+        let answer = raw::deliver(me, table, store, i, envelope.to_raw(), body);
         self.answered(answer, i)
     }
 
@@ -137,8 +137,8 @@ impl<W: AsMut<[u32]>, S: AsMut<[u8]>> Laptop<W, S> {
     ///
     /// Those of [`packet::fetch`], then those of [`deliver`](Laptop::deliver).
     pub fn deliver_packet(&mut self, packet: &[u8], i: usize) -> Result<Option<Envelope>, Refusal> {
-        let (me, words, store) = self.parts();
-        let answer = raw::deliver_packet(me, words, store, packet, i);
+        let (me, table, store) = self.parts();
+        let answer = raw::deliver_packet(me, table, store, packet, i);
         // The answer is about the record that the message names.
         let record = match answer.kind {
             0 => 0,
@@ -147,12 +147,12 @@ impl<W: AsMut<[u32]>, S: AsMut<[u8]>> Laptop<W, S> {
         self.answered(answer, record)
     }
 
-    fn parts(&mut self) -> (Replica, &mut [u32], &mut [u8]) {
-        (self.me, self.words.as_mut(), self.store.as_mut())
+    fn parts(&mut self) -> (Replica, &mut [u8], &mut [u8]) {
+        (self.me, self.table.as_mut(), self.store.as_mut())
     }
 }
 
-impl<W, S> Laptop<W, S> {
+impl<T, S> Laptop<T, S> {
     /// The laptop's number, 0 to 15.
     pub fn number(&self) -> u8 {
         self.me.number
@@ -210,25 +210,25 @@ impl<W, S> Laptop<W, S> {
     /// use cetskobi::{Laptop, Refusal, State};
     ///
     /// # fn main() -> Result<(), Refusal> {
-    /// let mut words = [0; 8];
+    /// let mut table = [0; 16];
     /// let mut store = [0; 192];
-    /// let mut laptop = Laptop::start_in(0, 0b11, &mut words, &mut store)?;
+    /// let mut laptop = Laptop::start_in(0, 0b11, &mut table, &mut store)?;
     /// laptop.write(0, b"Wren")?;
     /// let (me, _, _) = laptop.into_parts();
     ///
     /// // Between the events the memory is the caller's to keep, not to change.
-    /// let laptop = Laptop::from_parts(me, &mut words, &mut store);
+    /// let laptop = Laptop::from_parts(me, &mut table, &mut store);
     /// assert_eq!(laptop.record(0).map(|r| r.state), Some(State::Write));
     /// # Ok(())
     /// # }
     /// ```
-    pub fn from_parts(me: Replica, words: W, store: S) -> Self {
-        Laptop { me, words, store }
+    pub fn from_parts(me: Replica, table: T, store: S) -> Self {
+        Laptop { me, table, store }
     }
 
     /// Gives identity, table and store back.
-    pub fn into_parts(self) -> (Replica, W, S) {
-        (self.me, self.words, self.store)
+    pub fn into_parts(self) -> (Replica, T, S) {
+        (self.me, self.table, self.store)
     }
 
     fn answered(&self, answer: Answer, record: usize) -> Result<Option<Envelope>, Refusal> {
@@ -243,23 +243,25 @@ impl<W, S> Laptop<W, S> {
     }
 }
 
-impl<W: AsRef<[u32]>, S: AsRef<[u8]>> Laptop<W, S> {
+impl<T: AsRef<[u8]>, S: AsRef<[u8]>> Laptop<T, S> {
     /// How many records it has.
     pub fn count(&self) -> usize {
-        match self.words().len() {
-            n if n % WORDS == 0 => n / WORDS,
-            // Words that are not eight for each record are no table.
-            _ => 0,
-        }
+        self.records().len()
     }
 
-    /// Record `i`; None beyond the table, or where its words are no record.
+    /// Record `i`; None beyond the table, or where its bytes are no record.
     pub fn record(&self, i: usize) -> Option<Record> {
-        // Words over mean that there is no table.
-        let (records, []) = self.words().as_chunks::<WORDS>() else {
-            return None;
-        };
-        records.get(i).and_then(|words| Record::from_words(*words))
+        self.records()
+            .get(i)
+            .and_then(|bytes| Record::from_bytes(*bytes))
+    }
+
+    /// The bytes of each record. Bytes over mean that there are no records.
+    fn records(&self) -> &[[u8; RECORD_BYTES]] {
+        match self.table().as_chunks() {
+            (records, []) => records,
+            _ => &[],
+        }
     }
 
     /// Whether the laptop shows record `i`: a read of it is accepted.
@@ -273,7 +275,7 @@ impl<W: AsRef<[u32]>, S: AsRef<[u8]>> Laptop<W, S> {
     ///
     /// Questions 1 to 5, then [`NotReadable`](Refusal::NotReadable).
     pub fn read(&self, i: usize) -> Result<&[u8], Refusal> {
-        let read = raw::read(self.me, self.words(), self.store(), i);
+        let read = raw::read(self.me, self.table(), self.store(), i);
         Refusal::check(read.number)?;
         Ok(self.part(i, read.len))
     }
@@ -282,13 +284,13 @@ impl<W: AsRef<[u32]>, S: AsRef<[u8]>> Laptop<W, S> {
     /// it: an INV's are the record's value, the others take none.
     pub fn body(&self, envelope: &Envelope) -> &[u8] {
         let i = envelope.record;
-        let len = raw::body(self.words(), self.store(), i, envelope.message.kind());
+        let len = raw::body(self.table(), self.store(), i, envelope.message.kind());
         self.part(i, len)
     }
 
-    /// The table: eight words for each record.
-    pub fn words(&self) -> &[u32] {
-        self.words.as_ref()
+    /// The table: 16 bytes for each record.
+    pub fn table(&self) -> &[u8] {
+        self.table.as_ref()
     }
 
     /// The store: 192 bytes for each record.
@@ -306,7 +308,7 @@ impl<W: AsRef<[u32]>, S: AsRef<[u8]>> Laptop<W, S> {
     }
 }
 
-impl<W: AsRef<[u32]>, S: AsRef<[u8]>> fmt::Debug for Laptop<W, S> {
+impl<T: AsRef<[u8]>, S: AsRef<[u8]>> fmt::Debug for Laptop<T, S> {
     fn fmt(&self, f: &mut fmt::Formatter<'_>) -> fmt::Result {
         f.debug_struct("Laptop")
             .field("number", &self.number())

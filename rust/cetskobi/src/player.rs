@@ -26,8 +26,8 @@ const PRINTED_MAX: (usize, usize) = (25, 2);
 pub fn play(script: &[u8]) -> Result<Vec<u8>, Refusal> {
     let (each, beside) = PRINTED_MAX;
     let mut out = vec![0; each * script.len().min(SCRIPT_MAX) + beside];
-    let written = raw::play(script, &mut out);
-    Refusal::check(written.number)?;
-    out.truncate(written.len);
+    let played = raw::play(script, &mut out);
+    Refusal::check(played.number)?;
+    out.truncate(played.len);
     Ok(out)
 }

@@ -2,10 +2,10 @@
 //! crate, one call a function.
 //!
 //! [`Laptop`](crate::Laptop) is the same with Rust's types. This is for software
-//! that wants the engine's own answers, for any words and any bytes: every input
-//! may be passed, also numbers of no laptop and words that are no record. An
-//! answer's `number` is 0, or that of the question of document 01 that said no;
-//! then nothing that was lent has changed.
+//! that wants the engine's own answers, for any bytes: every input may be passed,
+//! also numbers of no laptop and bytes that are no record. An answer's `number`
+//! is 0, or that of the question of document 01 that said no; then nothing that
+//! was lent has changed.
 //!
 //! A call is sound if each pointer and length come from one slice, and what is
 //! lent to be written overlaps nothing else. Rust's borrows say both.
@@ -14,15 +14,15 @@
 
 use crate::sys;
 
-pub use crate::sys::{Admission, Answer, Fetched, Message, Read, Replica, Written};
-pub use crate::sys::{MESSAGE_WORDS, WORDS};
+pub use crate::sys::{Admission, Answer, Fetched, Message, Played, Read, Replica, Written};
+pub use crate::sys::{MESSAGE_WORDS, RECORD_BYTES};
 
-/// Fresh start: the words and the store become those of fresh records, unless it
-/// is refused. The identity is of epoch 0.
-pub fn start(number: u8, view: u16, words: &mut [u32], store: &mut [u8]) -> Admission {
-    let (w, w_len, s, s_len) = table_mut(words, store);
+/// Fresh start: table and store become those of fresh records, unless it is
+/// refused. The identity is of epoch 0.
+pub fn start(number: u8, view: u16, table: &mut [u8], store: &mut [u8]) -> Admission {
+    let (t, t_len, s, s_len) = parts_mut(table, store);
     // SAFETY: two slices, borrowed mutably at once, so apart.
-    unsafe { sys::cetskobi_start(number, view, w, w_len, s, s_len) }
+    unsafe { sys::cetskobi_start(number, view, t, t_len, s, s_len) }
 }
 
 /// Change of view: the identity from then on, the old one if it is refused.
@@ -32,35 +32,35 @@ pub fn view(me: Replica, epoch: u32, set: u16) -> Admission {
 }
 
 /// Read of record `i`: the length of its value, which begins at 192 times `i`.
-pub fn read(me: Replica, words: &[u32], store: &[u8], i: usize) -> Read {
-    let (w, w_len, s, s_len) = table(words, store);
+pub fn read(me: Replica, table: &[u8], store: &[u8], i: usize) -> Read {
+    let (t, t_len, s, s_len) = parts(table, store);
     // SAFETY: two slices that are only read.
-    unsafe { sys::cetskobi_read(me, w, w_len, s, s_len, i) }
+    unsafe { sys::cetskobi_read(me, t, t_len, s, s_len, i) }
 }
 
 /// Write of a value to record `i`.
-pub fn write(me: Replica, words: &mut [u32], store: &mut [u8], i: usize, value: &[u8]) -> Answer {
-    let (w, w_len, s, s_len) = table_mut(words, store);
+pub fn write(me: Replica, table: &mut [u8], store: &mut [u8], i: usize, value: &[u8]) -> Answer {
+    let (t, t_len, s, s_len) = parts_mut(table, store);
     // SAFETY: three slices; the two that are written are borrowed mutably, so apart from all.
-    unsafe { sys::cetskobi_write(me, w, w_len, s, s_len, i, value.as_ptr(), value.len()) }
+    unsafe { sys::cetskobi_write(me, t, t_len, s, s_len, i, value.as_ptr(), value.len()) }
 }
 
 /// Delivery of a message about record `i`, with the bytes that came along.
 pub fn deliver(
     me: Replica,
-    words: &mut [u32],
+    table: &mut [u8],
     store: &mut [u8],
     i: usize,
     message: Message,
     body: &[u8],
 ) -> Answer {
-    let (w, w_len, s, s_len) = table_mut(words, store);
+    let (t, t_len, s, s_len) = parts_mut(table, store);
     // SAFETY: three slices; the two that are written are borrowed mutably, so apart from all.
     unsafe {
         sys::cetskobi_deliver(
             me,
-            w,
-            w_len,
+            t,
+            t_len,
             s,
             s_len,
             i,
@@ -72,13 +72,13 @@ pub fn deliver(
 }
 
 /// Replay of record `i`. Of the store only the length is looked at.
-pub fn replay(me: Replica, words: &mut [u32], store: &[u8], i: usize) -> Answer {
-    // SAFETY: two slices; the words are borrowed mutably, so apart.
+pub fn replay(me: Replica, table: &mut [u8], store: &[u8], i: usize) -> Answer {
+    // SAFETY: two slices; the table is borrowed mutably, so apart.
     unsafe {
         sys::cetskobi_replay(
             me,
-            words.as_mut_ptr(),
-            words.len(),
+            table.as_mut_ptr(),
+            table.len(),
             store.as_ptr(),
             store.len(),
             i,
@@ -87,13 +87,13 @@ pub fn replay(me: Replica, words: &mut [u32], store: &[u8], i: usize) -> Answer 
 }
 
 /// Validation of record `i`. Of the store only the length is looked at.
-pub fn validate(me: Replica, words: &mut [u32], store: &[u8], i: usize) -> Answer {
-    // SAFETY: two slices; the words are borrowed mutably, so apart.
+pub fn validate(me: Replica, table: &mut [u8], store: &[u8], i: usize) -> Answer {
+    // SAFETY: two slices; the table is borrowed mutably, so apart.
     unsafe {
         sys::cetskobi_validate(
             me,
-            words.as_mut_ptr(),
-            words.len(),
+            table.as_mut_ptr(),
+            table.len(),
             store.as_ptr(),
             store.len(),
             i,
@@ -101,14 +101,14 @@ pub fn validate(me: Replica, words: &mut [u32], store: &[u8], i: usize) -> Answe
     }
 }
 
-/// Resend of record `i`; no word changes.
-pub fn resend(me: Replica, words: &mut [u32], store: &[u8], i: usize) -> Answer {
-    // SAFETY: two slices; the words are borrowed mutably, so apart.
+/// Resend of record `i`; no byte changes.
+pub fn resend(me: Replica, table: &mut [u8], store: &[u8], i: usize) -> Answer {
+    // SAFETY: two slices; the table is borrowed mutably, so apart.
     unsafe {
         sys::cetskobi_resend(
             me,
-            words.as_mut_ptr(),
-            words.len(),
+            table.as_mut_ptr(),
+            table.len(),
             store.as_ptr(),
             store.len(),
             i,
@@ -118,10 +118,10 @@ pub fn resend(me: Replica, words: &mut [u32], store: &[u8], i: usize) -> Answer 
 
 /// How many bytes of record `i` a message of this kind takes along, right after
 /// the event that sent it.
-pub fn body(words: &[u32], store: &[u8], i: usize, kind: u8) -> usize {
-    let (w, w_len, s, s_len) = table(words, store);
+pub fn body(table: &[u8], store: &[u8], i: usize, kind: u8) -> usize {
+    let (t, t_len, s, s_len) = parts(table, store);
     // SAFETY: two slices that are only read.
-    unsafe { sys::cetskobi_body(w, w_len, s, s_len, i, kind) }
+    unsafe { sys::cetskobi_body(t, t_len, s, s_len, i, kind) }
 }
 
 /// Who gets a message of this kind, bit n for replica n: an ACK goes to the
@@ -140,7 +140,7 @@ pub fn fetch(packet: &[u8], i: usize) -> Fetched {
 /// Messages, of seven words each, with their bodies one behind the other, as a
 /// packet at the front of `out`.
 pub fn pack(messages: &[u32], bodies: &[u8], out: &mut [u8]) -> Written {
-    let (m, m_len, b, b_len) = table(messages, bodies);
+    let (m, m_len, b, b_len) = parts(messages, bodies);
     // SAFETY: three slices; the output is borrowed mutably, so apart from both.
     unsafe { sys::cetskobi_pack(m, m_len, b, b_len, out.as_mut_ptr(), out.len()) }
 }
@@ -148,34 +148,34 @@ pub fn pack(messages: &[u32], bodies: &[u8], out: &mut [u8]) -> Written {
 /// Delivery of message `i` of a packet.
 pub fn deliver_packet(
     me: Replica,
-    words: &mut [u32],
+    table: &mut [u8],
     store: &mut [u8],
     packet: &[u8],
     i: usize,
 ) -> Answer {
-    let (w, w_len, s, s_len) = table_mut(words, store);
+    let (t, t_len, s, s_len) = parts_mut(table, store);
     // SAFETY: three slices; the two that are written are borrowed mutably, so apart from all.
     unsafe {
-        sys::cetskobi_deliver_packet(me, w, w_len, s, s_len, packet.as_ptr(), packet.len(), i)
+        sys::cetskobi_deliver_packet(me, t, t_len, s, s_len, packet.as_ptr(), packet.len(), i)
     }
 }
 
 /// The playing program on one script: what it prints stands at the front of
 /// `out`, which has 25 bytes for each of the script and 2 more.
-pub fn play(script: &[u8], out: &mut [u8]) -> Written {
+pub fn play(script: &[u8], out: &mut [u8]) -> Played {
     // SAFETY: two slices; the output is borrowed mutably, so apart.
     unsafe { sys::cetskobi_play(script.as_ptr(), script.len(), out.as_mut_ptr(), out.len()) }
 }
 
-fn table(words: &[u32], bytes: &[u8]) -> (*const u32, usize, *const u8, usize) {
-    (words.as_ptr(), words.len(), bytes.as_ptr(), bytes.len())
+fn parts<T>(first: &[T], bytes: &[u8]) -> (*const T, usize, *const u8, usize) {
+    (first.as_ptr(), first.len(), bytes.as_ptr(), bytes.len())
 }
 
-fn table_mut(words: &mut [u32], bytes: &mut [u8]) -> (*mut u32, usize, *mut u8, usize) {
+fn parts_mut(table: &mut [u8], store: &mut [u8]) -> (*mut u8, usize, *mut u8, usize) {
     (
-        words.as_mut_ptr(),
-        words.len(),
-        bytes.as_mut_ptr(),
-        bytes.len(),
+        table.as_mut_ptr(),
+        table.len(),
+        store.as_mut_ptr(),
+        store.len(),
     )
 }

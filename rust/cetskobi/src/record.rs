@@ -2,7 +2,7 @@
 
 use std::fmt;
 
-use crate::sys::WORDS;
+use crate::sys::RECORD_BYTES;
 
 /// The state of a record.
 #[derive(Clone, Copy, Debug, PartialEq, Eq, Hash)]
@@ -21,7 +21,7 @@ pub enum State {
 }
 
 impl State {
-    /// The states in the order of their numbers in the table's words.
+    /// The states in the order of their numbers in the table.
     pub const ALL: [State; 5] = [
         State::Valid,
         State::Invalid,
@@ -102,41 +102,48 @@ impl Record {
     pub const VALUE_MAX: usize = 192;
     /// The most records of a laptop.
     pub const COUNT_MAX: usize = 4096;
-    /// The words of one record in the table.
-    pub const WORDS: usize = WORDS;
+    /// The bytes of one record in the table.
+    pub const BYTES: usize = RECORD_BYTES;
 
-    /// The record that these words of the table are. None if they are none: an
-    /// unknown state, or a number too large for its field. Every event on such
-    /// words is refused as [`UnsoundRecord`](crate::Refusal::UnsoundRecord).
-    pub fn from_words(words: [u32; WORDS]) -> Option<Record> {
-        let [state, version, tie, writer, written_version, written_tie, acks, len] = words;
+    /// The record that these bytes of the table are. None where the state is
+    /// none of the five: every event on such bytes is refused as
+    /// [`UnsoundRecord`](crate::Refusal::UnsoundRecord). Byte 15 is not looked at.
+    pub fn from_bytes(bytes: [u8; RECORD_BYTES]) -> Option<Record> {
+        #[rustfmt::skip]
+        let [
+            state, tie, writer, written_tie,
+            v0, v1, v2, v3,
+            w0, w1, w2, w3,
+            a0, a1, len, _,
+        ] = bytes;
         Some(Record {
-            state: *State::ALL.get(usize::try_from(state).ok()?)?,
+            state: *State::ALL.get(usize::from(state))?,
             timestamp: Timestamp {
-                version,
-                tie: u8::try_from(tie).ok()?,
+                version: u32::from_le_bytes([v0, v1, v2, v3]),
+                tie,
             },
-            writer: u8::try_from(writer).ok()?,
+            writer,
             written: Timestamp {
-                version: written_version,
-                tie: u8::try_from(written_tie).ok()?,
+                version: u32::from_le_bytes([w0, w1, w2, w3]),
+                tie: written_tie,
             },
-            acks: u16::try_from(acks).ok()?,
-            len: u8::try_from(len).ok()?,
+            acks: u16::from_le_bytes([a0, a1]),
+            len,
         })
     }
 
-    /// The record as words of the table.
-    pub const fn to_words(self) -> [u32; WORDS] {
-        [
-            self.state as u32,
-            self.timestamp.version,
-            self.timestamp.tie as u32,
-            self.writer as u32,
-            self.written.version,
-            self.written.tie as u32,
-            self.acks as u32,
-            self.len as u32,
-        ]
+    /// The record as bytes of the table. Byte 15, which is nobody's, is 0.
+    pub const fn to_bytes(self) -> [u8; RECORD_BYTES] {
+        let [v0, v1, v2, v3] = self.timestamp.version.to_le_bytes();
+        let [w0, w1, w2, w3] = self.written.version.to_le_bytes();
+        let [a0, a1] = self.acks.to_le_bytes();
+        #[rustfmt::skip]
+        let bytes = [
+            self.state as u8, self.timestamp.tie, self.writer, self.written.tie,
+            v0, v1, v2, v3,
+            w0, w1, w2, w3,
+            a0, a1, self.len, 0,
+        ];
+        bytes
     }
 }

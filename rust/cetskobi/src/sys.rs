@@ -7,8 +7,8 @@
 
 #![allow(unsafe_code)]
 
-/// The words of one record.
-pub const WORDS: usize = 8;
+/// The bytes of one record in the table.
+pub const RECORD_BYTES: usize = 16;
 /// The words of one message that goes into a packet.
 pub const MESSAGE_WORDS: usize = 7;
 
@@ -108,26 +108,36 @@ pub struct Written {
     pub len: usize,
 }
 
+/// 0 and how many bytes were printed; 255 and 0 beyond the player's limits.
+#[repr(C)]
+#[derive(Clone, Copy, Debug, PartialEq, Eq)]
+pub struct Played {
+    /// 0, or 255 where the script or the output is beyond the player's limits.
+    pub number: u8,
+    /// How many bytes were printed.
+    pub len: usize,
+}
+
 #[rustfmt::skip]
 unsafe extern "C" {
     /// Fresh start: see [`Laptop::start`](crate::Laptop::start).
-    pub fn cetskobi_start(number: u8, view: u16, words: *mut u32, words_len: usize, store: *mut u8, store_len: usize) -> Admission;
+    pub fn cetskobi_start(number: u8, view: u16, table: *mut u8, table_len: usize, store: *mut u8, store_len: usize) -> Admission;
     /// Change of view: see [`Laptop::change_view`](crate::Laptop::change_view).
     pub fn cetskobi_view(me: Replica, epoch: u32, set: u16) -> Admission;
     /// Read of record i: see [`Laptop::read`](crate::Laptop::read).
-    pub fn cetskobi_read(me: Replica, words: *const u32, words_len: usize, store: *const u8, store_len: usize, i: usize) -> Read;
+    pub fn cetskobi_read(me: Replica, table: *const u8, table_len: usize, store: *const u8, store_len: usize, i: usize) -> Read;
     /// Write of a value to record i: see [`Laptop::write`](crate::Laptop::write).
-    pub fn cetskobi_write(me: Replica, words: *mut u32, words_len: usize, store: *mut u8, store_len: usize, i: usize, value: *const u8, value_len: usize) -> Answer;
+    pub fn cetskobi_write(me: Replica, table: *mut u8, table_len: usize, store: *mut u8, store_len: usize, i: usize, value: *const u8, value_len: usize) -> Answer;
     /// Delivery of a message about record i: see [`Laptop::deliver`](crate::Laptop::deliver).
-    pub fn cetskobi_deliver(me: Replica, words: *mut u32, words_len: usize, store: *mut u8, store_len: usize, i: usize, message: Message, value: *const u8, value_len: usize) -> Answer;
+    pub fn cetskobi_deliver(me: Replica, table: *mut u8, table_len: usize, store: *mut u8, store_len: usize, i: usize, message: Message, value: *const u8, value_len: usize) -> Answer;
     /// Replay of record i: see [`Laptop::replay`](crate::Laptop::replay).
-    pub fn cetskobi_replay(me: Replica, words: *mut u32, words_len: usize, store: *const u8, store_len: usize, i: usize) -> Answer;
+    pub fn cetskobi_replay(me: Replica, table: *mut u8, table_len: usize, store: *const u8, store_len: usize, i: usize) -> Answer;
     /// Validation of record i: see [`Laptop::validate`](crate::Laptop::validate).
-    pub fn cetskobi_validate(me: Replica, words: *mut u32, words_len: usize, store: *const u8, store_len: usize, i: usize) -> Answer;
+    pub fn cetskobi_validate(me: Replica, table: *mut u8, table_len: usize, store: *const u8, store_len: usize, i: usize) -> Answer;
     /// Resend of record i: see [`Laptop::resend`](crate::Laptop::resend).
-    pub fn cetskobi_resend(me: Replica, words: *mut u32, words_len: usize, store: *const u8, store_len: usize, i: usize) -> Answer;
+    pub fn cetskobi_resend(me: Replica, table: *mut u8, table_len: usize, store: *const u8, store_len: usize, i: usize) -> Answer;
     /// How many bytes a message of this kind takes along: see [`Laptop::body`](crate::Laptop::body).
-    pub fn cetskobi_body(words: *const u32, words_len: usize, store: *const u8, store_len: usize, i: usize, kind: u8) -> usize;
+    pub fn cetskobi_body(table: *const u8, table_len: usize, store: *const u8, store_len: usize, i: usize, kind: u8) -> usize;
     /// Who gets a message of this kind: see [`Laptop::recipients`](crate::Laptop::recipients).
     pub fn cetskobi_recipients(me: Replica, kind: u8, sender: u8) -> u16;
     /// Message i of a packet: see [`packet::fetch`](crate::packet::fetch).
@@ -135,7 +145,7 @@ unsafe extern "C" {
     /// Messages as a packet: see [`packet::pack`](crate::packet::pack).
     pub fn cetskobi_pack(messages: *const u32, messages_len: usize, bodies: *const u8, bodies_len: usize, out: *mut u8, out_len: usize) -> Written;
     /// Delivery of message i of a packet: see [`Laptop::deliver_packet`](crate::Laptop::deliver_packet).
-    pub fn cetskobi_deliver_packet(me: Replica, words: *mut u32, words_len: usize, store: *mut u8, store_len: usize, packet: *const u8, packet_len: usize, i: usize) -> Answer;
+    pub fn cetskobi_deliver_packet(me: Replica, table: *mut u8, table_len: usize, store: *mut u8, store_len: usize, packet: *const u8, packet_len: usize, i: usize) -> Answer;
     /// The playing program on one script: see [`play`](fn@crate::play).
-    pub fn cetskobi_play(script: *const u8, script_len: usize, out: *mut u8, out_len: usize) -> Written;
+    pub fn cetskobi_play(script: *const u8, script_len: usize, out: *mut u8, out_len: usize) -> Played;
 }

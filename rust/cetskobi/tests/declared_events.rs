@@ -9,13 +9,16 @@ const ME: Replica = Replica {
     view: 0b10_0110,
     epoch: 9,
 };
-/// A version with four different bytes.
+/// A version with four different bytes: 4, 3, 2, 1 in the table.
 const VERSION: u32 = 0x0102_0304;
 
-const FRESH: [u32; WORDS] = [0, 0, 1, 1, 0, 1, 0, 0];
+/// A record as the table has it. The last byte is nobody's, and stays.
+type Bytes = [u8; RECORD_BYTES];
+
+const FRESH: Bytes = [0, 1, 1, 1, 0, 0, 0, 0, 0, 0, 0, 0, 0, 0, 0, 9];
 
 /// A table whose record 1 is this one, record 0 fresh; its store.
-fn table(record: [u32; WORDS]) -> (Vec<u32>, Vec<u8>) {
+fn table(record: Bytes) -> (Vec<u8>, Vec<u8>) {
     ([FRESH, record].concat(), vec![7; 2 * 192])
 }
 
@@ -30,14 +33,14 @@ fn answer(number: u8, kind: u8, tie: u8, version: u32) -> Answer {
 
 #[test]
 fn start() {
-    let mut words = vec![9; 2 * WORDS];
+    let mut table = vec![9; 2 * RECORD_BYTES];
     let mut store = vec![7; 2 * 192];
     let mut call = |number, view| unsafe {
         cetskobi_start(
             number,
             view,
-            words.as_mut_ptr(),
-            words.len(),
+            table.as_mut_ptr(),
+            table.len(),
             store.as_mut_ptr(),
             store.len(),
         )
@@ -51,19 +54,20 @@ fn start() {
     assert_eq!(call(16, 38), admission(1, newcomer(16, 38)));
     assert_eq!(call(3, 38), admission(3, newcomer(3, 38)));
     assert_eq!(call(5, 38), admission(0, newcomer(5, 38)));
-    assert_eq!(words, [FRESH, FRESH].concat());
+    assert_eq!(table, [FRESH, FRESH].as_flattened());
     assert_eq!(store, [0; 2 * 192]);
 }
 
 #[test]
 fn a_refused_start_changes_nothing() {
-    let mut words = vec![9; 2 * WORDS];
-    let mut store = vec![7; 2 * 192 - 1];
-    let (w, s) = (words.as_mut_ptr(), store.as_mut_ptr());
-    let admission = unsafe { cetskobi_start(5, 38, w, words.len(), s, store.len()) };
-    assert_eq!(admission.number, 2);
-    assert_eq!(words, [9; 2 * WORDS]);
-    assert_eq!(store, [7; 2 * 192 - 1]);
+    let mut table = vec![9; 2 * RECORD_BYTES];
+    let mut store = vec![7; 2 * 192];
+    let (t, s) = (table.as_mut_ptr(), store.as_mut_ptr());
+    let call = |table_len, store_len| unsafe { cetskobi_start(5, 38, t, table_len, s, store_len) };
+    assert_eq!(call(2 * RECORD_BYTES, 2 * 192 - 1).number, 2);
+    assert_eq!(call(2 * RECORD_BYTES - 1, 2 * 192).number, 2);
+    assert_eq!(table, [9; 2 * RECORD_BYTES]);
+    assert_eq!(store, [7; 2 * 192]);
 }
 
 #[test]
@@ -82,12 +86,12 @@ fn view() {
 
 #[test]
 fn read() {
-    let (words, store) = table([0, VERSION, 5, 5, 0, 1, 0, 62]);
+    let (table, store) = table([0, 5, 5, 1, 4, 3, 2, 1, 0, 0, 0, 0, 0, 0, 62, 9]);
     let call = |i| unsafe {
         cetskobi_read(
             ME,
-            words.as_ptr(),
-            words.len(),
+            table.as_ptr(),
+            table.len(),
             store.as_ptr(),
             store.len(),
             i,
@@ -99,15 +103,17 @@ fn read() {
 
 #[test]
 fn write() {
-    let (mut words, mut store) = table([0, VERSION - 1, 5, 5, 0, 1, 0, 62]);
-    let (w, s) = (words.as_mut_ptr(), store.as_mut_ptr());
+    let (mut table, mut store) = table([0, 5, 5, 1, 3, 3, 2, 1, 0, 0, 0, 0, 0, 0, 62, 9]);
+    let (t, s) = (table.as_mut_ptr(), store.as_mut_ptr());
     let value = [b"wing".as_slice(), &[9; 189]].concat();
-    let call =
-        |len| unsafe { cetskobi_write(ME, w, 2 * WORDS, s, 2 * 192, 1, value.as_ptr(), len) };
+    let call = |len| unsafe {
+        let value = value.as_ptr();
+        cetskobi_write(ME, t, 2 * RECORD_BYTES, s, 2 * 192, 1, value, len)
+    };
     assert_eq!(call(193), answer(8, 0, 0, 0));
     assert_eq!(call(4), answer(0, 1, 2, VERSION));
-    assert_eq!(words[..WORDS], FRESH);
-    assert_eq!(words[WORDS..], [3, VERSION, 2, 2, VERSION, 2, 0, 4]);
+    let written = [3, 2, 2, 2, 4, 3, 2, 1, 4, 3, 2, 1, 0, 0, 4, 9];
+    assert_eq!(table, [FRESH, written].as_flattened());
     assert_eq!(store[..192], [7; 192]);
     assert_eq!(store[192..196], *b"wing");
     assert_eq!(store[196..], [0; 188]);
@@ -115,13 +121,13 @@ fn write() {
 
 #[test]
 fn deliver() {
-    let (mut words, mut store) = table([3, 6, 2, 2, 6, 2, 0b10, 62]);
-    let (w, s) = (words.as_mut_ptr(), store.as_mut_ptr());
+    let (mut table, mut store) = table([3, 2, 2, 2, 6, 0, 0, 0, 6, 0, 0, 0, 0b10, 0, 62, 9]);
+    let (t, s) = (table.as_mut_ptr(), store.as_mut_ptr());
     let call = |message, value: &[u8]| unsafe {
         cetskobi_deliver(
             ME,
-            w,
-            2 * WORDS,
+            t,
+            2 * RECORD_BYTES,
             s,
             2 * 192,
             1,
@@ -144,54 +150,67 @@ fn deliver() {
     assert_eq!(call(Message { kind: 3, ..inv }, b"").number, 14);
     assert_eq!(call(Message { kind: 4, ..inv }, b"").number, 12);
     assert_eq!(call(inv, b"weight"), answer(0, 2, 4, VERSION));
-    assert_eq!(words[..WORDS], FRESH);
-    assert_eq!(words[WORDS..], [2, VERSION, 4, 5, 6, 2, 0b10, 6]);
+    let overtaken = [2, 4, 5, 2, 4, 3, 2, 1, 6, 0, 0, 0, 0b10, 0, 6, 9];
+    assert_eq!(table, [FRESH, overtaken].as_flattened());
     assert_eq!(store[..192], [7; 192]);
     assert_eq!(store[192..198], *b"weight");
     assert_eq!(store[198..], [0; 186]);
 }
 
-/// The three events that take the words and only look at the store's length.
-type OnWords = unsafe extern "C" fn(Replica, *mut u32, usize, *const u8, usize, usize) -> Answer;
+/// The three events that take the table and only look at the store's length.
+type OnTable = unsafe extern "C" fn(Replica, *mut u8, usize, *const u8, usize, usize) -> Answer;
 
-fn on_words(f: OnWords, i: usize, record: [u32; WORDS]) -> (Answer, Vec<u32>) {
-    let (mut words, store) = table(record);
-    let w = words.as_mut_ptr();
-    let answer = unsafe { f(ME, w, words.len(), store.as_ptr(), store.len(), i) };
-    assert_eq!(words[..WORDS], FRESH);
-    (answer, words[WORDS..].to_vec())
+fn on_table(f: OnTable, i: usize, record: Bytes) -> (Answer, Vec<u8>) {
+    let (mut table, store) = table(record);
+    let t = table.as_mut_ptr();
+    let answer = unsafe { f(ME, t, table.len(), store.as_ptr(), store.len(), i) };
+    assert_eq!(table[..RECORD_BYTES], FRESH);
+    (answer, table[RECORD_BYTES..].to_vec())
 }
 
 #[test]
 fn replay() {
-    let orphan = [1, VERSION, 4, 4, 6, 2, 0b10, 62];
-    let (replayed, words) = on_words(cetskobi_replay, 1, orphan);
+    let orphan = [1, 4, 4, 2, 4, 3, 2, 1, 6, 0, 0, 0, 0b10, 0, 62, 9];
+    let (replayed, record) = on_table(cetskobi_replay, 1, orphan);
     assert_eq!(replayed, answer(0, 1, 4, VERSION));
-    assert_eq!(words, [4, VERSION, 4, 2, VERSION, 4, 0, 62]);
-    let (refused, words) = on_words(cetskobi_replay, 0, orphan);
+    assert_eq!(record, [4, 4, 2, 4, 4, 3, 2, 1, 4, 3, 2, 1, 0, 0, 62, 9]);
+    let (refused, record) = on_table(cetskobi_replay, 0, orphan);
     assert_eq!(refused, answer(16, 0, 0, 0));
-    assert_eq!(words, orphan);
+    assert_eq!(record, orphan);
 }
 
 #[test]
 fn validate() {
-    let acknowledged = [3, VERSION, 2, 2, VERSION, 2, 0b10_0010, 62];
-    let (validated, words) = on_words(cetskobi_validate, 1, acknowledged);
+    // Acknowledged by 1 and 5, and by 8 and 15, which are not in the view.
+    let acknowledged = [3, 2, 2, 2, 4, 3, 2, 1, 4, 3, 2, 1, 0x22, 0x81, 62, 9];
+    let mut valid = acknowledged;
+    valid[0] = 0;
+    let (validated, record) = on_table(cetskobi_validate, 1, acknowledged);
     assert_eq!(validated, answer(0, 3, 2, VERSION));
-    assert_eq!(words, [0, VERSION, 2, 2, VERSION, 2, 0b10_0010, 62]);
-    let (refused, words) = on_words(cetskobi_validate, 0, acknowledged);
+    assert_eq!(record, valid);
+    let (refused, record) = on_table(cetskobi_validate, 0, acknowledged);
     assert_eq!(refused, answer(15, 0, 0, 0));
-    assert_eq!(words, acknowledged);
+    assert_eq!(record, acknowledged);
 }
 
 #[test]
 fn resend() {
     for (state, kind) in [(0, 3), (3, 1), (4, 1)] {
-        let own = [state, VERSION, 5, 2, VERSION, 5, 0b10, 62];
-        let (resent, words) = on_words(cetskobi_resend, 1, own);
+        let own = [state, 5, 2, 5, 4, 3, 2, 1, 4, 3, 2, 1, 0b10, 0, 62, 9];
+        let (resent, record) = on_table(cetskobi_resend, 1, own);
         assert_eq!(resent, answer(0, kind, 5, VERSION));
-        assert_eq!(words, own);
+        assert_eq!(record, own);
     }
-    let (refused, _) = on_words(cetskobi_resend, 0, FRESH);
+    let (refused, _) = on_table(cetskobi_resend, 0, FRESH);
     assert_eq!(refused, answer(17, 0, 0, 0));
+}
+
+#[test]
+fn a_state_above_4_is_no_record() {
+    for state in 5..=255 {
+        let none = [state, 5, 2, 5, 4, 3, 2, 1, 4, 3, 2, 1, 0b10, 0, 62, 9];
+        let (refused, record) = on_table(cetskobi_resend, 1, none);
+        assert_eq!(refused, answer(5, 0, 0, 0));
+        assert_eq!(record, none);
+    }
 }

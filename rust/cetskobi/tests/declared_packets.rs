@@ -21,10 +21,11 @@ const PACKET_OF_TWO: [u8; 40] = [
 
 #[test]
 fn body() {
-    let words = [[0; WORDS], [3, 6, 2, 2, 6, 2, 0, 62]].concat();
+    let writing = [3, 2, 2, 2, 6, 0, 0, 0, 6, 0, 0, 0, 0, 0, 62, 9];
+    let table = [[0; RECORD_BYTES], writing].concat();
     let store = [7; 2 * 192];
-    let (w, s) = (words.as_ptr(), store.as_ptr());
-    let call = |i, kind| unsafe { cetskobi_body(w, words.len(), s, store.len(), i, kind) };
+    let (t, s) = (table.as_ptr(), store.as_ptr());
+    let call = |i, kind| unsafe { cetskobi_body(t, table.len(), s, store.len(), i, kind) };
     assert_eq!(call(1, 1), 62);
     assert_eq!(call(1, 2), 0);
     assert_eq!(call(1, 3), 0);
@@ -93,15 +94,15 @@ fn pack() {
 
 #[test]
 fn deliver_packet() {
-    let fresh = [0, 0, 1, 1, 0, 1, 0, 0];
-    let mut words = [fresh, fresh].concat();
+    let fresh = [0, 1, 1, 1, 0, 0, 0, 0, 0, 0, 0, 0, 0, 0, 0, 9];
+    let mut table = [fresh, fresh].concat();
     let mut store = vec![7; 2 * 192];
-    let (w, s) = (words.as_mut_ptr(), store.as_mut_ptr());
+    let (t, s) = (table.as_mut_ptr(), store.as_mut_ptr());
     let call = |packet: &[u8], i| unsafe {
         cetskobi_deliver_packet(
             ME,
-            w,
-            2 * WORDS,
+            t,
+            2 * RECORD_BYTES,
             s,
             2 * 192,
             packet.as_ptr(),
@@ -119,8 +120,8 @@ fn deliver_packet() {
     assert_eq!(call(&PACKET_OF_TWO, 2).number, 23);
     assert_eq!(call(&PACKET_OF_TWO, 1).number, 4);
     assert_eq!(call(&PACKET_OF_TWO, 0), accepted);
-    assert_eq!(words[..WORDS], fresh);
-    assert_eq!(words[WORDS..], [1, 0x0102_0304, 4, 5, 0, 1, 0, 4]);
+    let invalid = [1, 4, 5, 1, 4, 3, 2, 1, 0, 0, 0, 0, 0, 0, 4, 9];
+    assert_eq!(table, [fresh, invalid].as_flattened());
     assert_eq!(store[..192], [7; 192]);
     assert_eq!(store[192..196], *b"wing");
     assert_eq!(store[196..], [0; 188]);
@@ -134,12 +135,12 @@ fn play() {
     let call = |room| unsafe { cetskobi_play(script.as_ptr(), script.len(), o, room) };
     assert_eq!(
         call(25 * 19 + 1),
-        Written {
+        Played {
             number: 255,
             len: 0
         }
     );
-    assert_eq!(call(25 * 19 + 2), Written { number: 0, len: 10 });
+    assert_eq!(call(25 * 19 + 2), Played { number: 0, len: 10 });
     assert_eq!(out[..10], *b"0 W 1 0 0\n");
     assert_eq!(out[10], 0xee);
 }

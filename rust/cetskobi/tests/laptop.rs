@@ -186,9 +186,9 @@ fn the_last_version() {
 
 #[test]
 fn lent_memory_keeps_what_an_event_left() {
-    let mut words = [0; 2 * Record::WORDS];
+    let mut table = [9; 2 * Record::BYTES];
     let mut store = [7; 2 * Record::VALUE_MAX];
-    let mut lent = Laptop::start_in(2, 38, &mut words[..], &mut store[..]).unwrap();
+    let mut lent = Laptop::start_in(2, 38, &mut table[..], &mut store[..]).unwrap();
     lent.write(1, b"wren").unwrap();
     let (me, _, _) = lent.into_parts();
     assert_eq!(
@@ -199,10 +199,13 @@ fn lent_memory_keeps_what_an_event_left() {
             epoch: 0
         }
     );
-    assert_eq!(words[8..], [3, 1, 2, 2, 1, 2, 0, 4]);
+    // The last byte of a record is nobody's.
+    let fresh = [0, 1, 1, 1, 0, 0, 0, 0, 0, 0, 0, 0, 0, 0, 0, 9];
+    let written = [3, 2, 2, 2, 1, 0, 0, 0, 1, 0, 0, 0, 0, 0, 4, 9];
+    assert_eq!(table, [fresh, written].as_flattened());
     assert_eq!(store[192..196], *b"wren");
 
-    let mut lent = Laptop::from_parts(me, &mut words, &mut store);
+    let mut lent = Laptop::from_parts(me, &mut table, &mut store);
     assert_eq!(lent.record(1).unwrap().state, State::Write);
     assert_eq!(lent.write(1, b"robin"), Err(Refusal::NotWritable));
     assert_eq!(
@@ -212,20 +215,22 @@ fn lent_memory_keeps_what_an_event_left() {
 }
 
 #[test]
-fn words_that_are_not_eight_for_each_record_are_no_table() {
-    let (me, mut words, store) = laptop().into_parts();
-    words.push(0);
-    let l = Laptop::from_parts(me, words, store);
-    assert_eq!((l.count(), l.record(0)), (0, None));
-    assert!(!l.shows_valid(0));
-    assert_eq!(l.read(0), Err(Refusal::LentMemory));
+fn a_table_of_no_multiple_of_16_bytes_holds_no_records() {
+    for more in 1..16 {
+        let (me, mut table, store) = laptop().into_parts();
+        table.extend(vec![0; more]);
+        let l = Laptop::from_parts(me, table, store);
+        assert_eq!((l.count(), l.record(0)), (0, None));
+        assert!(!l.shows_valid(0));
+        assert_eq!(l.read(0), Err(Refusal::LentMemory));
+    }
 }
 
 #[test]
 fn an_unsound_record_is_not_shown() {
-    let (me, mut words, store) = laptop().into_parts();
-    words[6] = 1 << 2; // its own acknowledgement
-    let l = Laptop::from_parts(me, words, store);
+    let (me, mut table, store) = laptop().into_parts();
+    table[12] = 1 << 2; // its own acknowledgement
+    let l = Laptop::from_parts(me, table, store);
     assert_eq!(l.record(0).map(|r| r.state), Some(State::Valid));
     assert_eq!(l.read(0), Err(Refusal::UnsoundRecord));
     assert!(!l.shows_valid(0));
@@ -239,22 +244,22 @@ fn damaged_memory_is_refused() {
         view: 38,
         epoch: 0,
     };
-    let (_, mut words, mut store) = laptop().into_parts();
-    words[8] = 5; // no state
-    let mut lent = Laptop::from_parts(me, &mut words, &mut store);
+    let (_, mut table, mut store) = laptop().into_parts();
+    table[16] = 5; // no state
+    let mut lent = Laptop::from_parts(me, &mut table, &mut store);
     assert_eq!(lent.record(1), None);
     assert_eq!(lent.write(1, b""), Err(Refusal::UnsoundRecord));
     assert!(lent.write(0, b"").is_ok());
 
-    let mut lent = Laptop::from_parts(me, &mut words[..23], &mut store);
+    let mut lent = Laptop::from_parts(me, &mut table[..47], &mut store);
     assert_eq!(lent.count(), 0);
     assert_eq!(lent.write(0, b""), Err(Refusal::LentMemory));
-    let mut lent = Laptop::from_parts(me, &mut words, &mut store[1..]);
+    let mut lent = Laptop::from_parts(me, &mut table, &mut store[1..]);
     assert_eq!(lent.write(0, b""), Err(Refusal::LentMemory));
 }
 
 #[test]
-fn records_and_their_words() {
+fn records_and_their_bytes() {
     let record = Record {
         state: State::Replay,
         timestamp: stamp(0x0102_0304, 5),
@@ -263,17 +268,21 @@ fn records_and_their_words() {
         acks: 0x8001,
         len: 192,
     };
-    let words = [4, 0x0102_0304, 5, 6, 0x0506_0708, 9, 0x8001, 192];
-    assert_eq!(record.to_words(), words);
-    assert_eq!(Record::from_words(words), Some(record));
+    let bytes = [4, 5, 6, 9, 4, 3, 2, 1, 8, 7, 6, 5, 1, 0x80, 192, 0];
+    assert_eq!(record.to_bytes(), bytes);
+    assert_eq!(Record::from_bytes(bytes), Some(record));
     for state in State::ALL {
         let record = Record { state, ..record };
-        assert_eq!(Record::from_words(record.to_words()), Some(record));
+        assert_eq!(Record::from_bytes(record.to_bytes()), Some(record));
     }
-    for (place, beyond) in [(0, 5), (2, 256), (3, 256), (5, 256), (6, 65_536), (7, 256)] {
-        let mut words = words;
-        words[place] = beyond;
-        assert_eq!(Record::from_words(words), None);
+    // Every byte with every value.
+    for (place, value) in (0..16).flat_map(|place| (0..=255).map(move |value| (place, value))) {
+        let mut other = bytes;
+        other[place] = value;
+        let read = Record::from_bytes(other);
+        assert_eq!(read.is_none(), place == 0 && value > 4);
+        other[15] = 0;
+        assert!(read.is_none_or(|record| record.to_bytes() == other));
     }
 }
 

@@ -4,11 +4,11 @@ use cetskobi::raw::{self, Replica};
 use model::engine::body;
 use model::rng::Rng;
 
+use crate::crossing::{message_of, table_of};
 use crate::memory::Memory;
 use crate::settings::Settings;
 use crate::shrink::{less, shrink, Found, Smaller};
 use crate::single::{self, by_engine, replica_of, some_case, some_number, Event, Outcome};
-use crate::words::{message_of, table_of};
 
 /// An event, and the kind and the sender that are asked about after it.
 #[derive(Clone, Debug, PartialEq)]
@@ -25,7 +25,7 @@ pub type Leaving = fn(Replica, &Memory, usize, u8, u8) -> (u16, usize);
 pub fn by_the_engine(me: Replica, memory: &Memory, i: usize, kind: u8, sender: u8) -> (u16, usize) {
     (
         raw::recipients(me, kind, sender),
-        raw::body(memory.words(), memory.store(), i, kind),
+        raw::body(memory.table(), memory.store(), i, kind),
     )
 }
 
@@ -35,7 +35,7 @@ pub fn by_model(me: Replica, memory: &Memory, i: usize, kind: u8, sender: u8) ->
         return (0, 0);
     }
     let message = message_of(kind, 0, 0);
-    let table = table_of(memory.words());
+    let table = table_of(memory.table());
     let part = body(message, &table, memory.store(), i);
     (replica_of(me).recipients(message, sender), part.len())
 }
@@ -90,9 +90,9 @@ fn difference(
     let (me, i) = (outcome.me, event.i);
     let a = by_the_engine(me, memory, i, *kind, *sender);
     let b = other(me, memory, i, *kind, *sender);
-    let record = table_of(memory.words()).get(i).copied();
+    let record = table_of(memory.table()).get(i).copied();
     let sound = record.is_some_and(|record| record.is_sound(me.number))
-        && memory.store().len() == 24 * memory.words().len();
+        && memory.store().len() == 12 * memory.table().len();
     let within = a.1 == 0
         || i.checked_mul(192)
             .is_some_and(|at| memory.store().len().saturating_sub(at) >= a.1);

@@ -4,6 +4,7 @@
 #![forbid(unsafe_code)]
 
 pub mod bytes;
+pub mod crossing;
 pub mod group;
 pub mod leaving;
 pub mod memory;
@@ -12,4 +13,3 @@ pub mod script;
 pub mod settings;
 pub mod shrink;
 pub mod single;
-pub mod words;

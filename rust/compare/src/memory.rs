@@ -1,15 +1,13 @@
-//! Lent memory: the words of a table and a store, each between guards that
-//! nobody may touch.
+//! Lent memory: a table and a store, each between guards that nobody may touch.
 
-use cetskobi::raw::WORDS;
+use cetskobi::raw::RECORD_BYTES;
 use model::engine::{Record, Slot};
 use model::rng::Rng;
 
-use crate::words::Words;
+use crate::crossing::Fields;
 
-/// Guard words, and guard bytes, on either side.
+/// Guard bytes, on either side.
 const GUARD: usize = 24;
-const GUARD_WORD: u32 = 0x600d_600d;
 const GUARD_BYTE: u8 = 0x9d;
 
 /// The 192 store bytes of a record.
@@ -17,40 +15,38 @@ const SLOT: usize = Record::VALUE_LIMIT;
 
 #[derive(Clone, Debug, PartialEq, Eq, Default)]
 pub struct Memory {
-    words: Vec<u32>,
+    table: Vec<u8>,
     store: Vec<u8>,
 }
 
 impl Memory {
-    /// Lays out these words and bytes, in the place of what was there.
-    pub fn lay(&mut self, words: &[u32], store: &[u8]) {
-        self.words.clear();
-        self.words.extend([GUARD_WORD; GUARD]);
-        self.words.extend_from_slice(words);
-        self.words.extend([GUARD_WORD; GUARD]);
-        self.store.clear();
-        self.store.extend([GUARD_BYTE; GUARD]);
-        self.store.extend_from_slice(store);
-        self.store.extend([GUARD_BYTE; GUARD]);
+    /// Lays out these bytes, in the place of what was there.
+    pub fn lay(&mut self, table: &[u8], store: &[u8]) {
+        for (place, bytes) in [(&mut self.table, table), (&mut self.store, store)] {
+            place.clear();
+            place.extend([GUARD_BYTE; GUARD]);
+            place.extend_from_slice(bytes);
+            place.extend([GUARD_BYTE; GUARD]);
+        }
     }
 
-    pub fn words(&self) -> &[u32] {
-        &self.words[GUARD..self.words.len() - GUARD]
+    pub fn table(&self) -> &[u8] {
+        &self.table[GUARD..self.table.len() - GUARD]
     }
 
     pub fn store(&self) -> &[u8] {
         &self.store[GUARD..self.store.len() - GUARD]
     }
 
-    /// The words and the store, to be lent.
-    pub fn lend(&mut self) -> (&mut [u32], &mut [u8]) {
-        let (words, store) = (self.words.len() - GUARD, self.store.len() - GUARD);
-        (&mut self.words[GUARD..words], &mut self.store[GUARD..store])
+    /// The table and the store, to be lent.
+    pub fn lend(&mut self) -> (&mut [u8], &mut [u8]) {
+        let (table, store) = (self.table.len() - GUARD, self.store.len() - GUARD);
+        (&mut self.table[GUARD..table], &mut self.store[GUARD..store])
     }
 
-    /// The eight words of a record that is there.
-    pub fn record(&self, i: usize) -> Option<&Words> {
-        self.words().as_chunks().0.get(i)
+    /// The fields of a record that is there.
+    pub fn record(&self, i: usize) -> Option<Fields> {
+        self.table().as_chunks().0.get(i).map(Fields::of)
     }
 
     /// The 192 bytes of a record that are there.
@@ -58,9 +54,17 @@ impl Memory {
         self.store().as_chunks().0.get(i)
     }
 
-    pub fn put_record(&mut self, i: usize, record: &Words) {
-        if let Some(place) = self.lend().0.as_chunks_mut::<WORDS>().0.get_mut(i) {
-            *place = *record;
+    pub fn put_record(&mut self, i: usize, record: &Fields) {
+        if let Some(place) = self.lend().0.as_chunks_mut().0.get_mut(i) {
+            *place = record.bytes();
+        }
+    }
+
+    /// Record `i` becomes that of the model. Its last byte, which is nobody's,
+    /// stays.
+    pub fn move_record(&mut self, i: usize, record: &Record) {
+        if let Some(before) = self.record(i) {
+            self.put_record(i, &Fields::of_record(record, before.unused));
         }
     }
 
@@ -75,7 +79,7 @@ impl Memory {
         if self == other {
             return None;
         }
-        let lens = |m: &Memory| (m.words().len(), m.store().len());
+        let lens = |m: &Memory| (m.table().len(), m.store().len());
         if lens(self) != lens(other) {
             return Some(format!("sizes: {:?}, {:?}", lens(self), lens(other)));
         }
@@ -83,24 +87,22 @@ impl Memory {
             Some(k) => format!("{} of record {}", k % unit, k / unit),
             None => "of the guard before".to_owned(),
         };
-        for (k, (a, b)) in self.words.iter().zip(&other.words).enumerate() {
-            if a != b {
-                return Some(format!("word {}: {a}, {b}", at(k, WORDS)));
-            }
-        }
-        for (k, (a, b)) in self.store.iter().zip(&other.store).enumerate() {
-            if a != b {
-                return Some(format!("byte {}: {a}, {b}", at(k, SLOT)));
+        let table = ("table", &self.table, &other.table, RECORD_BYTES);
+        let store = ("store", &self.store, &other.store, SLOT);
+        for (name, a, b, unit) in [table, store] {
+            let differs = a.iter().zip(b).position(|(a, b)| a != b);
+            if let Some(k) = differs {
+                return Some(format!("{name} byte {}: {}, {}", at(k, unit), a[k], b[k]));
             }
         }
         None
     }
 }
 
-/// What lies in the other records: words, many of them no record, and bytes.
+/// What lies in the other records: bytes, many of them no record, and values.
 /// Part 0 is all zero.
 pub struct Pool {
-    words: Vec<u32>,
+    table: Vec<u8>,
     store: Vec<u8>,
 }
 
@@ -112,24 +114,24 @@ impl Pool {
 
     pub fn new(rng: &mut Rng) -> Pool {
         let count = Pool::RECORDS + Pool::PARTS;
-        let word = |rng: &mut Rng| match rng.below(4) {
-            0 => rng.next_u64() as u32,
-            _ => rng.below(5) as u32,
+        let byte = |rng: &mut Rng| match rng.below(4) {
+            0 => rng.next_u64() as u8,
+            _ => rng.below(5) as u8,
         };
         let mut store = vec![0; SLOT * count];
         rng.fill(&mut store);
         Pool {
-            words: (0..WORDS * count).map(|_| word(rng)).collect(),
+            table: (0..RECORD_BYTES * count).map(|_| byte(rng)).collect(),
             store,
         }
     }
 
-    /// Lays out so many words and bytes of a part.
-    pub fn lay(&self, part: usize, words: usize, store: usize, memory: &mut Memory) {
+    /// Lays out so many bytes of a part as table and as store.
+    pub fn lay(&self, part: usize, table: usize, store: usize, memory: &mut Memory) {
         if part == 0 {
-            memory.lay(&vec![0; words], &vec![0; store]);
+            memory.lay(&vec![0; table], &vec![0; store]);
         } else {
-            memory.lay(&self.words[part..][..words], &self.store[part..][..store]);
+            memory.lay(&self.table[part..][..table], &self.store[part..][..store]);
         }
     }
 }

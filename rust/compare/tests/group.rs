@@ -131,7 +131,7 @@ fn the_first_station() {
     let mut group = station();
     let entries = [(1, What::Deliver { of: 4 }, 5)];
     assert_eq!(play(&mut group, &entries), Ok(()));
-    assert_eq!(group.members[1].memory.record(0).map(|r| r[0]), Some(1));
+    assert_eq!(group.members[1].memory.record(0).map(|r| r.state), Some(1));
 }
 
 /// The same with an altered epoch, against the premises: the check of agreement

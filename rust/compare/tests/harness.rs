@@ -1,8 +1,9 @@
 //! The comparison can fail: wrong models are found, and the case that shows it
 //! is small.
 
-use cetskobi::raw::WORDS;
+use cetskobi::raw::RECORD_BYTES;
 use compare::bytes::Bytes;
+use compare::crossing::Fields;
 use compare::memory::Memory;
 use compare::settings::Settings;
 use compare::shrink::{drops, less, shrink, Smaller};
@@ -30,7 +31,7 @@ fn caught(wrong: Play) -> Case {
 
 /// What the shrinker leaves of a case that needs one record alone.
 fn one_record(case: &Case) {
-    assert_eq!((case.words, case.store), (WORDS, 192));
+    assert_eq!((case.table, case.store), (RECORD_BYTES, 192));
     assert_eq!((case.i, case.part, case.me.epoch), (0, 0, 0));
     assert!(case.me.number <= 2 && case.me.view.count_ones() == 2);
 }
@@ -44,13 +45,14 @@ fn an_equal_invalidation_is_taken() {
     fn wrong(case: &Case, memory: &mut Memory) -> Outcome {
         let outcome = by_model(case, memory);
         if let Event::Deliver { message, .. } = &case.event {
-            let stamp = (message.version, u32::from(message.tie));
-            if outcome.number == 0 && message.kind == 1 && stamp == (case.record[1], case.record[2])
-            {
-                let mut record = case.record;
-                record[3] = message.sender.into();
-                record[0] = 1;
-                memory.put_record(case.i, &record);
+            let stamp = (message.version, message.tie);
+            if outcome.number == 0 && message.kind == 1 && stamp == case.record.stamp() {
+                let taken = Fields {
+                    state: 1,
+                    writer: message.sender,
+                    ..case.record
+                };
+                memory.put_record(case.i, &taken);
             }
         }
         outcome
@@ -61,7 +63,7 @@ fn an_equal_invalidation_is_taken() {
         panic!("{case:?}");
     };
     assert_eq!((message.kind, message.version, message.tie), (1, 0, 0));
-    assert_eq!((value.len(), case.record[7]), (0, 0));
+    assert_eq!((value.len(), case.record.len), (0, 0));
 }
 
 #[test]
@@ -69,9 +71,9 @@ fn a_second_acknowledgement_is_counted() {
     fn wrong(case: &Case, memory: &mut Memory) -> Outcome {
         let mut outcome = by_model(case, memory);
         if let Event::Deliver { message, .. } = &case.event {
-            let counted = case.record[6] >> (message.sender % 16) & 1 == 1;
-            let awaited = case.record[0] >= 2
-                && (message.version, u32::from(message.tie)) == (case.record[4], case.record[5]);
+            let counted = case.record.acks >> (message.sender % 16) & 1 == 1;
+            let awaited =
+                case.record.state >= 2 && (message.version, message.tie) == case.record.written();
             if outcome.number == 13 && counted && awaited {
                 outcome.number = 0;
             }
@@ -81,16 +83,17 @@ fn a_second_acknowledgement_is_counted() {
     let case = caught(wrong);
     one_record(&case);
     assert!(delivers(&case, 2));
-    assert_eq!(case.record[0], 2);
-    assert_eq!(case.record[6].count_ones(), 1);
+    assert_eq!(case.record.state, 2);
+    assert_eq!(case.record.acks.count_ones(), 1);
 }
 
 #[test]
 fn acknowledgements_are_counted_not_compared() {
     fn wrong(case: &Case, memory: &mut Memory) -> Outcome {
         let mut outcome = by_model(case, memory);
-        let enough = case.record[6].count_ones() + 1 >= case.me.view.count_ones();
-        if case.event == Event::Validate && outcome.number == 15 && case.record[0] == 3 && enough {
+        let enough = case.record.acks.count_ones() + 1 >= case.me.view.count_ones();
+        let writing = case.record.state == 3;
+        if case.event == Event::Validate && outcome.number == 15 && writing && enough {
             outcome.number = 0;
         }
         outcome
@@ -98,7 +101,7 @@ fn acknowledgements_are_counted_not_compared() {
     let case = caught(wrong);
     one_record(&case);
     assert_eq!(case.event, Event::Validate);
-    assert_eq!(case.record[6].count_ones(), 1);
+    assert_eq!(case.record.acks.count_ones(), 1);
 }
 
 #[test]
@@ -111,7 +114,7 @@ fn a_later_validation_is_taken() {
         outcome
     }
     let case = caught(wrong);
-    assert_eq!((case.words, case.store), (WORDS, 192));
+    assert_eq!((case.table, case.store), (RECORD_BYTES, 192));
     let Event::Deliver { message, .. } = case.event else {
         panic!("{case:?}");
     };
@@ -146,29 +149,84 @@ fn the_rest_of_the_store_is_not_zero() {
 fn another_record_moves() {
     fn wrong(case: &Case, memory: &mut Memory) -> Outcome {
         let outcome = by_model(case, memory);
-        if case.event == Event::Replay && outcome.number == 0 && memory.words().len() > WORDS {
-            let other = if case.i == 0 { WORDS } else { 0 };
-            memory.lend().0[other + 6] ^= 1;
+        let more = memory.table().len() > RECORD_BYTES;
+        if case.event == Event::Replay && outcome.number == 0 && more {
+            let other = if case.i == 0 { RECORD_BYTES } else { 0 };
+            memory.lend().0[other + 12] ^= 1;
         }
         outcome
     }
     let case = caught(wrong);
-    assert_eq!((case.words, case.store), (2 * WORDS, 384));
+    assert_eq!((case.table, case.store), (2 * RECORD_BYTES, 384));
     assert_eq!((case.event, case.i), (Event::Replay, 0));
 }
 
 #[test]
-fn words_that_are_no_record_are_rewritten() {
+fn bytes_that_are_no_record_are_rewritten() {
     fn wrong(case: &Case, memory: &mut Memory) -> Outcome {
         let outcome = by_model(case, memory);
-        if outcome.number == 5 && case.record[0] > 4 {
-            memory.put_record(case.i, &[0; WORDS]);
+        if outcome.number == 5 && case.record.state > 4 {
+            memory.put_record(case.i, &Fields::default());
         }
         outcome
     }
     let case = caught(wrong);
     one_record(&case);
-    assert_eq!(case.record, [5, 0, 0, 0, 0, 0, 0, 0]);
+    let no_state = Fields {
+        state: 5,
+        ..Fields::default()
+    };
+    assert_eq!(case.record, no_state);
+}
+
+#[test]
+fn the_last_byte_of_a_record_moves() {
+    fn wrong(case: &Case, memory: &mut Memory) -> Outcome {
+        let outcome = by_model(case, memory);
+        if let (Event::Write { .. }, 0) = (&case.event, outcome.number) {
+            memory.lend().0[RECORD_BYTES * case.i + 15] = 0;
+        }
+        outcome
+    }
+    let case = caught(wrong);
+    one_record(&case);
+    let last = Fields {
+        unused: 1,
+        ..Fields::default()
+    };
+    assert_eq!(case.record, last);
+}
+
+#[test]
+fn a_start_clears_the_last_bytes() {
+    fn wrong(case: &Case, memory: &mut Memory) -> Outcome {
+        let outcome = by_model(case, memory);
+        if (&case.event, outcome.number) == (&Event::Start, 0) {
+            let records = memory.lend().0.as_chunks_mut::<RECORD_BYTES>().0;
+            records.iter_mut().for_each(|record| record[15] = 0);
+        }
+        outcome
+    }
+    let case = caught(wrong);
+    one_record(&case);
+    assert_eq!((case.event, case.record.unused), (Event::Start, 1));
+}
+
+#[test]
+fn bytes_over_are_no_hindrance() {
+    // The records before them are a table.
+    fn wrong(case: &Case, memory: &mut Memory) -> Outcome {
+        let mut whole = Memory::default();
+        let records = memory.table().as_chunks::<RECORD_BYTES>().0;
+        whole.lay(records.as_flattened(), memory.store());
+        let outcome = by_model(case, memory);
+        match outcome.number {
+            2 => by_model(case, &mut whole),
+            _ => outcome,
+        }
+    }
+    let case = caught(wrong);
+    assert_eq!((case.table, case.store), (RECORD_BYTES + 1, 192));
 }
 
 #[test]
@@ -176,7 +234,7 @@ fn a_question_is_asked_too_late() {
     // 8 after 9.
     fn wrong(case: &Case, memory: &mut Memory) -> Outcome {
         let mut outcome = by_model(case, memory);
-        if outcome.number == 8 && case.record[1] == u32::MAX {
+        if outcome.number == 8 && case.record.version == u32::MAX {
             outcome.number = 9;
         }
         outcome
@@ -185,7 +243,11 @@ fn a_question_is_asked_too_late() {
     one_record(&case);
     let value = Bytes(vec![0; 193]);
     assert_eq!(case.event, Event::Write { value });
-    assert_eq!(case.record, [0, u32::MAX, 0, 0, 0, 0, 0, 0]);
+    let last = Fields {
+        version: u32::MAX,
+        ..Fields::default()
+    };
+    assert_eq!(case.record, last);
 }
 
 #[test]
@@ -199,7 +261,7 @@ fn a_part_begins_elsewhere() {
     }
     let case = caught(wrong);
     one_record(&case);
-    assert_eq!((case.event, case.record[7]), (Event::Read, 4));
+    assert_eq!((case.event, case.record.len), (Event::Read, 4));
 }
 
 #[test]

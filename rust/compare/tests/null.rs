@@ -32,41 +32,54 @@ fn sent(kind: u8, version: u32, tie: u8) -> Answer {
 
 #[test]
 fn no_memory() {
-    let (w, s) = (null_mut(), null_mut());
+    let (t, s) = (null_mut(), null_mut());
     unsafe {
-        assert_eq!(sys::cetskobi_start(0, 3, w, 0, s, 0).number, 2);
-        assert_eq!(sys::cetskobi_read(ME, w, 0, s, 0, 0).number, 2);
-        assert_eq!(sys::cetskobi_write(ME, w, 0, s, 0, 0, null(), 0).number, 2);
-        assert_eq!(sys::cetskobi_replay(ME, w, 0, s, 0, 0).number, 2);
-        assert_eq!(sys::cetskobi_validate(ME, w, 0, s, 0, 0).number, 2);
-        assert_eq!(sys::cetskobi_resend(ME, w, 0, s, 0, 0).number, 2);
-        let delivered = sys::cetskobi_deliver(ME, w, 0, s, 0, 0, INV, null(), 0);
+        assert_eq!(sys::cetskobi_start(0, 3, t, 0, s, 0).number, 2);
+        assert_eq!(sys::cetskobi_read(ME, t, 0, s, 0, 0).number, 2);
+        assert_eq!(sys::cetskobi_write(ME, t, 0, s, 0, 0, null(), 0).number, 2);
+        assert_eq!(sys::cetskobi_replay(ME, t, 0, s, 0, 0).number, 2);
+        assert_eq!(sys::cetskobi_validate(ME, t, 0, s, 0, 0).number, 2);
+        assert_eq!(sys::cetskobi_resend(ME, t, 0, s, 0, 0).number, 2);
+        let delivered = sys::cetskobi_deliver(ME, t, 0, s, 0, 0, INV, null(), 0);
         assert_eq!(delivered.number, 2);
-        let delivered = sys::cetskobi_deliver_packet(ME, w, 0, s, 0, PACKET.as_ptr(), 20, 0);
+        let delivered = sys::cetskobi_deliver_packet(ME, t, 0, s, 0, PACKET.as_ptr(), 20, 0);
         assert_eq!(delivered.number, 2);
         for kind in 0..5 {
-            assert_eq!(sys::cetskobi_body(w, 0, s, 0, 0, kind), 0);
+            assert_eq!(sys::cetskobi_body(t, 0, s, 0, 0, kind), 0);
         }
     }
 }
 
 #[test]
+fn a_table_or_a_store_alone() {
+    let (table, store) = ([0; 16], [7; 192]);
+    unsafe {
+        let read = sys::cetskobi_read(ME, table.as_ptr(), 16, null(), 0, 0);
+        assert_eq!((read.number, read.len), (2, 0));
+        let read = sys::cetskobi_read(ME, null(), 0, store.as_ptr(), 192, 0);
+        assert_eq!((read.number, read.len), (2, 0));
+        assert_eq!(sys::cetskobi_body(null(), 0, store.as_ptr(), 192, 0, 1), 0);
+        assert_eq!(sys::cetskobi_body(table.as_ptr(), 16, null(), 0, 0, 1), 0);
+    }
+}
+
+#[test]
 fn an_empty_value() {
-    let mut words = [0; 8];
+    let mut table = [0; 16];
     let mut store = [7; 192];
-    let (w, s) = (words.as_mut_ptr(), store.as_mut_ptr());
-    let answer = unsafe { sys::cetskobi_write(ME, w, 8, s, 192, 0, null(), 0) };
+    let (t, s) = (table.as_mut_ptr(), store.as_mut_ptr());
+    let answer = unsafe { sys::cetskobi_write(ME, t, 16, s, 192, 0, null(), 0) };
     assert_eq!((answer, store), (sent(1, 1, 0), [0; 192]));
 }
 
 #[test]
 fn a_message_without_bytes() {
-    let mut words = [0; 8];
+    let mut table = [0; 16];
     let mut store = [7; 192];
-    let (w, s) = (words.as_mut_ptr(), store.as_mut_ptr());
-    let answer = unsafe { sys::cetskobi_deliver(ME, w, 8, s, 192, 0, INV, null(), 0) };
+    let (t, s) = (table.as_mut_ptr(), store.as_mut_ptr());
+    let answer = unsafe { sys::cetskobi_deliver(ME, t, 16, s, 192, 0, INV, null(), 0) };
     assert_eq!((answer, store), (sent(2, 1, 1), [0; 192]));
-    assert_eq!(words, [1, 1, 1, 1, 0, 0, 0, 0]);
+    assert_eq!(table, [1, 1, 1, 0, 1, 0, 0, 0, 0, 0, 0, 0, 0, 0, 0, 0]);
 }
 
 #[test]
@@ -74,8 +87,8 @@ fn no_packet_no_script() {
     let mut out = [7; 2];
     unsafe {
         assert_eq!(sys::cetskobi_fetch(null(), 0, 0).number, 20);
-        let (w, s) = (null_mut(), null_mut());
-        let delivered = sys::cetskobi_deliver_packet(ME, w, 0, s, 0, null(), 0, 0);
+        let (t, s) = (null_mut(), null_mut());
+        let delivered = sys::cetskobi_deliver_packet(ME, t, 0, s, 0, null(), 0, 0);
         assert_eq!(delivered.number, 20);
         let packed = sys::cetskobi_pack(null(), 0, null(), 0, null_mut(), 0);
         assert_eq!(packed.number, 24);

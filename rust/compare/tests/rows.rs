@@ -3,15 +3,15 @@
 
 use cetskobi::raw::{Message, Replica};
 use compare::bytes::Bytes;
+use compare::crossing::Fields;
 use compare::memory::Memory;
 use compare::single::{by_engine, by_model, Case, Event, Outcome};
-use compare::words::Words;
 
-const VALID: u32 = 0;
-const INVALID: u32 = 1;
-const INVALID_WRITE: u32 = 2;
-const WRITE: u32 = 3;
-const REPLAY: u32 = 4;
+const VALID: u8 = 0;
+const INVALID: u8 = 1;
+const INVALID_WRITE: u8 = 2;
+const WRITE: u8 = 3;
+const REPLAY: u8 = 4;
 
 const INV: u8 = 1;
 const ACK: u8 = 2;
@@ -34,6 +34,31 @@ fn set(numbers: &[u8]) -> u16 {
     numbers.iter().fold(0, |set, number| set | 1 << number)
 }
 
+/// What lies in every byte of the table before. Byte 15 of each record keeps it.
+const OLD: u8 = 0xde;
+
+/// A record: state, stamp, last writer, last-write stamp, acknowledgements, length.
+const fn record(
+    state: u8,
+    (version, tie): (u32, u8),
+    writer: u8,
+    (written_version, written_tie): (u32, u8),
+    acks: u16,
+    len: u8,
+) -> Fields {
+    Fields {
+        state,
+        tie,
+        writer,
+        written_tie,
+        version,
+        written_version,
+        acks,
+        len,
+        unused: OLD,
+    }
+}
+
 /// A laptop that is played by both.
 struct Laptop {
     me: Replica,
@@ -45,7 +70,7 @@ impl Laptop {
     /// Laptop 2, view {1,2,5}, in memory that was not clean before.
     fn lent(count: usize) -> Laptop {
         let mut engine = Memory::default();
-        engine.lay(&vec![0xdead; 8 * count], &vec![0xee; 192 * count]);
+        engine.lay(&vec![OLD; 16 * count], &vec![0xee; 192 * count]);
         Laptop {
             me: Replica {
                 number: 2,
@@ -125,17 +150,17 @@ impl Laptop {
         (outcome.number == 0).then(|| self.engine.store()[at..at + len].to_vec())
     }
 
-    fn record(&self) -> Words {
-        *self.engine.record(0).expect("there is one")
+    fn record(&self) -> Fields {
+        self.engine.record(0).expect("there is one")
     }
 }
 
-const WRITTEN: Words = [WRITE, 1, 2, 2, 1, 2, 0, 2];
+const WRITTEN: Fields = record(WRITE, (1, 2), 2, (1, 2), 0, 2);
 
 #[test]
 fn fresh() {
     let mut laptop = Laptop::fresh();
-    assert_eq!(laptop.record(), [VALID, 0, 1, 1, 0, 1, 0, 0]);
+    assert_eq!(laptop.record(), record(VALID, (0, 1), 1, (0, 1), 0, 0));
     assert_eq!(laptop.engine.store(), [0; 192]);
     assert_eq!(laptop.me.epoch, 0);
     assert_eq!(laptop.read(0), Some(vec![]));
@@ -152,7 +177,10 @@ fn write() {
 fn write_then_a_greater_invalidation() {
     let mut laptop = Laptop::written();
     assert_eq!(laptop.deliver(5, (INV, 1, 5), b"B"), sent(ACK, 1, 5));
-    assert_eq!(laptop.record(), [INVALID_WRITE, 1, 5, 5, 1, 2, 0, 1]);
+    assert_eq!(
+        laptop.record(),
+        record(INVALID_WRITE, (1, 5), 5, (1, 2), 0, 1)
+    );
     assert_eq!(laptop.engine.store()[..2], *b"B\0");
 }
 
@@ -168,21 +196,21 @@ fn write_then_a_lesser_invalidation() {
 fn replay_then_a_greater_invalidation() {
     let mut laptop = Laptop::fresh();
     assert_eq!(laptop.deliver(5, (INV, 1, 5), b"B"), sent(ACK, 1, 5));
-    assert_eq!(laptop.record(), [INVALID, 1, 5, 5, 0, 1, 0, 1]);
+    assert_eq!(laptop.record(), record(INVALID, (1, 5), 5, (0, 1), 0, 1));
     assert_eq!(laptop.play(0, Event::Replay), refused(16));
     assert_eq!(laptop.view(1, &[1, 2]), DONE);
     assert_eq!(laptop.play(0, Event::Replay), sent(INV, 1, 5));
-    assert_eq!(laptop.record(), [REPLAY, 1, 5, 2, 1, 5, 0, 1]);
+    assert_eq!(laptop.record(), record(REPLAY, (1, 5), 2, (1, 5), 0, 1));
     assert_eq!(laptop.play(0, Event::Resend), sent(INV, 1, 5));
     assert_eq!(laptop.deliver(1, (INV, 2, 1), b""), sent(ACK, 2, 1));
-    assert_eq!(laptop.record(), [INVALID, 2, 1, 1, 1, 5, 0, 0]);
+    assert_eq!(laptop.record(), record(INVALID, (2, 1), 1, (1, 5), 0, 0));
     assert_eq!(laptop.engine.store(), [0; 192]);
 }
 
 #[test]
 fn an_acknowledgement_counts_once() {
     let mut laptop = Laptop::written();
-    let counted = [WRITE, 1, 2, 2, 1, 2, 1 << 5, 2];
+    let counted = record(WRITE, (1, 2), 2, (1, 2), 1 << 5, 2);
     assert_eq!(laptop.deliver(5, (ACK, 1, 2), b""), DONE);
     assert_eq!(laptop.record(), counted);
     assert_eq!(laptop.deliver(5, (ACK, 1, 2), b""), refused(13));
@@ -196,7 +224,7 @@ fn validations_of_an_invalid_write() {
     assert_eq!(laptop.deliver(5, (VAL, 1, 2), b""), refused(14));
     assert_eq!(laptop.read(0), None);
     assert_eq!(laptop.deliver(5, (VAL, 1, 5), b""), DONE);
-    assert_eq!(laptop.record(), [VALID, 1, 5, 5, 1, 2, 0, 1]);
+    assert_eq!(laptop.record(), record(VALID, (1, 5), 5, (1, 2), 0, 1));
     assert_eq!(laptop.read(0), Some(b"B".to_vec()));
 }
 
@@ -207,7 +235,7 @@ fn validate_after_a_view() {
     assert_eq!(laptop.play(0, Event::Validate), refused(15));
     assert_eq!(laptop.view(1, &[1, 2]), DONE);
     assert_eq!(laptop.play(0, Event::Validate), sent(VAL, 1, 2));
-    assert_eq!(laptop.record(), [VALID, 1, 2, 2, 1, 2, 1 << 1, 2]);
+    assert_eq!(laptop.record(), record(VALID, (1, 2), 2, (1, 2), 1 << 1, 2));
     assert_eq!(laptop.play(0, Event::Resend), sent(VAL, 1, 2));
 }
 
@@ -215,10 +243,10 @@ fn validate_after_a_view() {
 fn the_last_versions() {
     let mut laptop = Laptop::fresh();
     for memory in [&mut laptop.engine, &mut laptop.model] {
-        memory.put_record(0, &[VALID, 4_294_967_294, 1, 1, 0, 1, 0, 0]);
+        memory.put_record(0, &record(VALID, (4_294_967_294, 1), 1, (0, 1), 0, 0));
     }
     assert_eq!(laptop.write(0, b""), sent(INV, 4_294_967_295, 2));
-    let last = [VALID, 4_294_967_295, 2, 2, 4_294_967_295, 2, 0, 0];
+    let last = record(VALID, (4_294_967_295, 2), 2, (4_294_967_295, 2), 0, 0);
     for memory in [&mut laptop.engine, &mut laptop.model] {
         memory.put_record(0, &last);
     }
@@ -243,7 +271,7 @@ fn a_validation_of_a_later_epoch() {
     let mut laptop = Laptop::fresh();
     assert_eq!(laptop.deliver(5, (INV, 1, 5), b"B"), sent(ACK, 1, 5));
     assert_eq!(laptop.deliver_of(1, 5, (VAL, 1, 5), b""), refused(10));
-    assert_eq!(laptop.record()[0], INVALID);
+    assert_eq!(laptop.record().state, INVALID);
 }
 
 #[test]
@@ -257,7 +285,7 @@ fn values_of_192_and_193() {
         sent(ACK, 1, 5)
     );
     assert_eq!(laptop.write(0, &text[..192]), sent(INV, 2, 2));
-    assert_eq!(laptop.record()[7], 192);
+    assert_eq!(laptop.record().len, 192);
     assert_eq!(laptop.engine.store(), [7; 192]);
 }
 
@@ -279,5 +307,6 @@ fn records_4095_and_4096() {
     let mut laptop = Laptop::lent(4096);
     laptop.me.number = 5;
     assert_eq!(laptop.play(0, Event::Start), DONE);
-    assert_eq!(laptop.engine.record(4095), Some(&[0, 0, 1, 1, 0, 1, 0, 0]));
+    let fresh = record(VALID, (0, 1), 1, (0, 1), 0, 0);
+    assert_eq!(laptop.engine.record(4095), Some(fresh));
 }

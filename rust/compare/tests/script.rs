@@ -1,6 +1,6 @@
 //! Scripts of the playing program, with wrong lines and at the limits.
 
-use cetskobi::raw::Written;
+use cetskobi::raw::Played;
 use compare::script::{by_engine, by_model, compare, BEYOND};
 use compare::settings::Settings;
 
@@ -92,25 +92,25 @@ fn limits() {
 /// Wrong players are found, by short scripts.
 #[test]
 fn wrong_players() {
-    fn change(script: &[u8], out: &mut [u8], from: &str, to: &str) -> Written {
-        let written = by_model(script, out);
-        let printed = String::from_utf8_lossy(&out[..written.len]).replace(from, to);
+    fn change(script: &[u8], out: &mut [u8], from: &str, to: &str) -> Played {
+        let answer = by_model(script, out);
+        let printed = String::from_utf8_lossy(&out[..answer.len]).replace(from, to);
         let len = printed.len();
         out[..len].copy_from_slice(printed.as_bytes());
-        Written { len, ..written }
+        Played { len, ..answer }
     }
     // Log numbers of 10 and more.
-    fn logs(script: &[u8], out: &mut [u8]) -> Written {
+    fn logs(script: &[u8], out: &mut [u8]) -> Played {
         change(script, out, " 10\n", " 11\n")
     }
-    fn states(script: &[u8], out: &mut [u8]) -> Written {
+    fn states(script: &[u8], out: &mut [u8]) -> Played {
         change(script, out, " X ", " I ")
     }
-    fn text(script: &[u8], out: &mut [u8]) -> Written {
+    fn text(script: &[u8], out: &mut [u8]) -> Played {
         change(script, out, "8 V", "7 V")
     }
     for (wrong, lines) in [
-        (logs as fn(&[u8], &mut [u8]) -> Written, 12),
+        (logs as fn(&[u8], &mut [u8]) -> Played, 12),
         (states, 8),
         (text, 2),
     ] {

@@ -1,7 +1,10 @@
-//! Random single events, also on unsound records and wrong memory.
+//! Single events, also on unsound records and wrong memory.
 
+use cetskobi::raw::{Message, Replica, RECORD_BYTES};
+use compare::bytes::Bytes;
+use compare::crossing::Fields;
 use compare::settings::Settings;
-use compare::single::{by_model, compare};
+use compare::single::{by_model, compare, Bench, Case, Event};
 
 #[test]
 fn random_events() {
@@ -15,4 +18,77 @@ fn random_events() {
         }
         Err(found) => panic!("{settings}\n{found}"),
     }
+}
+
+/// Laptop 2 with view {1,2,5} at epoch 9.
+const ME: Replica = Replica {
+    number: 2,
+    view: 0b10_0110,
+    epoch: 9,
+};
+
+/// All numbers are different, and all bytes of them.
+const RECORD: Fields = Fields {
+    state: 0,
+    tie: 4,
+    writer: 3,
+    written_tie: 6,
+    version: 0x1112_1314,
+    written_version: 0x2122_2324,
+    acks: 0x8122,
+    len: 62,
+    unused: 0xaa,
+};
+
+/// Every event on a record, with the messages that this one takes.
+fn events() -> Vec<Event> {
+    let deliver = |kind, (version, tie), value: &[u8]| Event::Deliver {
+        message: Message {
+            kind,
+            sender: 5,
+            tie,
+            epoch: ME.epoch,
+            version,
+        },
+        value: Bytes(value.to_vec()),
+    };
+    let value = Bytes(b"wing 62".to_vec());
+    vec![
+        Event::Start,
+        Event::Read,
+        Event::Write { value },
+        Event::Replay,
+        Event::Validate,
+        Event::Resend,
+        deliver(1, RECORD.stamp(), b"wing 63"),
+        deliver(1, (RECORD.version + 1, 0), b"wing 64"),
+        deliver(2, RECORD.written(), b""),
+        deliver(3, RECORD.stamp(), b""),
+    ]
+}
+
+/// Every byte of a record with every value, at every state, for every event.
+#[test]
+fn every_byte_of_a_record() {
+    let mut bench = Bench::new(&mut Settings::USUAL.rng("every byte"));
+    let mut accepted = 0;
+    for event in events() {
+        for (state, place) in (0..5).flat_map(|s| (0..RECORD_BYTES).map(move |k| (s, k))) {
+            for value in 0..=u8::MAX {
+                let mut bytes = Fields { state, ..RECORD }.bytes();
+                bytes[place] = value;
+                let mut case = Case::on(ME, 1, event.clone());
+                case.lend(3);
+                case.part = 1 + usize::from(value) % 100;
+                case.record = Fields::of(&bytes);
+                assert_eq!(case.record.bytes(), bytes);
+                match bench.difference(&case, by_model) {
+                    Ok(outcome) => accepted += u64::from(outcome.number == 0),
+                    Err(what) => panic!("{what}: {case:?}"),
+                }
+            }
+        }
+    }
+    println!("{accepted} accepted");
+    assert!(accepted >= 10_000);
 }

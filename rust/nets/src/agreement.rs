@@ -182,7 +182,7 @@ mod tests {
             view,
             epoch: 0,
         };
-        Laptop::from_parts(me, r.to_words().to_vec(), store)
+        Laptop::from_parts(me, r.to_bytes().to_vec(), store)
     }
 
     fn check(laptops: &[Laptop]) -> Result<(), Disagreement> {
@@ -221,9 +221,9 @@ mod tests {
     #[test]
     fn bytes_behind_the_text_count_too() {
         let one = laptop(0, 0b11, State::Valid, OLD, 7);
-        let (me, words, mut store) = laptop(1, 0b11, State::Valid, OLD, 7).into_parts();
+        let (me, table, mut store) = laptop(1, 0b11, State::Valid, OLD, 7).into_parts();
         store[Record::VALUE_MAX - 1] = 1;
-        assert!(check(&[one, Laptop::from_parts(me, words, store)]).is_err());
+        assert!(check(&[one, Laptop::from_parts(me, table, store)]).is_err());
     }
 
     #[test]

@@ -164,7 +164,7 @@ mod tests {
                 epoch: 1,
             };
             let store = vec![0; Record::VALUE_MAX];
-            Laptop::from_parts(me, r.to_words().to_vec(), store)
+            Laptop::from_parts(me, r.to_bytes().to_vec(), store)
         };
         let laptops: Vec<Laptop> = (0..).zip(records).map(laptop).collect();
         let members: Vec<&Laptop> = laptops.iter().collect();

@@ -1,8 +1,9 @@
 //! What is measured: each case with its two sides, on equal inputs.
 
 use cetskobi::sys::{Message, Replica};
+use cetskobi::{Record, State, Timestamp};
 
-use crate::engine::{self, Engine, Words};
+use crate::engine::{self, Engine};
 use crate::packets;
 use crate::plain::{self, Plain};
 use crate::scripts;
@@ -30,11 +31,29 @@ pub const ME: Replica = Replica {
 pub const TEXT: &[u8; 32] = b"Blue tit, f, wing 62, 10.9 g, wj";
 
 // Records as the events find them: at version 8, or at 7 with 8 to come.
-pub const VALID: Words = [0, 7, 5, 5, 0, 1, 0, 32];
-const WRITING: Words = [3, 8, 2, 2, 8, 2, 0, 32];
-const ACKNOWLEDGED: Words = [3, 8, 2, 2, 8, 2, 0b10_0010, 32];
-const INVALID: Words = [1, 8, 5, 5, 0, 1, 0, 32];
-const ORPHAN: Words = [1, 8, 4, 4, 0, 1, 0, 32];
+pub const VALID: Record = record(State::Valid, (7, 5), (0, 1), 0);
+const WRITING: Record = record(State::Write, (8, 2), (8, 2), 0);
+const ACKNOWLEDGED: Record = record(State::Write, (8, 2), (8, 2), 0b10_0010);
+const INVALID: Record = record(State::Invalid, (8, 5), (0, 1), 0);
+const ORPHAN: Record = record(State::Invalid, (8, 4), (0, 1), 0);
+
+/// A record with a value of 32 bytes, whose last writer is the tie-breaker.
+const fn record(state: State, timestamp: (u32, u8), written: (u32, u8), acks: u16) -> Record {
+    Record {
+        state,
+        timestamp: Timestamp {
+            version: timestamp.0,
+            tie: timestamp.1,
+        },
+        writer: timestamp.1,
+        written: Timestamp {
+            version: written.0,
+            tie: written.1,
+        },
+        acks,
+        len: TEXT.len() as u8,
+    }
+}
 
 /// A message from laptop 5.
 const fn message(kind: u8, version: u32, tie: u8) -> Message {
@@ -81,7 +100,7 @@ fn events(n: usize, visit: &mut impl Visit) {
         || On {
             lent: Engine::new(ME, n, VALID, ()),
             prepare: |_: &mut _, _| (),
-            call: |e: &mut Engine<()>, i| engine::read(e.me, &e.words, &e.store, i),
+            call: |e: &mut Engine<()>, i| engine::read(e.me, &e.table, &e.store, i),
         },
         || On {
             lent: Plain::new(ME, n, VALID, ()),
@@ -112,7 +131,7 @@ fn events(n: usize, visit: &mut impl Visit) {
         || On {
             lent: Engine::new(ME, n, VALID, ()),
             prepare: |e: &mut Engine<()>, i| e.set(i, ACKNOWLEDGED),
-            call: |e: &mut Engine<()>, i| engine::validate(e.me, &mut e.words, &e.store, i),
+            call: |e: &mut Engine<()>, i| engine::validate(e.me, &mut e.table, &e.store, i),
         },
         || On {
             lent: Plain::new(ME, n, VALID, ()),
@@ -125,7 +144,7 @@ fn events(n: usize, visit: &mut impl Visit) {
         || On {
             lent: Engine::new(ME, n, VALID, ()),
             prepare: |e: &mut Engine<()>, i| e.set(i, ORPHAN),
-            call: |e: &mut Engine<()>, i| engine::replay(e.me, &mut e.words, &e.store, i),
+            call: |e: &mut Engine<()>, i| engine::replay(e.me, &mut e.table, &e.store, i),
         },
         || On {
             lent: Plain::new(ME, n, VALID, ()),
@@ -138,7 +157,7 @@ fn events(n: usize, visit: &mut impl Visit) {
         || On {
             lent: Engine::new(ME, n, WRITING, ()),
             prepare: |_: &mut _, _| (),
-            call: |e: &mut Engine<()>, i| engine::resend(e.me, &mut e.words, &e.store, i),
+            call: |e: &mut Engine<()>, i| engine::resend(e.me, &mut e.table, &e.store, i),
         },
         || On {
             lent: Plain::new(ME, n, WRITING, ()),
@@ -149,7 +168,7 @@ fn events(n: usize, visit: &mut impl Visit) {
     leaving(n, visit);
 }
 
-fn write(about: About, record: Words, value: Vec<u8>, visit: &mut impl Visit) {
+fn write(about: About, record: Record, value: Vec<u8>, visit: &mut impl Visit) {
     let n = about.records;
     visit.case(
         about,
@@ -157,7 +176,7 @@ fn write(about: About, record: Words, value: Vec<u8>, visit: &mut impl Visit) {
             lent: Engine::new(ME, n, VALID, value.clone()),
             prepare: move |e: &mut Engine<Vec<u8>>, i| e.set(i, record),
             call: |e: &mut Engine<Vec<u8>>, i| {
-                engine::write(e.me, &mut e.words, &mut e.store, i, &e.input)
+                engine::write(e.me, &mut e.table, &mut e.store, i, &e.input)
             },
         },
         || On {
@@ -181,7 +200,7 @@ fn deliveries(n: usize, visit: &mut impl Visit) {
     deliver(val, INVALID, message(3, 8, 5), vec![], visit);
 }
 
-fn deliver(about: About, record: Words, m: Message, body: Vec<u8>, visit: &mut impl Visit) {
+fn deliver(about: About, record: Record, m: Message, body: Vec<u8>, visit: &mut impl Visit) {
     let n = about.records;
     visit.case(
         about,
@@ -190,7 +209,7 @@ fn deliver(about: About, record: Words, m: Message, body: Vec<u8>, visit: &mut i
             prepare: move |e: &mut Engine<(Message, Vec<u8>)>, i| e.set(i, record),
             call: |e: &mut Engine<(Message, Vec<u8>)>, i| {
                 let (message, body) = &e.input;
-                engine::deliver(e.me, &mut e.words, &mut e.store, i, *message, body)
+                engine::deliver(e.me, &mut e.table, &mut e.store, i, *message, body)
             },
         },
         || On {
@@ -213,7 +232,7 @@ fn leaving(n: usize, visit: &mut impl Visit) {
         || On {
             lent: Engine::new(ME, n, WRITING, 1),
             prepare: |_: &mut _, _| (),
-            call: |e: &mut Engine<u8>, i| engine::body(&e.words, &e.store, i, e.input),
+            call: |e: &mut Engine<u8>, i| engine::body(&e.table, &e.store, i, e.input),
         },
         || On {
             lent: Plain::new(ME, n, WRITING, sent),
@@ -272,7 +291,7 @@ fn start(about: About, n: usize, visit: &mut impl Visit) {
             lent: Engine::new(ME, n, VALID, ()),
             prepare: |_: &mut _, _| (),
             call: |e: &mut Engine<()>, _| {
-                engine::start(e.me.number, e.me.view, &mut e.words, &mut e.store)
+                engine::start(e.me.number, e.me.view, &mut e.table, &mut e.store)
             },
         },
         || On {

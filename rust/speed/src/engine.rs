@@ -2,33 +2,31 @@
 
 use std::array::from_fn;
 
-use cetskobi::sys::{self, Admission, Answer, Fetched, Message, Read, Replica, Written};
+use cetskobi::sys::{self, Admission, Answer, Fetched, Message, Played, Read, Replica, Written};
+use cetskobi::Record;
 
 use crate::side::{Answers, Told};
-
-/// The words of a record.
-pub type Words = [u32; sys::WORDS];
 
 /// A replica with its lent memory, and what its calls are given.
 pub struct Engine<I> {
     pub me: Replica,
-    pub words: Vec<u32>,
+    pub table: Vec<u8>,
     pub store: Vec<u8>,
     pub input: I,
 }
 
 impl<I> Engine<I> {
-    pub fn new(me: Replica, records: usize, record: Words, input: I) -> Engine<I> {
+    pub fn new(me: Replica, records: usize, record: Record, input: I) -> Engine<I> {
         Engine {
             me,
-            words: record.repeat(records),
+            table: record.to_bytes().repeat(records),
             store: vec![7; 192 * records],
             input,
         }
     }
 
-    pub fn set(&mut self, i: usize, record: Words) {
-        self.words[sys::WORDS * i..][..sys::WORDS].copy_from_slice(&record);
+    pub fn set(&mut self, i: usize, record: Record) {
+        self.table[Record::BYTES * i..][..Record::BYTES].copy_from_slice(&record.to_bytes());
     }
 }
 
@@ -36,9 +34,9 @@ impl<I> Engine<I> {
 // is written is borrowed mutably, so it overlaps nothing else that is passed.
 
 #[inline(always)]
-pub fn start(number: u8, view: u16, words: &mut [u32], store: &mut [u8]) -> Admission {
-    let (w, s) = (words.as_mut_ptr(), store.as_mut_ptr());
-    unsafe { sys::cetskobi_start(number, view, w, words.len(), s, store.len()) }
+pub fn start(number: u8, view: u16, table: &mut [u8], store: &mut [u8]) -> Admission {
+    let (t, s) = (table.as_mut_ptr(), store.as_mut_ptr());
+    unsafe { sys::cetskobi_start(number, view, t, table.len(), s, store.len()) }
 }
 
 #[inline(always)]
@@ -47,52 +45,52 @@ pub fn view(me: Replica, epoch: u32, set: u16) -> Admission {
 }
 
 #[inline(always)]
-pub fn read(me: Replica, words: &[u32], store: &[u8], i: usize) -> Read {
-    let (w, s) = (words.as_ptr(), store.as_ptr());
-    unsafe { sys::cetskobi_read(me, w, words.len(), s, store.len(), i) }
+pub fn read(me: Replica, table: &[u8], store: &[u8], i: usize) -> Read {
+    let (t, s) = (table.as_ptr(), store.as_ptr());
+    unsafe { sys::cetskobi_read(me, t, table.len(), s, store.len(), i) }
 }
 
 #[inline(always)]
-pub fn write(me: Replica, words: &mut [u32], store: &mut [u8], i: usize, value: &[u8]) -> Answer {
-    let (w, s, v) = (words.as_mut_ptr(), store.as_mut_ptr(), value.as_ptr());
-    unsafe { sys::cetskobi_write(me, w, words.len(), s, store.len(), i, v, value.len()) }
+pub fn write(me: Replica, table: &mut [u8], store: &mut [u8], i: usize, value: &[u8]) -> Answer {
+    let (t, s, v) = (table.as_mut_ptr(), store.as_mut_ptr(), value.as_ptr());
+    unsafe { sys::cetskobi_write(me, t, table.len(), s, store.len(), i, v, value.len()) }
 }
 
 #[inline(always)]
 pub fn deliver(
     me: Replica,
-    words: &mut [u32],
+    table: &mut [u8],
     store: &mut [u8],
     i: usize,
     m: Message,
     body: &[u8],
 ) -> Answer {
-    let (w, s, b) = (words.as_mut_ptr(), store.as_mut_ptr(), body.as_ptr());
-    unsafe { sys::cetskobi_deliver(me, w, words.len(), s, store.len(), i, m, b, body.len()) }
+    let (t, s, b) = (table.as_mut_ptr(), store.as_mut_ptr(), body.as_ptr());
+    unsafe { sys::cetskobi_deliver(me, t, table.len(), s, store.len(), i, m, b, body.len()) }
 }
 
 #[inline(always)]
-pub fn replay(me: Replica, words: &mut [u32], store: &[u8], i: usize) -> Answer {
-    let (w, s) = (words.as_mut_ptr(), store.as_ptr());
-    unsafe { sys::cetskobi_replay(me, w, words.len(), s, store.len(), i) }
+pub fn replay(me: Replica, table: &mut [u8], store: &[u8], i: usize) -> Answer {
+    let (t, s) = (table.as_mut_ptr(), store.as_ptr());
+    unsafe { sys::cetskobi_replay(me, t, table.len(), s, store.len(), i) }
 }
 
 #[inline(always)]
-pub fn validate(me: Replica, words: &mut [u32], store: &[u8], i: usize) -> Answer {
-    let (w, s) = (words.as_mut_ptr(), store.as_ptr());
-    unsafe { sys::cetskobi_validate(me, w, words.len(), s, store.len(), i) }
+pub fn validate(me: Replica, table: &mut [u8], store: &[u8], i: usize) -> Answer {
+    let (t, s) = (table.as_mut_ptr(), store.as_ptr());
+    unsafe { sys::cetskobi_validate(me, t, table.len(), s, store.len(), i) }
 }
 
 #[inline(always)]
-pub fn resend(me: Replica, words: &mut [u32], store: &[u8], i: usize) -> Answer {
-    let (w, s) = (words.as_mut_ptr(), store.as_ptr());
-    unsafe { sys::cetskobi_resend(me, w, words.len(), s, store.len(), i) }
+pub fn resend(me: Replica, table: &mut [u8], store: &[u8], i: usize) -> Answer {
+    let (t, s) = (table.as_mut_ptr(), store.as_ptr());
+    unsafe { sys::cetskobi_resend(me, t, table.len(), s, store.len(), i) }
 }
 
 #[inline(always)]
-pub fn body(words: &[u32], store: &[u8], i: usize, kind: u8) -> usize {
-    let (w, s) = (words.as_ptr(), store.as_ptr());
-    unsafe { sys::cetskobi_body(w, words.len(), s, store.len(), i, kind) }
+pub fn body(table: &[u8], store: &[u8], i: usize, kind: u8) -> usize {
+    let (t, s) = (table.as_ptr(), store.as_ptr());
+    unsafe { sys::cetskobi_body(t, table.len(), s, store.len(), i, kind) }
 }
 
 #[inline(always)]
@@ -114,17 +112,17 @@ pub fn pack(messages: &[u32], bodies: &[u8], out: &mut [u8]) -> Written {
 #[inline(always)]
 pub fn deliver_packet(
     me: Replica,
-    words: &mut [u32],
+    table: &mut [u8],
     store: &mut [u8],
     packet: &[u8],
     i: usize,
 ) -> Answer {
-    let (w, s, p) = (words.as_mut_ptr(), store.as_mut_ptr(), packet.as_ptr());
-    unsafe { sys::cetskobi_deliver_packet(me, w, words.len(), s, store.len(), p, packet.len(), i) }
+    let (t, s, p) = (table.as_mut_ptr(), store.as_mut_ptr(), packet.as_ptr());
+    unsafe { sys::cetskobi_deliver_packet(me, t, table.len(), s, store.len(), p, packet.len(), i) }
 }
 
 #[inline(always)]
-pub fn play(script: &[u8], out: &mut [u8]) -> Written {
+pub fn play(script: &[u8], out: &mut [u8]) -> Played {
     let (s, o) = (script.as_ptr(), out.as_mut_ptr());
     unsafe { sys::cetskobi_play(s, script.len(), o, out.len()) }
 }
@@ -143,6 +141,12 @@ impl Answers for Read {
 }
 
 impl Answers for Written {
+    fn told(&self) -> Told {
+        (self.number, [self.len, 0, 0])
+    }
+}
+
+impl Answers for Played {
     fn told(&self) -> Told {
         (self.number, [self.len, 0, 0])
     }

@@ -142,7 +142,7 @@ fn deliver(about: About, parcels: &[Parcel], visit: &mut impl Visit) {
             call: move |e: &mut Engine<Post>, i: usize| {
                 let (p, k) = e.input.1[i + 64 - n];
                 let packet = e.input.0[p].as_slice();
-                engine::deliver_packet(e.me, &mut e.words, &mut e.store, packet, k)
+                engine::deliver_packet(e.me, &mut e.table, &mut e.store, packet, k)
             },
         },
         || On {

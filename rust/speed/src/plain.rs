@@ -2,7 +2,6 @@
 
 use model::engine::{self, Envelope, Message, Record, Refusal, Replica, State, Timestamp};
 
-use crate::engine::Words;
 use crate::side::{Answers, Told};
 
 /// A replica with its lent memory, and what its calls are given.
@@ -14,7 +13,12 @@ pub struct Plain<I> {
 }
 
 impl<I> Plain<I> {
-    pub fn new(me: cetskobi::Replica, records: usize, record: Words, input: I) -> Plain<I> {
+    pub fn new(
+        me: cetskobi::Replica,
+        records: usize,
+        record: cetskobi::Record,
+        input: I,
+    ) -> Plain<I> {
         Plain {
             replica: replica(me),
             table: vec![self::record(record); records],
@@ -32,15 +36,15 @@ pub fn replica(me: cetskobi::Replica) -> Replica {
     }
 }
 
-pub fn record(words: Words) -> Record {
-    let [state, version, tie, writer, written_version, written_tie, acks, len] = words;
+pub fn record(r: cetskobi::Record) -> Record {
+    let stamp = |t: cetskobi::Timestamp| Timestamp::new(t.version, t.tie);
     Record {
-        state: State::ALL[state as usize],
-        timestamp: Timestamp::new(version, tie as u8),
-        last_writer: writer as u8,
-        last_write: Timestamp::new(written_version, written_tie as u8),
-        acks: acks as u16,
-        len: len as u8,
+        state: State::ALL[r.state as usize],
+        timestamp: stamp(r.timestamp),
+        last_writer: r.writer,
+        last_write: stamp(r.written),
+        acks: r.acks,
+        len: r.len,
     }
 }
 

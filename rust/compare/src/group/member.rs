@@ -1,16 +1,20 @@
-use cetskobi::raw::{Replica, WORDS};
+use cetskobi::raw::{Replica, RECORD_BYTES};
 use model::engine::Record;
 
 use super::Run;
+use crate::crossing::{Fields, RecordBytes};
 use crate::memory::Memory;
 use crate::single::{by_engine, on_table, Case, Event};
-use crate::words::{words_of, Words};
 
 /// All memory of so many records is compared after each entry.
 const SMALL: usize = 100;
 
+/// What lies in every byte of the table before the start. Byte 15 of each
+/// record keeps it.
+const OLD: u8 = 77;
+
 /// A stamp as it is ordered.
-type Stamp = (u32, u32);
+type Stamp = (u32, u8);
 
 /// A laptop, in the engine's memory and in the model's.
 pub struct Member {
@@ -31,7 +35,7 @@ impl Member {
     pub(super) fn start(number: u8, run: &Run) -> Member {
         let mut memory = Memory::default();
         memory.lay(
-            &vec![77; WORDS * run.records],
+            &vec![OLD; RECORD_BYTES * run.records],
             &vec![0xee; Record::VALUE_LIMIT * run.records],
         );
         let me = Replica {
@@ -57,9 +61,10 @@ impl Member {
 
     /// The engine's memory as the model's table and store would have it.
     pub(super) fn expected(&self) -> Memory {
-        let words: Vec<Words> = self.table.iter().map(words_of).collect();
+        let bytes = |record: &Record| Fields::of_record(record, OLD).bytes();
+        let table: Vec<RecordBytes> = self.table.iter().map(bytes).collect();
         let mut memory = Memory::default();
-        memory.lay(words.as_flattened(), &self.store);
+        memory.lay(table.as_flattened(), &self.store);
         memory
     }
 
@@ -69,15 +74,14 @@ impl Member {
     pub(super) fn same(&mut self, i: usize) -> Result<(), String> {
         let slots = self.store.as_chunks::<{ Record::VALUE_LIMIT }>().0;
         if let (Some(record), Some(slot)) = (self.table.get(i), slots.get(i)) {
-            self.copy.put_record(i, &words_of(record));
+            self.copy.move_record(i, record);
             self.copy.put_slot(i, slot);
         }
         if self.table.len() <= SMALL {
             return self.moved();
         }
         let beside = [i.wrapping_sub(1), i, i.wrapping_add(1)];
-        let part =
-            |memory: &Memory| beside.map(|i| (memory.record(i).copied(), memory.slot(i).copied()));
+        let part = |memory: &Memory| beside.map(|i| (memory.record(i), memory.slot(i).copied()));
         if part(&self.memory) == part(&self.copy) {
             return Ok(());
         }
@@ -92,8 +96,8 @@ impl Member {
         }
     }
 
-    /// The record's words, if the engine shows it valid.
-    pub(super) fn shown(&self, i: usize) -> Option<&Words> {
-        self.memory.record(i).filter(|record| record[0] == 0)
+    /// The record, if the engine shows it valid.
+    pub(super) fn shown(&self, i: usize) -> Option<Fields> {
+        self.memory.record(i).filter(|record| record.state == 0)
     }
 }

@@ -18,15 +18,15 @@ pub struct Post {
 }
 
 /// How a message comes to a laptop of the engine.
-pub type Carry = fn(&Post, Replica, &mut [u32], &mut [u8]) -> Answer;
+pub type Carry = fn(&Post, Replica, &mut [u8], &mut [u8]) -> Answer;
 
 /// The delivery by itself.
-pub fn by_hand(post: &Post, me: Replica, words: &mut [u32], store: &mut [u8]) -> Answer {
-    raw::deliver(me, words, store, post.i, post.message, &post.value)
+pub fn by_hand(post: &Post, me: Replica, table: &mut [u8], store: &mut [u8]) -> Answer {
+    raw::deliver(me, table, store, post.i, post.message, &post.value)
 }
 
 /// The delivery out of a packet, where it is the second message.
-pub fn by_packet(post: &Post, me: Replica, words: &mut [u32], store: &mut [u8]) -> Answer {
+pub fn by_packet(post: &Post, me: Replica, table: &mut [u8], store: &mut [u8]) -> Answer {
     let message = post.message;
     let ack = [2, 0, 0, 0, 0, 0, 0];
     let entry = [
@@ -41,7 +41,7 @@ pub fn by_packet(post: &Post, me: Replica, words: &mut [u32], store: &mut [u8]) 
     let mut packet = [0; 1400];
     let written = raw::pack(&[ack, entry].concat(), &post.value, &mut packet);
     assert_eq!(written.number, 0);
-    raw::deliver_packet(me, words, store, &packet[..written.len], 1)
+    raw::deliver_packet(me, table, store, &packet[..written.len], 1)
 }
 
 /// An event of the model on its own table and store.
@@ -127,8 +127,8 @@ impl Group {
             value: post.value.clone(),
         };
         let case = Case::on(member.me, post.i, event);
-        let (words, store) = member.memory.lend();
-        let answer = (self.carry)(post, member.me, words, store);
+        let (table, store) = member.memory.lend();
+        let answer = (self.carry)(post, member.me, table, store);
         Some((case, Outcome::of(member.me, answer)))
     }
 
@@ -146,7 +146,7 @@ impl Group {
             _ => me.view & !(1 << me.number),
         };
         let value = match (kind, member.memory.record(i), member.memory.slot(i)) {
-            (1, Some(record), Some(slot)) => slot[..record[7] as usize].to_vec(),
+            (1, Some(record), Some(slot)) => slot[..record.len.into()].to_vec(),
             _ => Vec::new(),
         };
         let message = Message {
@@ -167,7 +167,7 @@ impl Group {
         if case.event == Event::Validate {
             for other in &mut self.members {
                 if has(me.view, other.me.number) {
-                    other.floor[i] = other.floor[i].max((version, tie.into()));
+                    other.floor[i] = other.floor[i].max((version, tie));
                 }
             }
         }
@@ -181,7 +181,7 @@ impl Group {
             let Some(x) = a.shown(i) else {
                 continue;
             };
-            if (x[1], x[2]) < a.floor[i] {
+            if x.stamp() < a.floor[i] {
                 let (me, floor) = (a.me, a.floor[i]);
                 return Err(format!("{me:?} shows {x:?} of {i}, {floor:?} is validated"));
             }
@@ -191,7 +191,7 @@ impl Group {
                     continue;
                 };
                 pairs += 1;
-                let same = (x[1], x[2], x[7]) == (y[1], y[2], y[7]);
+                let same = (x.stamp(), x.len) == (y.stamp(), y.len);
                 if !same || a.memory.slot(i) != b.memory.slot(i) {
                     let (a, b) = (a.me, b.me);
                     return Err(format!("{a:?} shows {x:?} of {i}, {b:?} {y:?}"));

@@ -5,8 +5,8 @@ use model::engine::{bit, has};
 use model::rng::Rng;
 
 use super::{Group, Member, Run, What};
+use crate::crossing::Fields;
 use crate::single::{some_bytes, Event};
-use crate::words::Words;
 
 /// Posts under way are at most so many; older ones are lost.
 const UNDER_WAY: usize = 60;
@@ -77,9 +77,9 @@ impl Schedule {
             _ => self.hot[rng.below(self.hot.len())],
         };
         let anyone = rng.below(group.members.len());
-        let at = |rng: &mut Rng, state: u32| match rng.below(4) {
+        let at = |rng: &mut Rng, state: u8| match rng.below(4) {
             0 => anyone,
-            _ => some_member(rng, group, i, |record| record[0] == state),
+            _ => some_member(rng, group, i, |record| record.state == state),
         };
         let (at, event) = match rng.below(100) {
             0..4 => (anyone, Event::Read),
@@ -90,7 +90,7 @@ impl Schedule {
             }
             10..14 => return self.replay(rng, group, (anyone, i)),
             14..24 => {
-                let state = 3 + rng.below(2) as u32;
+                let state = 3 + rng.below(2) as u8;
                 (at(rng, state), Event::Validate)
             }
             24..30 => (anyone, Event::Resend),
@@ -110,7 +110,7 @@ impl Schedule {
     fn replay(&self, rng: &mut Rng, group: &Group, any: (usize, usize)) -> (usize, What) {
         let mut fit = vec![any];
         for (at, member) in group.members.iter().enumerate() {
-            let gone = |record: &Words| record[0] == 1 && !has(member.me.view, record[3] as u8);
+            let gone = |record: Fields| record.state == 1 && !has(member.me.view, record.writer);
             let hot = self.hot.iter();
             let hot = hot.filter(|&&i| member.memory.record(i).is_some_and(gone));
             fit.extend(hot.map(|&i| (at, i)));
@@ -202,7 +202,7 @@ fn some_views(rng: &mut Rng, first: u16) -> Vec<(u32, u16)> {
 }
 
 /// Mostly one of the members whose record is so, else any.
-fn some_member(rng: &mut Rng, group: &Group, i: usize, wanted: impl Fn(&Words) -> bool) -> usize {
+fn some_member(rng: &mut Rng, group: &Group, i: usize, wanted: impl Fn(Fields) -> bool) -> usize {
     let fits = |member: &Member| member.memory.record(i).is_some_and(&wanted);
     let members = group.members.iter().enumerate();
     let fit: Vec<usize> = members.filter(|(_, m)| fits(m)).map(|(at, _)| at).collect();

@@ -8,11 +8,11 @@ use model::rng::Rng;
 use super::some::some_letter;
 use super::{damage, packet_of, Letter};
 use crate::bytes::Bytes;
+use crate::crossing::sent_of;
 use crate::memory::Memory;
 use crate::settings::Settings;
 use crate::shrink::{drops, less, shrink, Found, Smaller};
-use crate::single::{self, on_words, replica_of, some_case, Event, Kind, Outcome};
-use crate::words::sent_of;
+use crate::single::{self, on_memory, replica_of, some_case, Event, Kind, Outcome};
 
 /// A packet, the message that is delivered from it, and what is lent. The
 /// case's own event tells which message was meant.
@@ -27,15 +27,15 @@ pub struct Case {
 pub type Deliver = fn(&Case, &mut Memory) -> Outcome;
 
 pub fn by_engine(case: &Case, memory: &mut Memory) -> Outcome {
-    let (words, store) = memory.lend();
+    let (table, store) = memory.lend();
     let me = case.lent.me;
-    let answer = raw::deliver_packet(me, words, store, &case.packet, case.i);
+    let answer = raw::deliver_packet(me, table, store, &case.packet, case.i);
     Outcome::of(me, answer)
 }
 
 pub fn by_model(case: &Case, memory: &mut Memory) -> Outcome {
     let me = case.lent.me;
-    on_words(memory, |table, store| {
+    on_memory(memory, |table, store| {
         let answer = packet::deliver(&replica_of(me), table, store, &case.packet, case.i);
         Outcome {
             number: number(&answer),

@@ -6,9 +6,9 @@ use model::packet;
 
 use super::{damage, packet_of, set_total, some_packet, Letter};
 use crate::bytes::Bytes;
+use crate::crossing::sent_of;
 use crate::settings::Settings;
 use crate::shrink::{drops, less, plainer, shrink, Found, Smaller};
-use crate::words::sent_of;
 
 /// How often each answer came: 0, and 20 to 23.
 #[derive(Clone, Debug, Default)]

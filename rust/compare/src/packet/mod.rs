@@ -10,7 +10,7 @@ pub use some::{damage, set_total, some_packet};
 use model::engine::Envelope;
 use model::packet::Entry;
 
-use crate::words::message_of;
+use crate::crossing::message_of;
 
 /// The words of one message that goes into a packet: kind, sender, epoch,
 /// record, version, tie-breaker, length.

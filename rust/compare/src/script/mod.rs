@@ -7,7 +7,7 @@ pub use some::some_script;
 use std::collections::BTreeMap;
 use std::fmt;
 
-use cetskobi::raw::{self, Written};
+use cetskobi::raw::{self, Played};
 use model::player::{self, INPUT_LIMIT};
 
 use crate::bytes::Bytes;
@@ -59,22 +59,22 @@ impl fmt::Debug for Script {
 }
 
 /// Plays a script into an output.
-pub type Play = fn(&[u8], &mut [u8]) -> Written;
+pub type Play = fn(&[u8], &mut [u8]) -> Played;
 
-pub fn by_engine(script: &[u8], out: &mut [u8]) -> Written {
+pub fn by_engine(script: &[u8], out: &mut [u8]) -> Played {
     raw::play(script, out)
 }
 
-pub fn by_model(script: &[u8], out: &mut [u8]) -> Written {
+pub fn by_model(script: &[u8], out: &mut [u8]) -> Played {
     if script.len() > INPUT_LIMIT || out.len() < 25 * script.len() + 2 {
-        return Written {
+        return Played {
             number: BEYOND,
             len: 0,
         };
     }
     let printed = player::play(script);
     out[..printed.len()].copy_from_slice(&printed);
-    Written {
+    Played {
         number: 0,
         len: printed.len(),
     }
@@ -100,10 +100,10 @@ impl Bench {
         if a == b && self.engine == self.other {
             return Ok(&self.engine[..a.len]);
         }
-        let show = |out: &[u8], written: Written| {
-            let printed = out.get(..written.len).unwrap_or_default();
+        let show = |out: &[u8], played: Played| {
+            let printed = out.get(..played.len).unwrap_or_default();
             let lines = String::from_utf8_lossy(printed).replace('\n', " / ");
-            format!("{} with {}: {lines}", written.number, written.len)
+            format!("{} with {}: {lines}", played.number, played.len)
         };
         let (a, b) = (show(&self.engine, a), show(&self.other, b));
         Err(format!("engine {a}, other {b}"))

@@ -1,8 +1,8 @@
-use cetskobi::raw::{Message, Replica, WORDS};
+use cetskobi::raw::{Message, Replica, RECORD_BYTES};
 use model::engine::Record;
 
 use crate::bytes::Bytes;
-use crate::words::Words;
+use crate::crossing::Fields;
 
 /// An event of document 01, with what it takes along.
 #[derive(Clone, Debug, PartialEq)]
@@ -71,14 +71,14 @@ impl Kind {
 #[derive(Clone, Debug, PartialEq)]
 pub struct Case {
     pub me: Replica,
-    /// How many words and how many bytes are lent.
-    pub words: usize,
+    /// How many bytes are lent, as table and as store.
+    pub table: usize,
     pub store: usize,
     /// The part of the pool that lies in the other records.
     pub part: usize,
-    /// The named record, its words and its 192 bytes, if it is there.
+    /// The named record, its fields and its 192 bytes, if it is there.
     pub i: usize,
-    pub record: Words,
+    pub record: Fields,
     pub slot: Bytes,
     pub event: Event,
 }
@@ -88,11 +88,11 @@ impl Case {
     pub fn on(me: Replica, i: usize, event: Event) -> Case {
         Case {
             me,
-            words: 0,
+            table: 0,
             store: 0,
             part: 0,
             i,
-            record: [0; WORDS],
+            record: Fields::default(),
             slot: Bytes::default(),
             event,
         }
@@ -118,7 +118,7 @@ impl Case {
 
     /// Memory for so many records.
     pub fn lend(&mut self, records: usize) {
-        self.words = WORDS * records;
+        self.table = RECORD_BYTES * records;
         self.store = Record::VALUE_LIMIT * records;
     }
 

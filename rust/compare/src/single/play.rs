@@ -3,8 +3,8 @@ use model::engine::{number, Envelope, Record};
 use model::rng::Rng;
 
 use super::{Case, Event};
+use crate::crossing::{message_of, sent_of, table_of};
 use crate::memory::{Memory, Pool};
-use crate::words::{message_of, sent_of, table_of, words_of};
 
 /// What an event answers. The moved memory goes with it.
 #[derive(Clone, Debug, PartialEq)]
@@ -24,12 +24,12 @@ pub type Play = fn(&Case, &mut Memory) -> Outcome;
 
 pub fn by_engine(case: &Case, memory: &mut Memory) -> Outcome {
     let (me, i) = (case.me, case.i);
-    let (words, store) = memory.lend();
+    let (table, store) = memory.lend();
     match &case.event {
-        Event::Start => admitted(raw::start(me.number, me.view, words, store)),
+        Event::Start => admitted(raw::start(me.number, me.view, table, store)),
         Event::View { epoch, set } => admitted(raw::view(me, *epoch, *set)),
         Event::Read => {
-            let read = raw::read(me, words, store, i);
+            let read = raw::read(me, table, store, i);
             // A refused read gives the empty part, wherever that is.
             let at = if read.number == 0 {
                 Record::VALUE_LIMIT * i
@@ -43,13 +43,13 @@ pub fn by_engine(case: &Case, memory: &mut Memory) -> Outcome {
                 me,
             }
         }
-        Event::Write { value } => Outcome::of(me, raw::write(me, words, store, i, value)),
-        Event::Replay => Outcome::of(me, raw::replay(me, words, store, i)),
+        Event::Write { value } => Outcome::of(me, raw::write(me, table, store, i, value)),
+        Event::Replay => Outcome::of(me, raw::replay(me, table, store, i)),
         Event::Deliver { message, value } => {
-            Outcome::of(me, raw::deliver(me, words, store, i, *message, value))
+            Outcome::of(me, raw::deliver(me, table, store, i, *message, value))
         }
-        Event::Validate => Outcome::of(me, raw::validate(me, words, store, i)),
-        Event::Resend => Outcome::of(me, raw::resend(me, words, store, i)),
+        Event::Validate => Outcome::of(me, raw::validate(me, table, store, i)),
+        Event::Resend => Outcome::of(me, raw::resend(me, table, store, i)),
     }
 }
 
@@ -75,21 +75,21 @@ fn admitted(admission: Admission) -> Outcome {
 }
 
 pub fn by_model(case: &Case, memory: &mut Memory) -> Outcome {
-    on_words(memory, |table, store| on_table(case, table, store))
+    on_memory(memory, |table, store| on_table(case, table, store))
 }
 
-/// Lets the model move the table of these words.
-pub fn on_words(
+/// Lets the model move the table of this memory.
+pub fn on_memory(
     memory: &mut Memory,
     event: impl FnOnce(&mut [Record], &mut [u8]) -> Outcome,
 ) -> Outcome {
-    let before = table_of(memory.words());
+    let before = table_of(memory.table());
     let mut table = before.clone();
     let outcome = event(&mut table, memory.lend().1);
-    // A record that stayed keeps its words, also where they are no record.
+    // A record that stayed keeps its bytes, also where they are no record.
     for (k, (before, after)) in before.iter().zip(&table).enumerate() {
         if before != after {
-            memory.put_record(k, &words_of(after));
+            memory.move_record(k, after);
         }
     }
     outcome
@@ -181,7 +181,7 @@ impl Bench {
     /// Lays out what the case lends, for the engine.
     pub fn lay(&mut self, case: &Case) -> &mut Memory {
         let memory = &mut self.engine;
-        self.pool.lay(case.part, case.words, case.store, memory);
+        self.pool.lay(case.part, case.table, case.store, memory);
         memory.put_record(case.i, &case.record);
         if let Ok(slot) = case.slot[..].try_into() {
             memory.put_slot(case.i, slot);

@@ -1,5 +1,8 @@
 //! Lesser cases: numbers, alone and together, values and bytes.
 
+use cetskobi::raw::RECORD_BYTES;
+use model::engine::bit;
+
 use super::{Case, Event};
 use crate::shrink::{drops, less, plainer, Number, Smaller};
 
@@ -19,13 +22,15 @@ impl Case {
 
     /// What belongs together becomes less together.
     fn whole(&self) -> impl Iterator<Item = Case> + '_ {
-        let lend = |records| {
+        let lend = |records, over| {
             self.with(|case| {
                 case.i = 0;
                 case.lend(records);
+                case.table += over;
             })
         };
-        let whole = [lend(1), lend(2), self.with(Case::renumber)];
+        let over = lend(1, self.table % RECORD_BYTES);
+        let whole = [lend(1, 0), lend(2, 0), over, self.with(Case::renumber)];
         let sum = |case: &Case| case.all().iter().map(|&n| u128::from(n)).sum::<u128>();
         whole.into_iter().filter(move |case| sum(case) < sum(self))
     }
@@ -34,7 +39,7 @@ impl Case {
     fn renumber(&mut self) {
         let away = self.me.number;
         (self.me.number, self.me.view) = (0, 3);
-        self.record[6] &= !(1 | 1u32.checked_shl(away.into()).unwrap_or(0));
+        self.record.acks &= !(1 | bit(away));
         if let Event::Deliver { message, .. } = &mut self.event {
             message.sender = 1;
         }
@@ -91,13 +96,23 @@ impl Case {
         let mut all = vec![
             Number::Size(&mut self.part),
             Number::Size(&mut self.i),
-            Number::Size(&mut self.words),
+            Number::Size(&mut self.table),
             Number::Size(&mut self.store),
             Number::Byte(&mut self.me.number),
             Number::Short(&mut self.me.view),
             Number::Word(&mut self.me.epoch),
         ];
-        all.extend(self.record.iter_mut().map(Number::Word));
+        all.extend([
+            Number::Byte(&mut self.record.state),
+            Number::Byte(&mut self.record.tie),
+            Number::Byte(&mut self.record.writer),
+            Number::Byte(&mut self.record.written_tie),
+            Number::Word(&mut self.record.version),
+            Number::Word(&mut self.record.written_version),
+            Number::Short(&mut self.record.acks),
+            Number::Byte(&mut self.record.len),
+            Number::Byte(&mut self.record.unused),
+        ]);
         match &mut self.event {
             Event::View { epoch, set } => all.extend([Number::Word(epoch), Number::Short(set)]),
             Event::Deliver { message, .. } => all.extend([

@@ -1,14 +1,14 @@
 //! Random cases: mostly an event that is accepted, with a few things made
 //! wrong, so that every answer comes often; now and then anything at all.
 
-use cetskobi::raw::{Message, Replica, WORDS};
+use cetskobi::raw::{Message, Replica, RECORD_BYTES};
 use model::engine::{bit, has, Record};
 use model::rng::Rng;
 
 use super::{Case, Event, Kind};
 use crate::bytes::Bytes;
+use crate::crossing::Fields;
 use crate::memory::Pool;
-use crate::words::Words;
 
 pub fn some_case(rng: &mut Rng) -> Case {
     let kind = Kind::ALL[rng.below(Kind::ALL.len())];
@@ -34,6 +34,14 @@ pub fn some_word(rng: &mut Rng) -> u32 {
         3 => 1 << rng.below(32),
         4 => [15, 16, 192, 193, 255, 256, 65_535, 65_536][rng.below(8)],
         _ => rng.below(20) as u32,
+    }
+}
+
+/// Any, often near a limit.
+fn some_byte(rng: &mut Rng) -> u8 {
+    match rng.below(3) {
+        0 => [0, 1, 4, 5, 15, 16, 128, 192, 193, 255][rng.below(10)],
+        _ => rng.next_u64() as u8,
     }
 }
 
@@ -92,7 +100,7 @@ fn good(rng: &mut Rng, kind: Kind) -> Case {
     };
     let mut case = Case {
         me,
-        words: 0,
+        table: 0,
         store: 0,
         part: 1 + rng.below(Pool::PARTS),
         i: rng.below(count),
@@ -104,27 +112,28 @@ fn good(rng: &mut Rng, kind: Kind) -> Case {
     case
 }
 
-fn sound(rng: &mut Rng, me: &Replica) -> Words {
+fn sound(rng: &mut Rng, me: &Replica) -> Fields {
     let version = some_word(rng);
-    let tie = rng.below(16) as u32;
-    let (own_version, own_tie) = match rng.below(2) {
+    let tie = rng.below(16) as u8;
+    let (written_version, written_tie) = match rng.below(2) {
         0 => (version, tie),
-        _ => (some_word(rng), rng.below(16) as u32),
+        _ => (some_word(rng), rng.below(16) as u8),
     };
-    [
-        rng.below(5) as u32,
-        version,
+    Fields {
+        state: rng.below(5) as u8,
         tie,
-        rng.below(16) as u32,
-        own_version,
-        own_tie,
-        u32::from(some_set(rng) & !bit(me.number)),
-        some_len(rng) as u32,
-    ]
+        writer: rng.below(16) as u8,
+        written_tie,
+        version,
+        written_version,
+        acks: some_set(rng) & !bit(me.number),
+        len: some_len(rng) as u8,
+        unused: some_byte(rng),
+    }
 }
 
 /// An event of this kind, and the record moved to where it is accepted.
-fn event(rng: &mut Rng, kind: Kind, me: &Replica, record: &mut Words) -> Event {
+fn event(rng: &mut Rng, kind: Kind, me: &Replica, record: &mut Fields) -> Event {
     let others = me.view & !bit(me.number);
     match kind {
         Kind::Start => Event::Start,
@@ -137,32 +146,32 @@ fn event(rng: &mut Rng, kind: Kind, me: &Replica, record: &mut Words) -> Event {
             },
         },
         Kind::Read => {
-            record[0] = 0;
+            record.state = 0;
             Event::Read
         }
         Kind::Write => {
-            record[0] = rng.below(2) as u32;
+            record.state = rng.below(2) as u8;
             let len = some_len(rng);
             Event::Write {
                 value: some_bytes(rng, len),
             }
         }
         Kind::Replay => {
-            record[0] = 1;
+            record.state = 1;
             if let Some(gone) = one_of(rng, !me.view) {
-                record[3] = gone.into();
+                record.writer = gone;
             }
             Event::Replay
         }
         Kind::Validate => {
-            record[0] = 3 + rng.below(2) as u32;
-            record[6] |= u32::from(others);
+            record.state = 3 + rng.below(2) as u8;
+            record.acks |= others;
             Event::Validate
         }
         Kind::Resend => {
-            record[0] = [0, 3, 4][rng.below(3)];
+            record.state = [0, 3, 4][rng.below(3)];
             if rng.chance(3, 4) {
-                record[3] = me.number.into();
+                record.writer = me.number;
             }
             Event::Resend
         }
@@ -170,10 +179,10 @@ fn event(rng: &mut Rng, kind: Kind, me: &Replica, record: &mut Words) -> Event {
     }
 }
 
-fn delivery(rng: &mut Rng, kind: Kind, me: &Replica, record: &mut Words) -> Event {
+fn delivery(rng: &mut Rng, kind: Kind, me: &Replica, record: &mut Fields) -> Event {
     let others = me.view & !bit(me.number);
     let sender = one_of(rng, others).unwrap_or(0);
-    let (mut version, mut tie) = (record[1], record[2] as u8);
+    let (mut version, mut tie) = record.stamp();
     let mut len = 0;
     match kind {
         Kind::Inv => {
@@ -187,11 +196,11 @@ fn delivery(rng: &mut Rng, kind: Kind, me: &Replica, record: &mut Words) -> Even
             }
         }
         Kind::Ack => {
-            record[0] = 2 + rng.below(3) as u32;
-            record[6] &= !u32::from(bit(sender));
-            (version, tie) = (record[4], record[5] as u8);
+            record.state = 2 + rng.below(3) as u8;
+            record.acks &= !bit(sender);
+            (version, tie) = record.written();
         }
-        Kind::Val => record[0] = 1 + rng.below(4) as u32,
+        Kind::Val => record.state = 1 + rng.below(4) as u8,
         _ => {}
     }
     let kind = match kind {
@@ -219,23 +228,23 @@ fn spoil(rng: &mut Rng, case: &mut Case) {
         0 => case.me.number = some_number(rng),
         1 => case.me.view = some_set(rng),
         2 => spoil_sizes(rng, case),
-        3 => case.i = some_index(rng, case.words / WORDS),
+        3 => case.i = some_index(rng, case.table / RECORD_BYTES),
         4..7 => spoil_record(rng, case),
         _ => spoil_event(rng, case),
     }
 }
 
 fn spoil_sizes(rng: &mut Rng, case: &mut Case) {
-    let count = case.words / WORDS;
+    let count = case.table / RECORD_BYTES;
     match rng.below(24) {
         0 => case.lend(0),
-        1 => case.words = 0,
+        1 => case.table = 0,
         2 => case.store = 0,
-        3 => case.words += 1 + rng.below(7),
-        4 => case.words = case.words.saturating_sub(1 + rng.below(7)),
-        5 => case.words = rng.below(16),
-        6 => case.words += WORDS,
-        7 => case.words = case.words.saturating_sub(WORDS),
+        3 => case.table += 1 + rng.below(15),
+        4 => case.table = case.table.saturating_sub(1 + rng.below(15)),
+        5 => case.table = rng.below(32),
+        6 => case.table += RECORD_BYTES,
+        7 => case.table = case.table.saturating_sub(RECORD_BYTES),
         8 => case.store += 1,
         9 => case.store = case.store.saturating_sub(1),
         10 => case.store += Record::VALUE_LIMIT,
@@ -243,16 +252,16 @@ fn spoil_sizes(rng: &mut Rng, case: &mut Case) {
         12 => case.store = 191 * count,
         13 => case.store = 193 * count.min(4000),
         14 => case.store = rng.below(1000),
-        15 => case.store = case.words,
+        15 => case.store = case.table,
         16 => {
             case.lend(4097);
             case.i = some_index(rng, 4097);
         }
-        17 => case.store = Record::VALUE_LIMIT * (case.words / WORDS + rng.below(2)),
+        17 => case.store = Record::VALUE_LIMIT * (count + rng.below(2)),
         18 => {
-            // A whole store, and words that are no table.
+            // A whole store, and bytes over in the table.
             case.store = Record::VALUE_LIMIT * count;
-            case.words = WORDS * count + 1 + rng.below(7);
+            case.table = RECORD_BYTES * count + 1 + rng.below(15);
         }
         _ => {
             case.lend(1 + rng.below(5));
@@ -264,8 +273,7 @@ fn some_index(rng: &mut Rng, count: usize) -> usize {
     match rng.below(12) {
         0 => usize::MAX,
         1 => usize::MAX / Record::VALUE_LIMIT + 1,
-        2 => usize::MAX / WORDS + 1,
-        3 => usize::MAX / (4 * WORDS) + 1 + rng.below(2),
+        2..4 => usize::MAX / RECORD_BYTES + 1 + rng.below(2),
         4 => 1 << (32 + rng.below(32)),
         5 => 4095 + rng.below(3),
         6 => count + rng.below(3),
@@ -276,24 +284,27 @@ fn some_index(rng: &mut Rng, count: usize) -> usize {
 }
 
 fn spoil_record(rng: &mut Rng, case: &mut Case) {
+    let record = &mut case.record;
     match rng.below(12) {
-        0 => case.record[0] = rng.below(5) as u32,
-        1 => case.record[0] = [5, 6, 255, 256, u32::MAX][rng.below(5)],
-        2 => case.record[6] |= u32::from(bit(case.me.number)),
-        3 => case.record[7] = 190 + rng.below(5) as u32,
-        // Too great for the field in the upper bits alone.
-        4 => {
-            let k = [0, 2, 3, 5, 6, 7][rng.below(6)];
-            let above = if k == 6 { 16 } else { 8 };
-            case.record[k] |= 1 << (above + rng.below(32 - above));
+        0 => record.state = rng.below(5) as u8,
+        1 => record.state = [5, 6, 8, 128, 255, some_byte(rng)][rng.below(6)],
+        2 => record.acks |= bit(case.me.number),
+        3 => record.len = 190 + rng.below(5) as u8,
+        4 => record.version = u32::MAX - rng.below(2) as u32,
+        5 => record.tie = 14 + rng.below(4) as u8,
+        6 => record.written_tie = 14 + rng.below(4) as u8,
+        7 => record.writer = some_number(rng),
+        8 => record.acks = some_set(rng),
+        _ => {
+            let mut bytes = record.bytes();
+            match rng.below(4) {
+                0 => bytes[rng.below(RECORD_BYTES)] ^= 1 << rng.below(8),
+                1 => bytes[rng.below(RECORD_BYTES)] = some_byte(rng),
+                2 => bytes.fill_with(|| some_byte(rng)),
+                _ => bytes.fill(0),
+            }
+            *record = Fields::of(&bytes);
         }
-        5 => case.record[1] = u32::MAX - rng.below(2) as u32,
-        6 => case.record[rng.below(WORDS)] = some_word(rng),
-        7 => case.record[[2, 3, 5][rng.below(3)]] = 14 + rng.below(4) as u32,
-        8 => case.record[6] = some_set(rng).into(),
-        9 => case.record[3] = some_number(rng).into(),
-        10 => case.record = std::array::from_fn(|_| some_word(rng)),
-        _ => case.record = [0; WORDS],
     }
 }
 
@@ -308,8 +319,8 @@ fn spoil_event(rng: &mut Rng, case: &mut Case) {
             _ => *set = case.me.view & (1 << rng.below(16)),
         },
         Event::Write { value } => match rng.below(4) {
-            0 => case.record[0] = rng.below(5) as u32,
-            1 => case.record[1] = u32::MAX - rng.below(2) as u32,
+            0 => case.record.state = rng.below(5) as u8,
+            1 => case.record.version = u32::MAX - rng.below(2) as u32,
             _ => *value = some_bytes(rng, len),
         },
         Event::Deliver { message, value } => match rng.below(12) {
@@ -321,18 +332,18 @@ fn spoil_event(rng: &mut Rng, case: &mut Case) {
             5 => message.version = message.version.wrapping_add(1),
             6 => message.tie = (message.tie + 1) % 16,
             7 => *value = some_bytes(rng, len),
-            8 => case.record[6] |= 1u32.checked_shl(message.sender.into()).unwrap_or(0),
+            8 => case.record.acks |= bit(message.sender),
             9 => message.kind = rng.below(5) as u8,
             10 => message.version = some_word(rng),
-            _ => case.record[0] = rng.below(5) as u32,
+            _ => case.record.state = rng.below(5) as u8,
         },
         Event::Validate => match rng.below(2) {
-            0 => case.record[0] = rng.below(5) as u32,
-            _ => case.record[6] &= u32::from(some_set(rng)),
+            0 => case.record.state = rng.below(5) as u8,
+            _ => case.record.acks &= some_set(rng),
         },
         Event::Start | Event::Read | Event::Replay | Event::Resend => match rng.below(2) {
-            0 => case.record[0] = rng.below(5) as u32,
-            _ => case.record[3] = rng.below(16) as u32,
+            0 => case.record.state = rng.below(5) as u8,
+            _ => case.record.writer = rng.below(16) as u8,
         },
     }
 }

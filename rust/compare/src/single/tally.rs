@@ -1,6 +1,7 @@
 use std::fmt;
 
-use cetskobi::raw::WORDS;
+use cetskobi::raw::RECORD_BYTES;
+use model::engine::has;
 
 use super::{Case, Event, Kind, Outcome};
 
@@ -14,24 +15,40 @@ pub struct Tally {
     older: [u64; 5],
     /// Refused by question 2, by what is wrong with the memory.
     sizes: [u64; SIZES.len()],
-    /// Refused by question 5, by the word that is too great for its field.
-    no_record: [u64; WORDS],
+    /// Refused by question 5, by what alone is wrong with the record.
+    unsound: [u64; UNSOUND.len()],
 }
 
 type Test = fn(&Case) -> bool;
 
 /// What may be wrong with lent memory, and the test of it.
-const SIZES: [(&str, Test); 6] = [
-    ("no records", |case| case.words == 0),
-    ("4,097 records", |case| case.words == 4097 * WORDS),
-    ("words that are no table", |case| case.words % WORDS != 0),
-    ("no store", |case| case.store == 0 && case.words > 0),
-    ("a short store", |case| case.store < 24 * case.words),
-    ("a long store", |case| case.store > 24 * case.words),
+const SIZES: [(&str, Test); 7] = [
+    ("no records", |case| case.table == 0),
+    ("4,097 records", |case| case.table == 4097 * RECORD_BYTES),
+    ("bytes over in the table", |case| {
+        case.table % RECORD_BYTES != 0
+    }),
+    ("bytes over and a store for the rest", |case| {
+        case.table % RECORD_BYTES != 0 && case.store == 192 * (case.table / RECORD_BYTES)
+    }),
+    ("no store", |case| case.store == 0 && case.table > 0),
+    ("a short store", |case| case.store < 12 * case.table),
+    ("a long store", |case| case.store > 12 * case.table),
 ];
 
-/// The greatest number of each word that its field holds, but of the state.
-const FIELDS: [u32; WORDS] = [4, u32::MAX, 255, 255, u32::MAX, 255, 65_535, 255];
+/// What may be wrong with the record, and the test of it.
+const UNSOUND: [(&str, Test); 6] = [
+    ("no state", |case| case.record.state > 4),
+    ("a tie-breaker above 15", |case| case.record.tie > 15),
+    ("a last writer above 15", |case| case.record.writer > 15),
+    ("a last-write tie-breaker above 15", |case| {
+        case.record.written_tie > 15
+    }),
+    ("a length above 192", |case| case.record.len > 192),
+    ("its own acknowledgement", |case| {
+        has(case.record.acks, case.me.number)
+    }),
+];
 
 impl Tally {
     pub fn count(&mut self, case: &Case, outcome: &Outcome) {
@@ -44,22 +61,23 @@ impl Tally {
                 }
             }
             5 => {
-                for (k, count) in self.no_record.iter_mut().enumerate() {
-                    *count += u64::from(case.record[k] > FIELDS[k]);
+                let faults = UNSOUND.map(|(_, wrong)| wrong(case));
+                if faults.iter().filter(|&&wrong| wrong).count() == 1 {
+                    for (count, wrong) in self.unsound.iter_mut().zip(faults) {
+                        *count += u64::from(wrong);
+                    }
                 }
             }
             _ => {}
         }
-        let state = case.record[0] as usize;
+        let state = usize::from(case.record.state);
         if outcome.number != 0 || state >= 5 {
             return;
         }
         let of_record = !matches!(kind, Kind::Start | Kind::View);
         match &case.event {
             Event::Deliver { message, .. }
-                if kind == Kind::Inv
-                    && (message.version, u32::from(message.tie))
-                        <= (case.record[1], case.record[2]) =>
+                if kind == Kind::Inv && (message.version, message.tie) <= case.record.stamp() =>
             {
                 self.older[state] += 1;
             }
@@ -79,9 +97,7 @@ impl Tally {
             let counts = &self.accepted[kind as usize];
             states(kind).iter().map(|&state| counts[state])
         });
-        let fields = (0..WORDS).filter(|&k| FIELDS[k] < u32::MAX);
-        let fields = fields.map(|k| self.no_record[k]);
-        let wrong = self.sizes.into_iter().chain(fields);
+        let wrong = self.sizes.into_iter().chain(self.unsound);
         let all = answers.chain(accepted).chain(self.older).chain(wrong);
         all.min().unwrap_or(0)
     }
@@ -145,10 +161,11 @@ impl fmt::Display for Tally {
             write!(f, " {}:{count}", letter(state))?;
         }
         writeln!(f)?;
-        for (count, (name, _)) in self.sizes.iter().zip(SIZES) {
+        let sizes = self.sizes.iter().zip(SIZES);
+        for (count, (name, _)) in sizes.chain(self.unsound.iter().zip(UNSOUND)) {
             writeln!(f, "          {count} with {name}")?;
         }
-        writeln!(f, "          words too great: {:?}", self.no_record)
+        Ok(())
     }
 }
 
