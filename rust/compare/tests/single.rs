@@ -27,14 +27,14 @@ const ME: Replica = Replica {
     epoch: 9,
 };
 
-/// All numbers are different, and all bytes of them.
+/// No two bytes behind the state are alike.
 const RECORD: Fields = Fields {
     state: 0,
     tie: 4,
     writer: 3,
     written_tie: 6,
     version: 0x1112_1314,
-    written_version: 0x2122_2324,
+    written_version: 0x3132_3334,
     acks: 0x8122,
     len: 62,
     unused: 0xaa,
