@@ -1,4 +1,5 @@
 // The writer of packets. What a packet is stands in crate `packet`, and the laws of both with it.
+mod contents;
 mod fields;
 mod output;
 mod writer;
