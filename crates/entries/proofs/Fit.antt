@@ -1,6 +1,6 @@
 -- Question 22 may be asked of the words themselves: where it says yes they are the fields of the message that they stand for.
 use Prim.Native.Nat.{ℕ, _*_, _<_}
-use mathlib.Core.Path.{_≡_, refl, sym, ap}
+use mathlib.Core.Path.{_≡_, refl, ap}
 use mathlib.Core.Bool.{Bool, true, false}
 use mathlib.Core.List.{List}
 use native.Mathlib.Omega.{arith}
@@ -9,8 +9,7 @@ use lib.Dec.{ltb}
 use lib.ListN.{getD}
 use Rattle.packet.specs.declared.entry.Fields.{Fields}
 use Rattle.packet.specs.Entry.{entryOf, fieldsFor, good, noEntry}
-use Rattle.hermes.proofs.Tests.{is-false}
-use Rattle.packet.proofs.Entries.{Good, good-parts, message-back}
+use Rattle.packet.proofs.Entries.{good-parts, not-good, message-back}
 use Rattle.entries.specs.Words.{orUnfit, entryIn, fieldsAt, entryAt, entriesFrom}
 use Rattle.entries.proofs.Places.{message-at}
 
@@ -19,16 +18,13 @@ good-fit : (f : Fields) → good (fieldsFor (entryIn f) 0) ≡ good f
 unfolding entryIn good
 good-fit f = go (ltb (f .kind) 1) (ltb 3 (f .kind)) (ltb 255 (f .sender)) (ltb 255 (f .tie)) (ltb 255 (f .len)) refl refl refl refl refl
   where
-    no : (Good f → ⊥) → false ≡ good f
-    no n = sym (is-false (good f) (λ h. n (good-parts f h)))
-
     go : (a b c d e : Bool) → ltb (f .kind) 1 ≡ a → ltb 3 (f .kind) ≡ b → ltb 255 (f .sender) ≡ c → ltb 255 (f .tie) ≡ d → ltb 255 (f .len) ≡ e
         → good (fieldsFor (orUnfit a (orUnfit b (orUnfit c (orUnfit d (orUnfit e (entryOf f)))))) 0) ≡ good f
-    go true b c d e p q r s t = no (λ g. omega (arith, ltb-true (f .kind) 1 p))
-    go false true c d e p q r s t = no (λ g. omega (arith, ltb-true 3 (f .kind) q))
-    go false false true d e p q r s t = no (λ g. omega (arith, ltb-true 255 (f .sender) r))
-    go false false false true e p q r s t = no (λ g. omega (arith, ltb-true 255 (f .tie) s))
-    go false false false false true p q r s t = no (λ g. omega (arith, ltb-true 255 (f .len) t))
+    go true b c d e p q r s t = not-good f (λ g. omega (arith, ltb-true (f .kind) 1 p))
+    go false true c d e p q r s t = not-good f (λ g. omega (arith, ltb-true 3 (f .kind) q))
+    go false false true d e p q r s t = not-good f (λ g. omega (arith, ltb-true 255 (f .sender) r))
+    go false false false true e p q r s t = not-good f (λ g. omega (arith, ltb-true 255 (f .tie) s))
+    go false false false false true p q r s t = not-good f (λ g. omega (arith, ltb-true 255 (f .len) t))
     go false false false false false p q r s t =
         ap good (message-back f (f .offset) (ltb-false (f .kind) 1 p) (ltb-false 3 (f .kind) q) refl)
 

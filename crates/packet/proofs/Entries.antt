@@ -14,7 +14,7 @@ use Rattle.packet.specs.declared.entry.Entry.{Entry}
 use Rattle.packet.specs.declared.entry.Fields.{Fields}
 use Rattle.packet.specs.Bytes.{window, Bytes}
 use Rattle.packet.specs.Entry.{fieldsOf, entryBytes, kindOf, timestampOf, messageOf, entryOf, fieldsFor, bodied, good, Fits}
-use Rattle.hermes.proofs.Tests.{both}
+use Rattle.hermes.proofs.Tests.{both, is-false}
 use Rattle.packet.proofs.Width.{num-be, window-drop, be-window, window-lt}
 
 -- the fields fit their widths
@@ -95,6 +95,9 @@ good-parts f h =
       index = leb-true _ _ (s4 .1);
       len = leb-true _ _ (s5 .1);
     }
+
+pub not-good : (f : Fields) → (Good f → ⊥) → false ≡ good f
+not-good f n = sym (is-false (good f) (λ h. n (good-parts f h)))
 
 -- an offset is no part of `good`
 pub good-offset : (e : Entry) (a b : ℕ) → good (fieldsFor e a) ≡ good (fieldsFor e b)

@@ -14,8 +14,8 @@ use Rattle.packet.specs.declared.entry.Entry.{Entry}
 use Rattle.packet.specs.declared.answer.Written.the-variants as answer
 use Rattle.packet.specs.Writing.{summed, totalOf, allGood, question24, question25, writeRefusal, written}
 use Rattle.packet.proofs.Writing.{accepted}
-use Rattle.packet_writer.specs.declared.contents.Asked.{Asked}
-use Rattle.packet_writer.specs.declared.contents.Asked.the-variants.{Passed, Refused}
+use Rattle.packet_writer.specs.declared.question.Asked.{Asked}
+use Rattle.packet_writer.specs.declared.question.Asked.the-variants.{Passed, Refused}
 use Rattle.packet_writer.specs.Asking.{asked}
 
 -- what the first loop's answer tells

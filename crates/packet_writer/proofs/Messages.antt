@@ -21,7 +21,7 @@ use Rattle.packet.proofs.RoundTrip.{length-encode}
 use Rattle.entries.specs.Words.{fieldsAt, entriesFrom}
 use Rattle.entries.proofs.Places.{length-entries}
 use Rattle.entries.proofs.Fit.{good-message, fields-message}
-use Rattle.packet_writer.specs.declared.contents.Asked.the-variants.{Passed, Refused}
+use Rattle.packet_writer.specs.declared.question.Asked.the-variants.{Passed, Refused}
 use Rattle.packet_writer.specs.Asking.{asked}
 use Rattle.packet_writer.proofs.Stores.{sets-then}
 

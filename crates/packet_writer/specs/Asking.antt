@@ -3,8 +3,8 @@ use mathlib.Core.Bool.{cond}
 use mathlib.Core.List.{List}
 use Rattle.packet.specs.declared.entry.Entry.{Entry}
 use Rattle.packet.specs.Writing.{summed, allGood}
-use Rattle.packet_writer.specs.declared.contents.Asked.{Asked}
-use Rattle.packet_writer.specs.declared.contents.Asked.the-variants.{Passed, Refused}
+use Rattle.packet_writer.specs.declared.question.Asked.{Asked}
+use Rattle.packet_writer.specs.declared.question.Asked.the-variants.{Passed, Refused}
 
 -- 01, question 24, "fields as in 22": passed with the summed length of the bodies, or refused
 unfoldable pub asked : List Entry → Asked

@@ -8,54 +8,11 @@ ghost use Rattle.packet.specs.Entry.{entryBytes, good};
 ghost use Rattle.packet.specs.Reading.{entryAt};
 ghost use Rattle.packet.specs.Writing.{contents, allGood};
 ghost use Rattle.entries.specs.Words.{fieldsAt, entriesFrom};
-ghost use Rattle.packet_writer.specs.Asking.{asked};
 use crate::output::put2;
 use crate::output::put4;
 use entries::WORDS;
-use hermes::Record;
 use packet::ENTRY_BYTES;
-use packet::Fields;
 use packet::HEADER_BYTES;
-
-// Question 24 of the fields: passed with the summed length of the bodies, or refused.
-pub(crate) enum Asked {
-    Passed(usize),
-    Refused,
-}
-
-// Are the fields that stand at w as question 22 asks, each of them a word?
-fn good_at(words: &[u32], w: usize) -> bool
-    requires { ⌜ w + 7 ≤ length (now words) ⌝ }
-    ensures { λ r. ⌜ r ≡ good (fieldsAt (now (words .entry)) w 0) ⌝ }
-{
-    let kind = words[w];
-    let len = words[w + 6];
-    (Fields::INV as u32 <= kind)
-        & (kind <= Fields::VAL as u32)
-        & (words[w + 1] <= Record::NUMBER_MAX as u32)
-        & (words[w + 5] <= Record::NUMBER_MAX as u32)
-        & (words[w + 3] <= Fields::INDEX_MAX as u32)
-        & (len <= Fields::BODY_MAX as u32)
-        & ((kind == Fields::INV as u32) | (len == 0))
-}
-
-// The question, of the first `count` messages.
-pub(crate) fn ask(words: &[u32], count: usize) -> Asked
-    requires { ⌜ (count ≤ 64) × (7 * count ≤ length (now words)) ⌝ }
-    ensures { λ r. ⌜ r ≡ asked (entriesFrom count 0 (now (words .entry))) ⌝ }
-{
-    let mut sum = 0;
-    let mut k = 0;
-    while k < count {
-        let w = WORDS * k;
-        if !good_at(words, w) {
-            return Asked::Refused;
-        }
-        sum = sum + words[w + 6] as usize;
-        k = k + 1;
-    }
-    Asked::Passed(sum)
-}
 
 // The 16 bytes of a good message's entry, whose body begins at `at`.
 // A word is read between the stores of two numbers: the compiler then makes one store of each number.

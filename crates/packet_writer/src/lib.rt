@@ -2,6 +2,7 @@
 mod contents;
 mod fields;
 mod output;
+mod question;
 mod writer;
 
 pub use fields::fields_for;

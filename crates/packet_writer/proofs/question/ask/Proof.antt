@@ -5,8 +5,8 @@ use Rattle.packet.proofs.Entries.{good-parts}
 use Rattle.packet.proofs.Tests.{yes, no}
 use Rattle.entries.specs.Words.{fieldsAt, entriesFrom}
 use Rattle.packet_writer.proofs.Messages.{Measured, measured-none, measured-more, measured-bad, measured-all}
-use Rattle.packet_writer.proofs.contents.ask.Statement.{statement}
-use Rattle.packet_writer.proofs.contents.ask.Tie as tie
+use Rattle.packet_writer.proofs.question.ask.Statement.{statement}
+use Rattle.packet_writer.proofs.question.ask.Tie as tie
 
 abbrev Inv-loop : tie.InvT-loop
 Inv-loop words count sum₀ k₀ sum k = Measured (entriesFrom count 0 words) sum k
