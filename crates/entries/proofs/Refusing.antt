@@ -1,6 +1,6 @@
 -- Words that are no message are never packed: wherever one stands, the writer answers 24.
 use Prim.Native.Nat.{ℕ, zero, suc, _+_, _*_, _<_}
-use mathlib.Core.Path.{_≡_, refl, ap, _∙_}
+use mathlib.Core.Path.{_≡_, ap, _∙_}
 use mathlib.Core.Bool.{Bool, false, and-false, _&&_}
 use mathlib.Core.List.{List}
 use native.Mathlib.Omega.{arith}
@@ -10,7 +10,7 @@ use Rattle.packet.specs.declared.entry.Entry.{Entry}
 use Rattle.packet.specs.declared.answer.Written.the-variants.{Refused}
 use Rattle.packet.specs.Entry.{fieldsFor, good}
 use Rattle.packet.specs.Writing.{allGood, writeRefusal, written}
-use Rattle.entries.specs.Words.{unfit, entryAt, countIn, entriesFrom, messagesIn}
+use Rattle.entries.specs.Words.{unfit, entryAt, countIn, entriesFrom, messagesIn, packed}
 
 -- question 24, "fields as in 22", says no to what stands for no message
 unfit-bad : (e : Entry) → e ≡ unfit → good (fieldsFor e 0) ≡ false
@@ -28,7 +28,7 @@ some-bad (suc n) at words (suc k) l h =
     ap (λ (b : Bool). good (fieldsFor (entryAt words at) 0) && b) (some-bad n (at + 7) words k (omega arith) (ap (entryAt words) e ∙ h)) ∙ and-false (good (fieldsFor (entryAt words at) 0))
 
 pub refuses : (words bodies : List ℕ) (room k : ℕ) → k < countIn (length words) → entryAt words (7 * k) ≡ unfit
-    → written (messagesIn words) (length (messagesIn words)) bodies room ≡ Refused 24
+    → packed words bodies room ≡ Refused 24
 unfolding written writeRefusal messagesIn
 refuses words bodies room k l h =
     let e : 0 + 7 * k ≡ 7 * k = omega arith in

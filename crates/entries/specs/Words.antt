@@ -1,12 +1,15 @@
 -- A message as seven words, and several of them: kind, sender, epoch, record, version, tie-breaker, length of its body.
-use Prim.Native.Nat.{ℕ, zero, suc, _+_, _-_, _/_, _%_}
+use Prim.Native.Nat.{ℕ, zero, suc, _+_, _/_, _%_}
 use mathlib.Core.Bool.{Bool, true, false, cond, _&&_}
-use mathlib.Core.List.{List, [], _∷_, _++_}
+use mathlib.Core.List.{List, [], _∷_}
 use lib.Dec.{ltb, leb, eqb}
-use lib.ListN.{length, getD, replicate}
+use lib.ListN.{length, getD}
 use Rattle.hermes.specs.declared.message.Message.the-variants.{Val}
 use Rattle.packet.specs.declared.entry.Entry.{Entry}
+use Rattle.packet.specs.declared.entry.Fields.{Fields}
+use Rattle.packet.specs.declared.answer.Written.{Written}
 use Rattle.packet.specs.Entry.{entryOf}
+use Rattle.packet.specs.Writing.{written}
 
 -- ---- one message
 
@@ -19,15 +22,11 @@ abbrev pub orUnfit : Bool → Entry → Entry
 orUnfit true e = unfit
 orUnfit false e = e
 
--- seven words as an entry; a body's offset is none of them
-unfoldable pub entryIn : ℕ → ℕ → ℕ → ℕ → ℕ → ℕ → ℕ → Entry
-entryIn kind sender epoch index version tie len =
-    orUnfit (ltb kind 1)
-    (orUnfit (ltb 3 kind)
-    (orUnfit (ltb 255 sender)
-    (orUnfit (ltb 255 tie)
-    (orUnfit (ltb 255 len)
-    (entryOf (record { kind = kind; sender = sender; epoch = epoch; index = index; version = version; tie = tie; offset = 0; len = len }))))))
+-- the message that fields stand for, each of them a word; a body's offset is none of them
+unfoldable pub entryIn : Fields → Entry
+entryIn f =
+    orUnfit (ltb (f .kind) 1)
+    (orUnfit (ltb 3 (f .kind)) (orUnfit (ltb 255 (f .sender)) (orUnfit (ltb 255 (f .tie)) (orUnfit (ltb 255 (f .len)) (entryOf f)))))
 
 -- ---- several messages
 
@@ -35,10 +34,22 @@ entryIn kind sender epoch index version tie len =
 abbrev pub countIn : ℕ → ℕ
 countIn n = cond (eqb (n % 7) 0 && leb (n / 7) 64) (n / 7) 0
 
+-- the seven words at a place as fields, of a message whose body begins at `offset`
+abbrev pub fieldsAt : List ℕ → ℕ → ℕ → Fields
+fieldsAt words at offset = record {
+  kind = getD words at 0;
+  sender = getD words (at + 1) 0;
+  epoch = getD words (at + 2) 0;
+  index = getD words (at + 3) 0;
+  version = getD words (at + 4) 0;
+  tie = getD words (at + 5) 0;
+  offset = offset;
+  len = getD words (at + 6) 0;
+}
+
 -- the message of the seven words at a place
 abbrev pub entryAt : List ℕ → ℕ → Entry
-entryAt words at =
-    entryIn (getD words at 0) (getD words (at + 1) 0) (getD words (at + 2) 0) (getD words (at + 3) 0) (getD words (at + 4) 0) (getD words (at + 5) 0) (getD words (at + 6) 0)
+entryAt words at = entryIn (fieldsAt words at 0)
 
 -- n messages from a place on
 abbrev pub entriesFrom : ℕ → ℕ → List ℕ → List Entry
@@ -49,6 +60,6 @@ entriesFrom (suc n) at words = entryAt words at ∷ entriesFrom n (at + 7) words
 unfoldable pub messagesIn : List ℕ → List Entry
 messagesIn words = entriesFrom (countIn (length words)) 0 words
 
--- the same at the front of an array of 64
-unfoldable pub arrayIn : List ℕ → List Entry
-arrayIn words = messagesIn words ++ replicate (64 - length (messagesIn words)) unfit
+-- 01, "Writing takes messages and their bodies": what the writer answers to the messages that words hold
+abbrev pub packed : List ℕ → List ℕ → ℕ → Written
+packed words bodies room = written (messagesIn words) (length (messagesIn words)) bodies room

@@ -1,6 +1,5 @@
-// Messages as words, seven for each, made the entries that the packet writer takes.
-mod array;
-mod entry;
+// Messages as words, seven for each. What the words stand for is in specs/; the packet writer reads them.
+mod count;
 
-pub use array::array_in;
-pub use array::count_in;
+pub use count::WORDS;
+pub use count::count_in;

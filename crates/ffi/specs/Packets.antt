@@ -2,7 +2,6 @@
 use Prim.Native.Nat.{ℕ}
 use mathlib.Core.Path.{_≡_}
 use mathlib.Core.List.{List}
-use lib.ListN.{length}
 use Rattle.hermes.specs.declared.event.Event.the-variants.{Deliver}
 use Rattle.hermes.specs.Order.{higher}
 use Rattle.hermes.specs.Node.{Node, effectOf}
@@ -13,8 +12,6 @@ use Rattle.packet.specs.declared.answer.Written.{Written}
 use Rattle.packet.specs.declared.answer.Written.the-variants as answer
 use Rattle.packet.specs.Entry.{fieldsFor}
 use Rattle.packet.specs.Reading.{bodyOf}
-use Rattle.packet.specs.Writing.{written}
-use Rattle.entries.specs.Words.{messagesIn}
 use Rattle.inbox.specs.Arrival.{receivedOf, receiptOf}
 use Rattle.record_bytes.specs.Layout.{tableOf, bytesAfter}
 use Rattle.ffi.specs.declared.crossing.CetskobiAnswer.{CetskobiAnswer}
@@ -48,10 +45,6 @@ fetchedOut (Found e at) = fieldsOut 0 (fieldsFor e at)
 fetchedOut (Refused k) = fieldsOut k noFields
 
 -- ---- writing
-
--- 01, "Writing takes messages and their bodies": what the writer answers to the messages that the bytes hold
-abbrev pub packed : List ℕ → List ℕ → ℕ → Written
-packed words bodies room = written (messagesIn words) (length (messagesIn words)) bodies room
 
 -- 0 with the packet's total length, or the number of the question that said no
 abbrev pub writtenOut : Written → CetskobiWritten

@@ -3,8 +3,8 @@ ghost use mathlib.Core.Path.{_≡_};
 ghost use lib.ListN.{length};
 ghost use Rattle.packet.specs.Reading.{fetched};
 ghost use Rattle.packet.specs.Writing.{outputOf};
-ghost use Rattle.entries.specs.Words.{messagesIn};
-ghost use Rattle.ffi.specs.Packets.{fetchedOut, writtenOut, packed, Arrived};
+ghost use Rattle.entries.specs.Words.{messagesIn, packed};
+ghost use Rattle.ffi.specs.Packets.{fetchedOut, writtenOut, Arrived};
 ghost use Rattle.ffi.specs.Events.{nodeOf};
 use crate::crossing;
 use crate::crossing::CetskobiAnswer;
@@ -92,9 +92,7 @@ pub extern "C" fn cetskobi_pack(messages: &[u32], bodies: &[u8], out: &mut [u8])
     ensures { λ r. ⌜ (r ≡ writtenOut (packed (now (messages .entry)) (now (bodies .entry)) (length (now (out .entry)))))
         × (now (out .exit) ≡ outputOf (packed (now (messages .entry)) (now (bodies .entry)) (length (now (out .entry)))) (messagesIn (now (messages .entry))) (now (bodies .entry)) (now (out .entry))) ⌝ }
 {
-    let count = entries::count_in(messages.len());
-    let array = entries::array_in(messages);
-    let written = packet_writer::write(array, count, bodies, out);
+    let written = packet_writer::write(messages, bodies, out);
     written_out(written)
 }
 

@@ -14,7 +14,7 @@ use Rattle.packet.specs.declared.entry.Entry.{Entry}
 use Rattle.packet.specs.declared.entry.Fields.{Fields}
 use Rattle.packet.specs.Bytes.{window, Bytes}
 use Rattle.packet.specs.Entry.{fieldsOf, entryBytes, kindOf, timestampOf, messageOf, entryOf, fieldsFor, bodied, good, Fits}
-use Rattle.hermes.proofs.Tests.{both}
+use Rattle.hermes.proofs.Tests.{both, is-false}
 use Rattle.packet.proofs.Width.{num-be, window-drop, be-window, window-lt}
 
 -- the fields fit their widths
@@ -73,7 +73,10 @@ entry-back e at = λ i. record { header = e .header; message = go (e .message) i
 pub record Good (f : Fields) : Type 0 where
   pub low : 1 ≤ f .kind
   pub high : f .kind ≤ 3
+  pub sender : f .sender ≤ 15
+  pub tie : f .tie ≤ 15
   pub index : f .index ≤ 4095
+  pub len : f .len ≤ 192
 
 pub good-parts : (f : Fields) → good f ≡ true → Good f
 unfolding good
@@ -84,7 +87,17 @@ good-parts f h =
     let s3 = both _ (leb (f .tie) 15) (s4 .0) in
     let s2 = both _ (leb (f .sender) 15) (s3 .0) in
     let s1 = both (leb 1 (f .kind)) (leb (f .kind) 3) (s2 .0) in
-    record { low = leb-true _ _ (s1 .0); high = leb-true _ _ (s1 .1); index = leb-true _ _ (s4 .1) }
+    record {
+      low = leb-true _ _ (s1 .0);
+      high = leb-true _ _ (s1 .1);
+      sender = leb-true _ _ (s2 .1);
+      tie = leb-true _ _ (s3 .1);
+      index = leb-true _ _ (s4 .1);
+      len = leb-true _ _ (s5 .1);
+    }
+
+pub not-good : (f : Fields) → (Good f → ⊥) → false ≡ good f
+not-good f n = sym (is-false (good f) (λ h. n (good-parts f h)))
 
 -- an offset is no part of `good`
 pub good-offset : (e : Entry) (a b : ℕ) → good (fieldsFor e a) ≡ good (fieldsFor e b)
@@ -107,13 +120,13 @@ stamp-back k t = go (eqb k 1) (eqb k 2)
     go false true = refl
     go false false = refl
 
--- good fields that a message is read from are its fields
-pub message-back : (f : Fields) (at : ℕ) → Good f → f .offset ≡ at → fieldsFor (entryOf f) at ≡ f
-message-back f at g o =
+-- fields of a known kind that a message is read from are its fields
+pub message-back : (f : Fields) (at : ℕ) → 1 ≤ f .kind → f .kind ≤ 3 → f .offset ≡ at → fieldsFor (entryOf f) at ≡ f
+message-back f at low high o =
     let t : Timestamp = record { version = f .version; tie = f .tie } in
     λ i.
     record {
-      kind = kind-back (f .kind) t (g .low) (g .high) i;
+      kind = kind-back (f .kind) t low high i;
       sender = f .sender;
       epoch = f .epoch;
       index = f .index;

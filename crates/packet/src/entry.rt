@@ -88,7 +88,7 @@ fn message_of(kind: u8, timestamp: Timestamp) -> Message
 }
 
 // The entry that fields stand for.
-pub fn entry_of(f: Fields) -> Entry
+pub(crate) fn entry_of(f: Fields) -> Entry
     ensures { λ r. ⌜ r ≡ entryOf f ⌝ }
 {
     let header = Header {

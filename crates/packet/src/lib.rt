@@ -10,7 +10,6 @@ pub use answer::Fetched;
 pub use answer::Written;
 pub use entry::Entry;
 pub use entry::Fields;
-pub use entry::entry_of;
 pub use layout::COUNT_MAX;
 pub use layout::ENTRY_BYTES;
 pub use layout::HEADER_BYTES;

@@ -1,57 +1,73 @@
 -- The answer of a write from its two questions.
-use mathlib.Core.Path.{_≡_, refl}
-use mathlib.Core.Bool.{Bool, true, false, _||_, true≢false}
-use mathlib.Core.Logic.{_⊎_, inl, inr, ⊎-elim}
+use mathlib.Core.Path.{_≡_, refl, ap, sym, _∙_}
+use mathlib.Core.Bool.{Bool, true, false, cond, _||_}
+use mathlib.Core.Logic.{⊎-elim}
 use mathlib.Core.List.{List}
-use Prim.Native.Nat.{ℕ, _≤_}
+use Prim.Native.Nat.{ℕ, _≤_, _<_}
+use native.Mathlib.Omega.{arith}
 use borrow.Author.Tests.{eq-eqb, ne-eqb, le-leb, lt-leb, ltb-true, ltb-false}
-use lib.Dec.{ltb}
-use lib.ListN.{length, take}
+use lib.Dec.{leb, ltb}
+use lib.ListN.{length}
+use lib.Seq.{take-length}
+use Rattle.hermes.proofs.Tests.{either, neither, and-false}
 use Rattle.packet.specs.declared.entry.Entry.{Entry}
-use Rattle.packet.specs.declared.answer.Written.the-variants.{Refused}
+use Rattle.packet.specs.declared.answer.Written.the-variants as answer
 use Rattle.packet.specs.Writing.{summed, totalOf, allGood, question24, question25, writeRefusal, written}
+use Rattle.packet.proofs.Writing.{accepted}
+use Rattle.packet_writer.specs.declared.question.Asked.{Asked}
+use Rattle.packet_writer.specs.declared.question.Asked.the-variants.{Passed, Refused}
+use Rattle.packet_writer.specs.Asking.{asked}
 
--- a joined test that said no, and one that said yes
-neither : (a b : Bool) → (a || b) ≡ false → (a ≡ false) × (b ≡ false)
-neither true b h = absurd (true≢false h)
-neither false b h = (refl, h)
+-- what the first loop's answer tells
+pub passed : (es : List Entry) (r : Asked) (sum : ℕ) → r ≡ asked es → r ≡ Passed sum → (allGood es ≡ true) × (summed es ≡ sum)
+unfolding asked
+passed es r sum h p = go (allGood es) refl (sym h ∙ p)
+  where
+    go : (b : Bool) → allGood es ≡ b → cond b (Passed (summed es)) Refused ≡ Passed sum → (allGood es ≡ true) × (summed es ≡ sum)
+    go true e q = (e, cc)
+    go false e q = let z : _≡_ {A = ℕ} 0 1 = cc in absurd (omega arith)
 
-either : (a b : Bool) → (a || b) ≡ true → (a ≡ true) ⊎ ((a ≡ false) × (b ≡ true))
-either true b h = inl refl
-either false b h = inr (refl, h)
+pub refused : (es : List Entry) (r : Asked) → r ≡ asked es → r ≡ Refused → allGood es ≡ false
+unfolding asked
+refused es r h p = go (allGood es) refl (sym h ∙ p)
+  where
+    go : (b : Bool) → allGood es ≡ b → cond b (Passed (summed es)) Refused ≡ Refused → allGood es ≡ false
+    go true e q = let z : _≡_ {A = ℕ} 0 1 = cc in absurd (omega arith)
+    go false e q = e
 
--- what the code's tests of the count and of the total tell where they are passed
-pub counted : (count : ℕ) → (ltb count 1 || ltb 64 count) ≡ false → (1 ≤ count) × (count ≤ 64)
-counted count h = let s = neither (ltb count 1) (ltb 64 count) h in (ltb-false _ _ (s .0), ltb-false _ _ (s .1))
-
+-- what the code's test of the total tells where it is passed
 pub roomy : (total room : ℕ) → (ltb 1400 total || ltb room total) ≡ false → (total ≤ 1400) × (total ≤ room)
 roomy total room h = let s = neither (ltb 1400 total) (ltb room total) h in (ltb-false _ _ (s .0), ltb-false _ _ (s .1))
 
-module _ (ms : List Entry) (count : ℕ) (bodies : List ℕ) (room : ℕ) where
-  refused-24 : question24 ms count bodies .yes ≡ false → Refused 24 ≡ written ms count bodies room
+module _ (es : List Entry) (bodies : List ℕ) (room : ℕ) where
+  refused-24 : question24 es (length es) bodies .yes ≡ false → answer.Refused 24 ≡ written es (length es) bodies room
   unfolding written writeRefusal
   refused-24 a = simp a
 
-  pub miscounted : (ltb count 1 || ltb 64 count) ≡ true → Refused 24 ≡ written ms count bodies room
-  miscounted h =
-      ⊎-elim (λ a. refused-24 (simp (lt-leb 1 count (ltb-true count 1 a))))
-      (λ a. refused-24 (simp (le-leb 1 count (ltb-false count 1 (a .0)), lt-leb count 64 (ltb-true 64 count (a .1))))) (either (ltb count 1) (ltb 64 count) h)
+  pub empty : length es < 1 → answer.Refused 24 ≡ written es (length es) bodies room
+  empty h = refused-24 (simp (lt-leb 1 (length es) h))
 
-  module _ (a : 1 ≤ count) (b : count ≤ 64) where
-    pub bad : allGood (take count ms) ≡ false → Refused 24 ≡ written ms count bodies room
-    bad g = refused-24 (simp (le-leb _ _ a, le-leb _ _ b, g))
+  module _ (a : 1 ≤ length es) (b : length es ≤ 64) where
+    pub bad : allGood es ≡ false → answer.Refused 24 ≡ written es (length es) bodies room
+    bad g = refused-24 (simp (le-leb _ _ a, le-leb _ _ b, take-length es, g))
 
-    module _ (g : allGood (take count ms) ≡ true) where
-      pub uneven : (summed (take count ms) ≡ length bodies → ⊥) → Refused 24 ≡ written ms count bodies room
-      uneven n = refused-24 (simp (le-leb _ _ a, le-leb _ _ b, g, ne-eqb _ _ n))
+    module _ (g : allGood es ≡ true) where
+      pub uneven : (summed es ≡ length bodies → ⊥) → answer.Refused 24 ≡ written es (length es) bodies room
+      uneven n = refused-24 (simp (le-leb _ _ a, le-leb _ _ b, take-length es, g, ne-eqb _ _ n))
 
-      module _ (e : summed (take count ms) ≡ length bodies) where
-        refused-25 : question25 count bodies room .yes ≡ false → Refused 25 ≡ written ms count bodies room
+      module _ (e : summed es ≡ length bodies) (total : ℕ) (t : total ≡ totalOf (length es) bodies) where
+        refused-25 : question25 (length es) bodies room .yes ≡ false → answer.Refused 25 ≡ written es (length es) bodies room
         unfolding written writeRefusal
-        refused-25 q = simp (le-leb _ _ a, le-leb _ _ b, g, eq-eqb _ _ e, q)
+        refused-25 q = simp (le-leb _ _ a, le-leb _ _ b, take-length es, g, eq-eqb _ _ e, q)
 
-        pub unroomy : (ltb 1400 (totalOf count bodies) || ltb room (totalOf count bodies)) ≡ true → Refused 25 ≡ written ms count bodies room
+        pub unroomy : (ltb 1400 total || ltb room total) ≡ true → answer.Refused 25 ≡ written es (length es) bodies room
         unroomy h =
-            let n = totalOf count bodies in
-            ⊎-elim (λ l. refused-25 (simp (lt-leb n 1400 (ltb-true 1400 n l))))
-            (λ l. refused-25 (simp (le-leb n 1400 (ltb-false 1400 n (l .0)), lt-leb n room (ltb-true room n (l .1))))) (either (ltb 1400 n) (ltb room n) h)
+            ⊎-elim (λ l. refused-25 (rw (← t, lt-leb total 1400 (ltb-true 1400 total l))))
+            (λ l. refused-25 (rw (← t, lt-leb total room (ltb-true room total l)) (and-false (leb total 1400)))) (either (ltb 1400 total) (ltb room total) h)
+
+        pub written-whole : total ≤ 1400 → total ≤ room → answer.Total total ≡ written es (length es) bodies room
+        written-whole s f =
+            ap answer.Total t
+            ∙ sym
+            (accepted es (length es) bodies room
+            (record { some = a; few = b; good = ap allGood (take-length es) ∙ g; exact = ap summed (take-length es) ∙ e; short = rw t at s; fits = rw t at f }))

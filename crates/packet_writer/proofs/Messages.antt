@@ -1,13 +1,13 @@
 -- The writer's two loops over the messages: the first asks and sums, the second stores their entries.
 use mathlib.Core.Path.{_≡_, refl, sym, ap, _∙_}
-use mathlib.Core.Bool.{Bool, true, false, and-false}
+use mathlib.Core.Bool.{true, false, and-false}
 use mathlib.Core.List.{List, [], _∷_, _++_, append-assoc, append-nil}
 use Prim.Native.Nat.{ℕ, zero, suc, _+_, _*_, _≤_, _<_}
 use native.Mathlib.Nat.{add-zero, zero-add, add-assoc, not-suc-le-zero, le-of-suc-le-suc, le-of-lt}
 use native.Mathlib.Numerals.{add-one}
 use native.Mathlib.Omega.{arith}
 use lib.ListN.{length, take, drop, getD, set}
-use lib.Seq.{sets, sets-eq, length-sets, length-take-le}
+use lib.Seq.{sets, sets-eq, length-sets, length-take-le, take-all}
 use Rattle.packet.specs.declared.entry.Entry.{Entry}
 use Rattle.packet.specs.declared.entry.Fields.{Fields}
 use Rattle.packet.specs.Bytes.{be}
@@ -18,6 +18,11 @@ use Rattle.hermes.proofs.Tests.{both}
 use Rattle.packet.proofs.Entries.{good-parts}
 use Rattle.packet.proofs.Contents.{length-contents}
 use Rattle.packet.proofs.RoundTrip.{length-encode}
+use Rattle.entries.specs.Words.{fieldsAt, entriesFrom}
+use Rattle.entries.proofs.Places.{length-entries}
+use Rattle.entries.proofs.Fit.{good-message, fields-message}
+use Rattle.packet_writer.specs.declared.question.Asked.the-variants.{Passed, Refused}
+use Rattle.packet_writer.specs.Asking.{asked}
 use Rattle.packet_writer.proofs.Stores.{sets-then}
 
 -- one message more
@@ -37,77 +42,77 @@ good-more (m ∷ ms) (suc k) h a g =
     rw (s .0) (good-more ms k (le-of-suc-le-suc h) (s .1) g)
 
 -- a bad message among them
-bad-one : (ms : List Entry) (k n : ℕ) → k < n → n ≤ length ms → good (fieldsFor (getD ms k noEntry) 0) ≡ false → allGood (take n ms) ≡ false
+bad-one : (ms : List Entry) (k : ℕ) → k < length ms → good (fieldsFor (getD ms k noEntry) 0) ≡ false → allGood ms ≡ false
 unfolding allGood
-bad-one ms k zero h l g = absurd (not-suc-le-zero h)
-bad-one [] k (suc n) h l g = absurd (not-suc-le-zero l)
-bad-one (m ∷ ms) zero (suc n) h l g = rw g
-bad-one (m ∷ ms) (suc k) (suc n) h l g = rw (bad-one ms k n (le-of-suc-le-suc h) (le-of-suc-le-suc l) g) (and-false (good (fieldsFor m 0)))
+bad-one [] k h g = absurd (not-suc-le-zero h)
+bad-one (m ∷ ms) zero h g = rw g
+bad-one (m ∷ ms) (suc k) h g = rw (bad-one ms k (le-of-suc-le-suc h) g) (and-false (good (fieldsFor m 0)))
 
 -- each of them, where all are good
-good-at : (ms : List Entry) (k n : ℕ) → k < n → n ≤ length ms → allGood (take n ms) ≡ true → good (fieldsFor (getD ms k noEntry) 0) ≡ true
+good-at : (ms : List Entry) (k : ℕ) → k < length ms → allGood ms ≡ true → good (fieldsFor (getD ms k noEntry) 0) ≡ true
 unfolding allGood
-good-at ms k zero h l a = absurd (not-suc-le-zero h)
-good-at [] k (suc n) h l a = absurd (not-suc-le-zero l)
-good-at (m ∷ ms) zero (suc n) h l a = both (good (fieldsFor m 0)) (allGood (take n ms)) a .0
-good-at (m ∷ ms) (suc k) (suc n) h l a =
-    good-at ms k n (le-of-suc-le-suc h) (le-of-suc-le-suc l) (both (good (fieldsFor m 0)) (allGood (take n ms)) a .1)
+good-at [] k h a = absurd (not-suc-le-zero h)
+good-at (m ∷ ms) zero h a = both (good (fieldsFor m 0)) (allGood ms) a .0
+good-at (m ∷ ms) (suc k) h a = good-at ms k (le-of-suc-le-suc h) (both (good (fieldsFor m 0)) (allGood ms) a .1)
+
+-- message k of those that words hold
+within : (n : ℕ) (words : List ℕ) (k : ℕ) → k < n → k < length (entriesFrom n 0 words)
+within n words k more = rw (length-entries n 0 words) more
+
+pub good-words : (n : ℕ) (words : List ℕ) (k : ℕ) → k < n → allGood (entriesFrom n 0 words) ≡ true → good (fieldsAt words (7 * k) 0) ≡ true
+good-words n words k more a = sym (good-message n words k more) ∙ good-at (entriesFrom n 0 words) k (within n words k more) a
 
 -- ---- the first loop
 
 -- after k messages: all are good, and the sum is that of their bodies
-pub record Measured (ms : List Entry) (count sum k : ℕ) : Type 0 where
-  pub few : count ≤ 64
-  pub below : k ≤ count
+pub record Measured (ms : List Entry) (sum k : ℕ) : Type 0 where
+  pub below : k ≤ length ms
   pub good : allGood (take k ms) ≡ true
   pub exact : sum ≡ summed (take k ms)
-  pub small : sum ≤ 255 * k
+  pub small : sum ≤ 192 * k
 
-pub measured-none : (ms : List Entry) (count : ℕ) → count ≤ 64 → Measured ms count 0 0
+pub measured-none : (ms : List Entry) → Measured ms 0 0
 unfolding allGood summed
-measured-none ms count few = record { few = few; below = omega arith; good = refl; exact = refl; small = omega arith }
+measured-none ms = record { below = omega arith; good = refl; exact = refl; small = omega arith }
 
--- a turn with message k, of fields f: g is what `good` answered
-module _ (ms : List Entry) (count sum k : ℕ) (f : Fields) (g : Bool) (more : k < count) (room : count ≤ length ms) (is : f ≡ fieldsFor (getD ms k noEntry) 0) (eg : g ≡ good f) where
-  pub measured-more : Measured ms count sum k → g ≡ true → f .len ≤ 255 → Measured ms count (sum + f .len) (k + 1)
-  measured-more m t b =
-      let l : k < length ms = omega arith in
-      let n : f .len ≡ getD ms k noEntry .len = ap (λ (x : Fields). x .len) is in
+-- a turn with message k, and the loop's two ends
+module _ (n : ℕ) (words : List ℕ) (sum k : ℕ) where
+  pub measured-more : k < n → good (fieldsAt words (7 * k) 0) ≡ true → Measured (entriesFrom n 0 words) sum k → Measured (entriesFrom n 0 words) (sum + getD words (7 * k + 6) 0) (k + 1)
+  measured-more more g m =
+      let ms = entriesFrom n 0 words in
+      let l = within n words k more in
+      let len : getD words (7 * k + 6) 0 ≡ getD ms k noEntry .len = sym (ap (λ (f : Fields). f .len) (fields-message n words k more 0 g)) in
       record {
-        few = m .few;
         below = omega arith;
-        good = ap (λ (j : ℕ). allGood (take j ms)) (add-one k) ∙ good-more ms k l (m .good) (sym (ap good is) ∙ sym eg ∙ t);
-        exact = (λ i. m .exact i + n i) ∙ sym (summed-more ms k l) ∙ ap (λ (j : ℕ). summed (take j ms)) (sym (add-one k));
-        small = omega (arith, m .small);
+        good = ap (λ (j : ℕ). allGood (take j ms)) (add-one k) ∙ good-more ms k l (m .good) (good-message n words k more ∙ g);
+        exact = (λ i. m .exact i + len i) ∙ sym (summed-more ms k l) ∙ ap (λ (j : ℕ). summed (take j ms)) (sym (add-one k));
+        small = omega (arith, m .small, good-parts (fieldsAt words (7 * k) 0) g);
       }
 
-  pub measured-bad : g ≡ false → allGood (take count ms) ≡ false
-  measured-bad t = bad-one ms k count more room (sym (ap good is) ∙ sym eg ∙ t)
+  pub measured-bad : k < n → good (fieldsAt words (7 * k) 0) ≡ false → Refused ≡ asked (entriesFrom n 0 words)
+  unfolding asked
+  measured-bad more g = simp (bad-one (entriesFrom n 0 words) k (within n words k more) (good-message n words k more ∙ g))
 
--- the loop's end
-pub measured-all : (ms : List Entry) (count sum k : ℕ) → Measured ms count sum k → count ≤ k → (allGood (take count ms) ≡ true) × (summed (take count ms) ≡ sum)
-measured-all ms count sum k m h =
-    let e : count ≡ k = omega (arith, m .below) in (
-      ap (λ (j : ℕ). allGood (take j ms)) e ∙ m .good,
-      ap (λ (j : ℕ). summed (take j ms)) e ∙ sym (m .exact),
-    )
+  pub measured-all : n ≤ k → Measured (entriesFrom n 0 words) sum k → Passed sum ≡ asked (entriesFrom n 0 words)
+  unfolding asked
+  measured-all end m =
+      let e = take-all k (entriesFrom n 0 words) (rw (length-entries n 0 words) end) in
+      simp (ap allGood (sym e) ∙ m .good, m .exact ∙ ap summed e)
 
 -- ---- the second loop
 
 -- after j messages: their entries stand from byte 4 on, and the next body begins at `at`
-pub record Stored (d : List ℕ) (ms : List Entry) (count : ℕ) (out : List ℕ) (at pos j : ℕ) : Type 0 where
-  pub few : count ≤ 64
-  pub below : j ≤ count
-  pub place : pos ≡ 4 + 16 * j
-  pub begins : at ≡ entryAt count + summed (take j ms)
-  pub small : at ≤ entryAt count + 255 * j
-  pub made : out ≡ sets d 4 (contents (entryAt count) (take j ms))
+pub record Stored (d : List ℕ) (ms : List Entry) (start : ℕ) (out : List ℕ) (at j : ℕ) : Type 0 where
+  pub below : j ≤ length ms
+  pub begins : at ≡ start + summed (take j ms)
+  pub small : at ≤ start + 192 * j
+  pub made : out ≡ sets d 4 (contents start (take j ms))
   pub same : length out ≡ length d
 
-pub stored-none : (d : List ℕ) (ms : List Entry) (count : ℕ) → count ≤ 64 → Stored d ms count d (entryAt count) 4 0
+pub stored-none : (d : List ℕ) (ms : List Entry) (start : ℕ) → Stored d ms start d start 0
 unfolding summed contents
-stored-none d ms count few =
-    record { few = few; below = omega arith; place = refl; begins = sym (add-zero (entryAt count)); small = omega arith; made = refl; same = refl }
+stored-none d ms start =
+    record { below = omega arith; begins = sym (add-zero start); small = omega arith; made = refl; same = refl }
 
 contents-more : (at : ℕ) (ms : List Entry) (k : ℕ) → k < length ms
     → contents at (take (suc k) ms) ≡ contents at (take k ms) ++ entryBytes (fieldsFor (getD ms k noEntry) (at + summed (take k ms)))
@@ -119,41 +124,35 @@ contents-more at (m ∷ ms) (suc k) h =
     (contents-more (at + m .len) ms k (le-of-suc-le-suc h) ∙ ap (λ (a : ℕ). contents (at + m .len) (take k ms) ++ entryBytes (fieldsFor (getD ms k noEntry) a)) (add-assoc at (m .len) (summed (take k ms))))
     ∙ sym (append-assoc (entryBytes (fieldsFor m at)) (contents (at + m .len) (take k ms)) (entryBytes (fieldsFor (getD ms k noEntry) (at + (m .len + summed (take k ms))))))
 
--- a turn with message j, of fields f
-module _ (d : List ℕ) (ms : List Entry) (count : ℕ) (out : List ℕ) (at pos j : ℕ) (f : Fields) (more : j < count) (room : count ≤ length ms) (is : f ≡ fieldsFor (getD ms j noEntry) at) where
-  pub stored-more : (o : List ℕ) → Stored d ms count out at pos j → o ≡ sets out pos (entryBytes f) → f .len ≤ 255 → Stored d ms count o (at + f .len) (pos + 16) (j + 1)
-  stored-more o s eo b =
-      let l : j < length ms = omega arith in
-      let n : f .len ≡ getD ms j noEntry .len = ap (λ (x : Fields). x .len) is in
+-- a turn with message j, and the loop's end
+module _ (d : List ℕ) (n : ℕ) (words : List ℕ) (start : ℕ) (out : List ℕ) (at j : ℕ) where
+  pub stored-more : (o : List ℕ) → j < n → good (fieldsAt words (7 * j) 0) ≡ true → o ≡ sets out (4 + 16 * j) (entryBytes (fieldsAt words (7 * j) at)) → Stored d (entriesFrom n 0 words) start out at j
+      → Stored d (entriesFrom n 0 words) start o (at + getD words (7 * j + 6) 0) (j + 1)
+  stored-more o more g eo s =
+      let ms = entriesFrom n 0 words in
+      let l = within n words j more in
+      let f = fieldsAt words (7 * j) at in
+      let is : fieldsFor (getD ms j noEntry) at ≡ f = fields-message n words j more at g in
+      let len : getD ms j noEntry .len ≡ f .len = ap (λ (x : Fields). x .len) is in
       let lt : length (take j ms) ≡ j = length-take-le j ms (le-of-lt l) in
-      let lc = length-contents (take j ms) (entryAt count) in
-      let front : pos ≡ 4 + length (contents (entryAt count) (take j ms)) = omega (arith, s .place) in
+      let front : 4 + 16 * j ≡ 4 + length (contents start (take j ms)) = omega (arith, length-contents (take j ms) start) in
       record {
-        few = s .few;
         below = omega arith;
-        place = omega (arith, s .place);
         begins = omega (arith, s .begins, summed-more ms j l, ap (λ (k : ℕ). summed (take k ms)) (add-one j));
-        small = omega (arith, s .small);
+        small = omega (arith, s .small, good-parts (fieldsAt words (7 * j) 0) g);
         made =
             eo
-            ∙ sets-then d out 4 pos (contents (entryAt count) (take j ms)) (entryBytes f) (s .made) front
+            ∙ sets-then d out 4 (4 + 16 * j) (contents start (take j ms)) (entryBytes f) (s .made) front
             ∙ ap (sets d 4)
-            (ap (λ (x : Fields). contents (entryAt count) (take j ms) ++ entryBytes x) (is ∙ ap (fieldsFor (getD ms j noEntry)) (s .begins))
-            ∙ sym (contents-more (entryAt count) ms j l)
-            ∙ ap (λ (k : ℕ). contents (entryAt count) (take k ms)) (sym (add-one j)));
-        same = ap length eo ∙ length-sets out pos (entryBytes f) ∙ s .same;
+            (ap (λ (x : Fields). contents start (take j ms) ++ entryBytes x) (sym is ∙ ap (fieldsFor (getD ms j noEntry)) (s .begins))
+            ∙ sym (contents-more start ms j l)
+            ∙ ap (λ (k : ℕ). contents start (take k ms)) (sym (add-one j)));
+        same = ap length eo ∙ length-sets out (4 + 16 * j) (entryBytes f) ∙ s .same;
       }
 
-  pub index-small : allGood (take count ms) ≡ true → f .index < 65536
-  index-small a =
-      let n : f .index ≡ getD ms j noEntry .header .index = ap (λ (x : Fields). x .index) is in
-      omega (arith, good-parts (fieldsFor (getD ms j noEntry) 0) (good-at ms j count more room a))
-
--- the loop's end
-pub stored-all : (d : List ℕ) (ms : List Entry) (count : ℕ) (out : List ℕ) (at pos j : ℕ) → Stored d ms count out at pos j → count ≤ j → out ≡ sets d 4 (contents (entryAt count) (take count ms))
-stored-all d ms count out at pos j s h =
-    let e : j ≡ count = omega (arith, s .below) in
-    s .made ∙ ap (λ (k : ℕ). sets d 4 (contents (entryAt count) (take k ms))) e
+  pub stored-all : n ≤ j → Stored d (entriesFrom n 0 words) start out at j → out ≡ sets d 4 (contents start (entriesFrom n 0 words))
+  stored-all end s =
+      s .made ∙ ap (λ (l : List Entry). sets d 4 (contents start l)) (take-all j (entriesFrom n 0 words) (rw (length-entries n 0 words) end))
 
 -- ---- the whole packet
 

@@ -4,8 +4,6 @@ ghost use Prim.Native.Nat.{_+_, _≤_, _<_};
 ghost use lib.ListN.{length};
 ghost use lib.Seq.{sets};
 ghost use Rattle.packet.specs.Bytes.{be};
-ghost use Rattle.packet.specs.Entry.{entryBytes};
-use packet::Fields;
 
 // Two bytes, big-endian.
 pub(crate) fn put2(out: &mut [u8], at: usize, n: usize)
@@ -25,21 +23,6 @@ pub(crate) fn put4(out: &mut [u8], at: usize, n: u32)
     out[at + 1] = (n / 65536 % 256) as u8;
     out[at + 2] = (n / 256 % 256) as u8;
     out[at + 3] = (n % 256) as u8;
-}
-
-// The 16 bytes of an entry.
-pub(crate) fn put_fields(out: &mut [u8], at: usize, f: Fields)
-    requires { ⌜ (f .index < 65536) × (f .offset < 65536) × (at + 16 ≤ length (now out)) ⌝ }
-    ensures { λ _. ⌜ now (out .exit) ≡ sets (now (out .entry)) at (entryBytes f) ⌝ }
-{
-    out[at] = f.kind;
-    out[at + 1] = f.sender;
-    put4(out, at + 2, f.epoch);
-    put2(out, at + 6, f.index);
-    put4(out, at + 8, f.version);
-    out[at + 12] = f.tie;
-    put2(out, at + 13, f.offset);
-    out[at + 15] = f.len;
 }
 
 // All of `bytes`.

@@ -1,0 +1,11 @@
+-- What the writer's first loop answers; it serves the inner functions of this crate alone.
+use mathlib.Core.Bool.{cond}
+use mathlib.Core.List.{List}
+use Rattle.packet.specs.declared.entry.Entry.{Entry}
+use Rattle.packet.specs.Writing.{summed, allGood}
+use Rattle.packet_writer.specs.declared.question.Asked.{Asked}
+use Rattle.packet_writer.specs.declared.question.Asked.the-variants.{Passed, Refused}
+
+-- 01, question 24, "fields as in 22": passed with the summed length of the bodies, or refused
+unfoldable pub asked : List Entry → Asked
+asked es = cond (allGood es) (Passed (summed es)) Refused
