@@ -29,7 +29,7 @@ use Rattle.hermes.specs.Record.{freshRecord}
 use Rattle.hermes.specs.Store.{valueAt}
 use Rattle.hermes.specs.Guards.{firstNo}
 use Rattle.hermes.specs.Event.{step, invStep, resent, deliverStep, refusal, movedBy, effect, answerOf, numberOf, sentBy, bodyOf, leavingBody}
-use Rattle.hermes.specs.Node.{indexOf, Outcome, apply, view, viewed, viewQuestions, admissionOf, admissionNumber, identity}
+use Rattle.hermes.specs.Node.{Node, indexOf, Outcome, apply, view, viewed, viewQuestions, admissionOf, admissionNumber, identity}
 use Rattle.hermes.specs.Run.{Logged, Entry, Group, Result, nothing, event, Found, find, delivery, perform, logged, logAfter, nodeAfter, result, advance, run}
 use Rattle.script.specs.Command.{textOf}
 use Rattle.script.specs.declared.command.Command.{Command}
@@ -208,6 +208,22 @@ module _ (m : Member) (heads bodies : List ℕ) (sent at : ℕ) (out : List ℕ)
           ((λ i. logOf (eh i) (eb i) (es i)) ∙ log-more heads bodies body sent (envelopeOf msg h body) fits refl f s
           ∙ ap (λ (x : Logged). logOf heads bodies sent ++ (x ∷ [])) (sym (as-logged (j .member) msg h z)))
           (rw (eh, eb, es) (stored-more heads bodies body sent (envelopeOf msg h body) fits refl f s lb)) p b
+
+-- ---- what a line comes to at its member
+
+module _ (n : ℕ) (s : List ℕ) (l : Line) (log : List Logged) (node : Node) where
+  pub line-entry : (who : ℕ) (c : Command) (x : Result) → l ≡ line.Entry who c → who < n → x ≡ perform higher (actionOf c (textOf s)) log node → x ≡ lineResult n s l log node
+  line-entry who c x e h r = rw (e, lt-ltb who n h) r
+
+  pub line-stranger : (who : ℕ) (c : Command) → l ≡ line.Entry who c → n ≤ who → nothing ≡ lineResult n s l log node
+  line-stranger who c e h = rw (e, le-ltb who n h)
+
+  pub line-unknown : l ≡ line.Unknown → nothing ≡ lineResult n s l log node
+  line-unknown e = rw e
+
+pub done-as : {m : Member} {heads bodies : List ℕ} {sent : ℕ} {x y : Result} {at : ℕ} {out : List ℕ} {d : Done} {heads′ bodies′ out′ : List ℕ} → x ≡ y
+    → DoneIs m heads bodies sent x at out d heads′ bodies′ out′ → DoneIs m heads bodies sent y at out d heads′ bodies′ out′
+done-as {m} {heads} {bodies} {sent} {x} {y} {at} {out} {d} {heads′} {bodies′} {out′} e t = subst (λ (z : Result). DoneIs m heads bodies sent z at out d heads′ bodies′ out′) e t
 
 -- ---- a line that is played is an entry of the run
 

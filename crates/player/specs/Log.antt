@@ -14,7 +14,7 @@ use Rattle.hermes.specs.declared.message.Message.the-variants.{Inv, Ack, Val}
 use Rattle.hermes.specs.Run.{Logged}
 use Rattle.player.specs.declared.log.Envelope.{Envelope}
 
--- ---- a message as six words
+-- ---- a message as six words: kind, sender, epoch, version, tie-breaker, length of the body
 
 abbrev pub kindOf : Message → ℕ
 kindOf (Inv t) = 0
@@ -26,14 +26,14 @@ timestampOf (Inv t) = t
 timestampOf (Ack t) = t
 timestampOf (Val t) = t
 
--- of any number
+-- any number is a kind
 abbrev pub messageOf : ℕ → Timestamp → Message
 messageOf k t = cond (eqb k 0) (Inv t) (cond (eqb k 1) (Ack t) (Val t))
 
 abbrev pub encode : Envelope → List ℕ
 encode e = kindOf (e .message) ∷ e .sender ∷ e .epoch ∷ timestampOf (e .message) .version ∷ timestampOf (e .message) .tie ∷ e .len ∷ []
 
--- of any six words
+-- any six words are an envelope
 abbrev pub decode : ℕ → ℕ → ℕ → ℕ → ℕ → ℕ → Envelope
 decode kind sender epoch version tie len =
     record { sender = sender % 256; epoch = epoch; message = messageOf kind (record { version = version; tie = tie % 256 }); len = len }
@@ -52,7 +52,7 @@ envelopeOf m h body = record { sender = h .sender; epoch = h .epoch; message = m
 
 -- ---- the log
 
--- the memory with the part of message n replaced, of so many numbers for each message
+-- memory with so many numbers for each message, where the part of message n is replaced
 abbrev pub kept : ℕ → List ℕ → ℕ → List ℕ → List ℕ
 kept width l n part = paste l (width * n) part (length part)
 

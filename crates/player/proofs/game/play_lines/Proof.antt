@@ -54,19 +54,19 @@ who-requires : tie.Need-who-requires Inv-loop μ-loop
 who-requires c κs = c .before .before .before .before .loop .inv .2 .few
 
 mul-m : tie.Need-mul-m Inv-loop μ-loop
-mul-m c = search needs
+mul-m c = omega (arith, c .who .ensures .1)
 
 element-copy-out-m : tie.Need-element-copy-out-m Inv-loop μ-loop
-element-copy-out-m c = search needs
+element-copy-out-m c = omega (arith, c .who .ensures .1)
 
 turn-requires : tie.Need-turn-requires Inv-loop μ-loop
 turn-requires c κs = (c .before .before .before .before .before .before .before .before .before .loop .inv .2 .stored, omega (arith, c .before .before .before .before .before .before .before .before .before .loop .inv .0, c .before .before .before .before .before .before .before .before .before .loop .inv .1, c .before .before .before .before .before .before .before .before .before .before .before .before .before .before .before .pre .4))
 
 mul-after : tie.Need-mul-after Inv-loop μ-loop
-mul-after c = search needs
+mul-after c = omega (arith, c .before .before .before .before .before .before .before .before .before .before .before .before .who .ensures .1)
 
 element-set-from-after : tie.Need-element-set-from-after Inv-loop μ-loop
-element-set-from-after c = search needs
+element-set-from-after c = omega (arith, c .before .before .before .before .before .before .before .before .before .before .before .before .who .ensures .1)
 
 add-pos : tie.Need-add-pos Inv-loop μ-loop
 add-pos c = omega (arith, c .before .before .before .before .before .before .before .before .before .before .before .before .before .before .before .find .ensures .1, c .before .before .before .before .before .before .before .before .before .before .before .before .before .before .before .before .before .before .before .before .before .before .before .pre .1)
