@@ -1,28 +1,33 @@
 -- A script line by line: what is still to be printed after a line is what its rest prints.
-use mathlib.Core.Path.{_≡_, refl, sym, ap, _∙_}
+use mathlib.Core.Path.{_≡_, refl, sym, ap, _∙_, subst}
 use mathlib.Core.Bool.{cond}
 use mathlib.Core.List.{List, [], _∷_, _++_}
 use Prim.Native.Nat.{ℕ, zero, suc, _+_, _-_, _*_, _≤_, _<_}
-use native.Mathlib.Nat.{zero-add}
+use native.Mathlib.Nat.{zero-add, not-suc-le-zero}
 use native.Mathlib.Omega.{arith}
 use borrow.Author.Tests.{le-ltb, le-leb, lt-leb}
-use lib.Dec.{ltb}
-use lib.ListN.{length, take, drop, getD, replicate, length-append, length-drop, drop-of-length-le, length-replicate}
+use lib.Dec.{ltb, eqb}
+use lib.ListN.{length, take, drop, getD, set, length-set, length-append, length-drop, drop-of-length-le}
 use lib.Seq.{sets, take-length, drop-drop, take-nil}
 use Rattle.bytes.specs.Bytes.{indexOf, slice}
 use Rattle.script.specs.Text.{lines}
-use Rattle.script.specs.Command.{sizeOf}
+use Rattle.script.specs.Command.{lineOf, sizeOf}
+use Rattle.script.specs.declared.command.Line.{Line}
 use Rattle.script.specs.declared.line.Size.{Size}
 use Rattle.script.proofs.Lines.{lines-step}
 use Rattle.script.proofs.Words.{find-is, size-empty}
-use Rattle.hermes.specs.Run.{Group}
-use Rattle.player.specs.declared.cluster.Envelope.{Envelope}
+use Rattle.hermes.specs.Order.{higher}
+use Rattle.hermes.specs.Run.{Group, run}
+use Rattle.player.specs.declared.cluster.Member.{Member}
 use Rattle.player.specs.declared.cluster.Cluster.{Cluster}
-use Rattle.player.specs.declared.turn.Turned.{Turned}
+use Rattle.player.specs.declared.turn.Done.{Done}
 use Rattle.player.specs.declared.game.Played.the-variants.{Printed, Refused}
 use Rattle.player.specs.Print.{Put}
-use Rattle.player.specs.Play.{freshNode, freshGroup, turn, after, prints, begun, opened, printed, answerOf, outputOf}
-use Rattle.player.specs.Cluster.{noMember, noEnvelope, nodeOf, upTo, logOf, groupOf, freshMember, freshCluster, Sound, TurnIs}
+use Rattle.player.specs.Play.{freshNode, freshGroup, reply, turn, turnOf, after, prints, begun, opened, printed, answerOf, outputOf}
+use Rattle.player.specs.Log.{upTo, logOf}
+use Rattle.player.specs.Cluster.{noMember, nodeOf, groupOf, freshMember, freshCluster, Sound, whoOf, lineResult, nodeBy, logBy, commit, DoneIs}
+use Rattle.player.proofs.Clusters.{node-at, group-set, log-is, log-length}
+use Rattle.player.proofs.Turns.{line-group, line-text}
 use Rattle.player.proofs.Printing.{sets-append-at}
 
 -- ---- the start
@@ -35,31 +40,25 @@ fresh-at n (suc (suc zero)) = refl
 fresh-at n (suc (suc (suc zero))) = refl
 fresh-at n (suc (suc (suc (suc k)))) = rw (le-ltb (suc (suc (suc (suc k)))) 4 (omega arith))
 
-pub fresh-group : (n : ℕ) (bodies : List ℕ) → groupOf (freshCluster n) bodies ≡ freshGroup n
+fresh-group : (n : ℕ) (heads bodies : List ℕ) → groupOf (freshCluster n) heads bodies ≡ freshGroup n
 unfolding groupOf freshCluster freshGroup logOf upTo
-fresh-group n bodies = λ i. record { at = λ k. fresh-at n k i; log = [] }
+fresh-group n heads bodies = λ i. record { at = λ k. fresh-at n k i; log = [] }
 
 fresh-count : (n : ℕ) → freshCluster n .count ≡ n
 unfolding freshCluster
 fresh-count n = refl
 
-pub fresh-prints : (n : ℕ) (bodies : List ℕ) (c : Cluster) (ls : List (List ℕ)) → c ≡ freshCluster n → prints (c .count) (groupOf c bodies) ls ≡ prints n (freshGroup n) ls
-fresh-prints n bodies c ls e = ap (λ (x : Cluster). prints (x .count) (groupOf x bodies) ls) e ∙ (λ i. prints (fresh-count n i) (fresh-group n bodies i) ls)
+pub fresh-prints : (n : ℕ) (heads bodies : List ℕ) (c : Cluster) (ls : List (List ℕ)) → c ≡ freshCluster n
+    → prints (c .count) (groupOf c heads bodies) ls ≡ prints n (freshGroup n) ls
+fresh-prints n heads bodies c ls e =
+    ap (λ (x : Cluster). prints (x .count) (groupOf x heads bodies) ls) e ∙ (λ i. prints (fresh-count n i) (fresh-group n heads bodies i) ls)
 
-all-alike : (n k : ℕ) (x : Envelope) → getD (replicate n x) k x ≡ x
-all-alike zero k x = refl
-all-alike (suc n) zero x = refl
-all-alike (suc n) (suc k) x = all-alike n k x
-
-pub fresh-sound : (n : ℕ) (bodies : List ℕ) → n < 5 → length bodies ≡ 49152 → Sound (freshCluster n) bodies
+pub fresh-sound : (n : ℕ) (heads bodies : List ℕ) → n < 5 → length heads ≡ 1536 → length bodies ≡ 49152 → Sound (freshCluster n) heads bodies
 unfolding freshCluster
-fresh-sound n bodies h l = record {
+fresh-sound n heads bodies h lh lb = record {
   few = omega arith;
   four = refl;
-  slots = length-replicate 256 noEnvelope;
-  short = omega arith;
-  sized = λ k. rw (all-alike 256 k noEnvelope) (omega arith);
-  space = l;
+  stored = record { slots = lh; space = lb; short = omega arith; sized = λ k z. absurd (not-suc-le-zero z) };
 }
 
 -- ---- one line after another
@@ -81,22 +80,61 @@ pub no-line : (n : ℕ) (g : Group) (input : List ℕ) (pos : ℕ) → length in
 unfolding prints lines
 no-line n g input pos h = ap (λ (l : List ℕ). prints n g (lines l)) (drop-of-length-le input h)
 
-module _ (c : Cluster) (bodies line : List ℕ) (at : ℕ) (out : List ℕ) (r : Turned) (bodies′ out′ : List ℕ)
-    (t : TurnIs c (after (c .count) (groupOf c bodies) line) (turn (c .count) (groupOf c bodies) line .text) at out r bodies′ out′)
-    (ls ls′ : List (List ℕ))
-    (e : prints (c .count) (groupOf c bodies) ls ≡ turn (c .count) (groupOf c bodies) line .text ++ prints (c .count) (after (c .count) (groupOf c bodies) line) ls′) where
-  rest : prints (r .cluster .count) (groupOf (r .cluster) bodies′) ls′ ≡ prints (c .count) (after (c .count) (groupOf c bodies) line) ls′
-  rest = λ i. prints (t .count i) (t .group i) ls′
+module _ (c : Cluster) (heads bodies s : List ℕ) (l : Line) (who : ℕ) (m₀ : Member) (at : ℕ) (out : List ℕ) (d : Done) (heads′ bodies′ out′ : List ℕ)
+    (sound : Sound c heads bodies) (read : l ≡ lineOf s) (named : who ≡ whoOf (c .count) l) (low : who < 4)
+    (done : DoneIs (getD (c .members) who m₀) heads bodies (c .sent) (lineResult (c .count) s l (logOf heads bodies (c .sent)) (nodeOf (getD (c .members) who m₀))) at out d heads′ bodies′ out′) where
+  abbrev g : Group
+  g = groupOf c heads bodies
 
-  pub again-text : sets out′ (r .at) (prints (r .cluster .count) (groupOf (r .cluster) bodies′) ls′) ≡ sets out at (prints (c .count) (groupOf c bodies) ls)
-  again-text =
-      ap (sets out′ (r .at)) rest ∙ ap (λ (o : List ℕ). sets o (r .at) (prints (c .count) (after (c .count) (groupOf c bodies) line) ls′)) (t .put .text)
-      ∙ sets-append-at out at (r .at) (turn (c .count) (groupOf c bodies) line .text) (prints (c .count) (after (c .count) (groupOf c bodies) line) ls′) (t .put .end)
-      ∙ ap (sets out at) (sym e)
+  abbrev c′ : Cluster
+  c′ = record { count = c .count; members = set (c .members) who (d .member); sent = d .sent }
 
-  pub again-length : r .at + length (prints (r .cluster .count) (groupOf (r .cluster) bodies′) ls′) ≡ at + length (prints (c .count) (groupOf c bodies) ls)
-  again-length =
-      omega (arith, ap length rest, ap length e, length-append (turn (c .count) (groupOf c bodies) line .text) (prints (c .count) (after (c .count) (groupOf c bodies) line) ls′), t .put .end)
+  -- what the line came to, as the group has it
+  came : lineResult (c .count) s l (logOf heads bodies (c .sent)) (nodeOf (getD (c .members) who m₀)) ≡ lineResult (c .count) s l (g .log) (g .at who)
+  unfolding groupOf
+  came = ap (lineResult (c .count) s l (logOf heads bodies (c .sent))) (node-at c heads bodies who low (sound .four) m₀)
+
+  after-line : groupOf c′ heads′ bodies′ ≡ after (c .count) g s
+  unfolding turn
+  after-line =
+      group-set c heads bodies who low (sound .four) (d .member) (d .sent) heads′ bodies′ ∙ (λ i. record { at = λ k. cond (eqb k who) (node i) (g .at k); log = log i })
+      ∙ ap (λ (k : ℕ). commit g k (lineResult (c .count) s l (g .log) (g .at k))) named ∙ sym (line-group (c .count) g s l) ∙ ap (λ (x : Line). run higher g (turnOf (c .count) g s x .entries)) read
+    where
+      node : nodeOf (d .member) ≡ nodeBy (length (g .log)) (lineResult (c .count) s l (g .log) (g .at who)) (g .at who)
+      node = done .node ∙ (λ i. nodeBy (log-length c heads bodies i) (came i) (node-at c heads bodies who low (sound .four) m₀ i))
+
+      log : logOf heads′ bodies′ (d .sent) ≡ logBy (length (g .log)) (lineResult (c .count) s l (g .log) (g .at who)) (g .log)
+      log = done .log ∙ (λ i. logBy (log-length c heads bodies i) (came i) (log-is c heads bodies i))
+
+  text-line : reply (c .sent) (lineResult (c .count) s l (logOf heads bodies (c .sent)) (nodeOf (getD (c .members) who m₀))) ≡ turn (c .count) g s .text
+  unfolding turn
+  text-line =
+      (λ i. reply (log-length c heads bodies i) (came i)) ∙ ap (λ (k : ℕ). reply (length (g .log)) (lineResult (c .count) s l (g .log) (g .at k))) named
+      ∙ sym (line-text (c .count) g s l) ∙ ap (λ (x : Line). turnOf (c .count) g s x .text) read
+
+  sound-after : Sound c′ heads′ bodies′
+  sound-after = record { few = sound .few; four = length-set (c .members) who (d .member) ∙ sound .four; stored = done .stored }
+
+  module _ (ls ls′ : List (List ℕ)) (e : prints (c .count) g ls ≡ turn (c .count) g s .text ++ prints (c .count) (after (c .count) g s) ls′) where
+    put : Put (turn (c .count) g s .text) at out (d .at) out′
+    put = subst (λ (t : List ℕ). Put t at out (d .at) out′) text-line (done .put)
+
+    rest : prints (c .count) (groupOf c′ heads′ bodies′) ls′ ≡ prints (c .count) (after (c .count) g s) ls′
+    rest = ap (λ (x : Group). prints (c .count) x ls′) after-line
+
+    text-after : sets out′ (d .at) (prints (c .count) (groupOf c′ heads′ bodies′) ls′) ≡ sets out at (prints (c .count) g ls)
+    text-after =
+        ap (sets out′ (d .at)) rest ∙ ap (λ (o : List ℕ). sets o (d .at) (prints (c .count) (after (c .count) g s) ls′)) (put .text)
+        ∙ sets-append-at out at (d .at) (turn (c .count) g s .text) (prints (c .count) (after (c .count) g s) ls′) (put .end) ∙ ap (sets out at) (sym e)
+
+    length-after : d .at + length (prints (c .count) (groupOf c′ heads′ bodies′) ls′) ≡ at + length (prints (c .count) g ls)
+    length-after =
+        omega (arith, ap length rest, ap length e, length-append (turn (c .count) g s .text) (prints (c .count) (after (c .count) g s) ls′), put .end)
+
+    pub again : (d .at ≤ at + 25) × (Sound c′ heads′ bodies′)
+        × (sets out′ (d .at) (prints (c .count) (groupOf c′ heads′ bodies′) ls′) ≡ sets out at (prints (c .count) g ls))
+        × (d .at + length (prints (c .count) (groupOf c′ heads′ bodies′) ls′) ≡ at + length (prints (c .count) g ls))
+    again = (omega (arith, done .put .end, done .brief), sound-after, text-after, length-after)
 
 -- ---- line one, and the whole
 

@@ -1,17 +1,17 @@
--- What the code makes of an entry is what the run makes of it.
+-- What the code makes of a line is what the run makes of it.
 use mathlib.Core.Path.{_≡_, refl, sym, ap, _∙_, subst}
 use mathlib.Core.Bool.{Bool, true, false, cond}
-use mathlib.Core.List.{List, [], _∷_}
+use mathlib.Core.List.{List, [], _∷_, _++_}
 use Prim.Native.Nat.{ℕ, zero, suc, _+_, _-_, _*_, _≤_, _<_}
-use native.Mathlib.Nat.{not-suc-le-zero}
 use native.Mathlib.Omega.{arith}
-use borrow.Author.Tests.{lt-ltb, le-ltb}
-use lib.Dec.{eqb}
+use borrow.Author.Tests.{lt-ltb, le-ltb, eqb-true}
+use lib.Dec.{ltb, eqb}
 use lib.ListN.{length, getD, take, drop, length-take, length-drop}
 use Rattle.hermes.specs.declared.timestamp.Timestamp.{Timestamp}
 use Rattle.hermes.specs.declared.record.Record.{Record}
 use Rattle.hermes.specs.declared.record.State.{State}
 use Rattle.hermes.specs.declared.record.State.the-variants as state
+use Rattle.hermes.specs.declared.message.Header.{Header}
 use Rattle.hermes.specs.declared.message.Message.{Message}
 use Rattle.hermes.specs.declared.message.Message.the-variants.{Inv, Ack, Val}
 use Rattle.hermes.specs.declared.message.Outgoing.{Outgoing}
@@ -25,26 +25,26 @@ use Rattle.hermes.specs.declared.event.Answer.the-variants as answer
 use Rattle.hermes.specs.declared.event.Admission.{Admission}
 use Rattle.hermes.specs.declared.event.Admission.the-variants as admission
 use Rattle.hermes.specs.Order.{higher, later}
-use Rattle.hermes.specs.Event.{step, invStep, resent, deliverStep, refusal, movedBy, effect, answerOf, sentBy, leavingBody}
-use Rattle.hermes.specs.Node.{indexOf, Outcome, apply, view, viewed, admissionOf, admissionNumber, identity}
-use Rattle.hermes.specs.Run.{Entry, Group, Result, nothing, event, Found, find, received, delivery, perform, logged, logAfter, nodeAfter, result, advance, run}
-use Rattle.player.specs.declared.cluster.Member.{Member}
-use Rattle.player.specs.declared.cluster.Envelope.{Envelope}
-use Rattle.player.specs.declared.turn.Judged.{Judged}
-use Rattle.player.specs.declared.turn.Turned.{Turned}
-use Rattle.player.specs.declared.cluster.Cluster.{Cluster}
-use Rattle.hermes.specs.declared.message.Header.{Header}
-use Rattle.hermes.specs.Event.{numberOf}
+use Rattle.hermes.specs.Record.{freshRecord}
+use Rattle.hermes.specs.Store.{valueAt}
 use Rattle.hermes.specs.Guards.{firstNo}
-use Rattle.hermes.specs.Node.{recordOf, viewQuestions}
-use Rattle.script.specs.Command.{lineOf, textOf}
+use Rattle.hermes.specs.Event.{step, invStep, resent, deliverStep, refusal, movedBy, effect, answerOf, numberOf, sentBy, bodyOf, leavingBody}
+use Rattle.hermes.specs.Node.{Node, indexOf, Outcome, apply, view, viewed, viewQuestions, admissionOf, admissionNumber, identity}
+use Rattle.hermes.specs.Run.{Logged, Entry, Group, Result, nothing, event, Found, find, delivery, perform, logged, logAfter, nodeAfter, result, advance, run}
+use Rattle.script.specs.Command.{textOf}
 use Rattle.script.specs.declared.command.Command.{Command}
+use Rattle.script.specs.declared.command.Line.{Line}
 use Rattle.script.specs.declared.command.Line.the-variants as line
+use Rattle.player.specs.declared.cluster.Member.{Member}
+use Rattle.player.specs.declared.log.Envelope.{Envelope}
+use Rattle.player.specs.declared.turn.Judged.{Judged}
+use Rattle.player.specs.declared.turn.Done.{Done}
 use Rattle.player.specs.declared.print.Left.the-variants as left
 use Rattle.player.specs.Print.{Put, answerLine, unknownLine}
-use Rattle.player.specs.Play.{hasRoom, logNumber, played, reply, actionOf, entryTurn, turn, after, freshNode}
-use Rattle.player.specs.Cluster.{noMember, noEnvelope, nodeOf, loggedAt, logOf, groupOf, placed, pushed, envelopeOf, kept, resultOf, commit, Sound, TurnIs}
-use Rattle.player.proofs.Clusters.{find-known, find-unknown, length-log, group-placed, group-pushed, placed-sound, pushed-sound}
+use Rattle.player.specs.Play.{Turn, unknown, hasRoom, logNumber, played, reply, actionOf, entryTurn, turnOf}
+use Rattle.player.specs.Log.{encode, envelopeOf, Fits, kept, envelopeAt, logOf, Stored}
+use Rattle.player.specs.Cluster.{nodeOf, resultOf, whoOf, lineResult, commit, DoneIs}
+use Rattle.player.proofs.Logs.{find-known, find-unknown, log-more, stored-more}
 
 -- ---- what leaves an event on record 0 is about record 0
 
@@ -89,16 +89,17 @@ unfolding apply
 apply-is m e v x s ex es = λ i. event (record { answer = ex i .answer; node = record { me = m .me; table = ex i .after ∷ []; store = es i } })
 
 -- the body of a logged message is the part of the bytes that the code lends
-pub deliver-is : (m : Member) (log : List Envelope) (bodies : List ℕ) (sent k : ℕ) (j : Judged) → k < sent
-    → resultOf j ≡ event (apply higher (nodeOf m) 0 (Deliver (received (loggedAt log bodies k))) (take (192 * k + getD log k noEnvelope .len - 192 * k) (drop (192 * k) bodies)))
-    → resultOf j ≡ delivery higher (find (logOf log bodies sent) k) (nodeOf m)
-deliver-is m log bodies sent k j h e =
-    let q : 192 * k + getD log k noEnvelope .len - 192 * k ≡ getD log k noEnvelope .len = omega arith in
-    e ∙ ap (λ (n : ℕ). event (apply higher (nodeOf m) 0 (Deliver (received (loggedAt log bodies k))) (take n (drop (192 * k) bodies)))) q
-    ∙ ap (λ (x : Found). delivery higher x (nodeOf m)) (sym (find-known log bodies sent k h))
+pub deliver-is : (m : Member) (heads bodies : List ℕ) (sent k : ℕ) (e : Envelope) (j : Judged) → k < sent → e ≡ envelopeAt heads k
+    → resultOf j ≡ event (apply higher (nodeOf m) 0 (Deliver (record { sender = e .sender; epoch = e .epoch; message = e .message })) (take (192 * k + e .len - 192 * k) (drop (192 * k) bodies)))
+    → resultOf j ≡ delivery higher (find (logOf heads bodies sent) k) (nodeOf m)
+deliver-is m heads bodies sent k e j h at r =
+    let q : 192 * k + e .len - 192 * k ≡ e .len = omega arith in
+    r ∙ ap (λ (n : ℕ). event (apply higher (nodeOf m) 0 (Deliver (record { sender = e .sender; epoch = e .epoch; message = e .message })) (take n (drop (192 * k) bodies)))) q
+    ∙ ap (λ (x : Envelope). event (apply higher (nodeOf m) 0 (Deliver (record { sender = x .sender; epoch = x .epoch; message = x .message })) (take (x .len) (drop (192 * k) bodies)))) at
+    ∙ ap (λ (x : Found). delivery higher x (nodeOf m)) (sym (find-known heads bodies sent k h))
 
-pub deliver-none : (m : Member) (log : List Envelope) (bodies : List ℕ) (sent k : ℕ) → sent ≤ k → nothing ≡ delivery higher (find (logOf log bodies sent) k) (nodeOf m)
-deliver-none m log bodies sent k h = ap (λ (x : Found). delivery higher x (nodeOf m)) (sym (find-unknown log bodies sent k h))
+pub deliver-none : (m : Member) (heads bodies : List ℕ) (sent k : ℕ) → sent ≤ k → nothing ≡ delivery higher (find (logOf heads bodies sent) k) (nodeOf m)
+deliver-none m heads bodies sent k h = ap (λ (x : Found). delivery higher x (nodeOf m)) (sym (find-unknown heads bodies sent k h))
 
 pub view-admitted : (m : Member) (epoch set : ℕ) (next : Replica) → view (m .me) epoch set ≡ admission.Admitted next
     → resultOf (record { known = true; answer = answer.Accepted None; member = record { me = next; held = m .held; store = m .store } }) ≡ event (viewed (nodeOf m) epoch set)
@@ -126,22 +127,6 @@ view-refused m epoch set k e =
     ap (λ (x : Answer). event (record { answer = x; node = nodeOf m })) (view-number (m .me) epoch set k e)
     ∙ (λ i. event (record { answer = answerOf (admissionNumber (sym e i)) None; node = record { me = identity (sym e i) (m .me); table = m .held ∷ []; store = m .store } }))
 
--- ---- an entry that is played is an entry of the run
-
-advanced : (g : Group) (a : Entry) (o : Outcome) → result higher g a ≡ event o
-    → advance higher g a ≡ record { at = λ k. cond (eqb k (a .who)) (o .node) (g .at k); log = logged (g .log) (o .node) (sentBy (o .answer)) }
-unfolding advance
-advanced g a o e = λ i. record { at = λ k. cond (eqb k (a .who)) (nodeAfter (e i) (g .at k)) (g .at k); log = logAfter (e i) (g .log) }
-
-pub commit-run : (g : Group) (a : Entry) (r : Result) → result higher g a ≡ r → run higher g (played (length (g .log)) a r) ≡ commit g (a .who) r
-commit-run g a nothing e = refl
-commit-run g a (event o) e = go (hasRoom (length (g .log)) (sentBy (o .answer)))
-  where
-    go : (t : Bool) → run higher g (cond t (a ∷ []) [])
-        ≡ cond t (record { at = λ k. cond (eqb k (a .who)) (o .node) (g .at k); log = logged (g .log) (o .node) (sentBy (o .answer)) }) g
-    go true = advanced g a o e
-    go false = refl
-
 -- ---- the bytes that a message takes along
 
 pub leaving-short : (o : Outgoing) (r : Record) (store : List ℕ) → length (leavingBody o r store) ≤ length store
@@ -150,171 +135,141 @@ leaving-short (Sent (Inv t) h) r store = simp (length-take, length-drop) (omega 
 leaving-short (Sent (Ack t) h) r store = omega arith
 leaving-short (Sent (Val t) h) r store = omega arith
 
--- ---- what is put back and logged
+-- ---- how a line ends
 
-pub push-room : (c x : Cluster) (who : ℕ) (m : Member) → x ≡ placed c who m → c .sent < 256 → x .sent < 256
-unfolding placed
-push-room c x who m e h = rw e h
+-- the message as it was sent, of a header about record 0
+as-logged : (m : Member) (msg : Message) (h : Header) → h .index ≡ 0
+    → _≡_ {A = Logged} (record { header = h; message = msg; body = bodyOf msg (valueAt (h .index) (getD (m .held ∷ []) (h .index) (freshRecord 0) .len) (m .store)) })
+    (record { header = record { sender = h .sender; epoch = h .epoch; index = 0 }; message = msg; body = leavingBody (Sent msg h) (m .held) (m .store) })
+as-logged m msg h e = λ i. record { header = record { sender = h .sender; epoch = h .epoch; index = e i }; message = msg; body = bodies i }
+  where
+    bodies : bodyOf msg (valueAt (h .index) (getD (m .held ∷ []) (h .index) (freshRecord 0) .len) (m .store)) ≡ bodyOf msg (valueAt (h .index) (m .held .len) (m .store))
+    bodies = ap (λ (r : Record). bodyOf msg (valueAt (h .index) (r .len) (m .store))) (ap (λ (k : ℕ). getD (m .held ∷ []) k (freshRecord 0)) e)
 
-pub push-is : (c x y : Cluster) (who : ℕ) (m : Member) (msg : Message) (h : Header) (n : ℕ) (body : List ℕ) → x ≡ placed c who m
-    → y ≡ pushed x (record { sender = h .sender; epoch = h .epoch; message = msg; len = n }) → n ≡ length body → y ≡ pushed (placed c who m) (envelopeOf msg h body)
-push-is c x y who m msg h n body ex ey en = ey ∙ (λ i. pushed (ex i) (record { sender = h .sender; epoch = h .epoch; message = msg; len = en i }))
+module _ (m : Member) (heads bodies : List ℕ) (sent at : ℕ) (out : List ℕ) (d : Done) (out′ : List ℕ) (s : Stored heads bodies sent) where
+  -- nothing moves
+  pub end-nothing : d .member ≡ m → d .sent ≡ sent → Put unknownLine at out (d .at) out′ → DoneIs m heads bodies sent nothing at out d heads bodies out′
+  end-nothing em es p = record {
+    node = ap nodeOf em;
+    log = ap (logOf heads bodies) es;
+    stored = rw es s;
+    put = p;
+    brief = omega arith;
+  }
 
--- ---- what a line must come to
+  module _ (j : Judged) where
+    pub end-unknown : j .known ≡ false → d .member ≡ m → d .sent ≡ sent → Put unknownLine at out (d .at) out′
+        → DoneIs m heads bodies sent (resultOf j) at out d heads bodies out′
+    end-unknown k em es p = rw k (end-nothing em es p)
 
-pub turn-as : {c : Cluster} {g g′ : Group} {text text′ : List ℕ} {at : ℕ} {out : List ℕ} {r : Turned} {bodies′ out′ : List ℕ} → g ≡ g′ → text ≡ text′
-    → TurnIs c g text at out r bodies′ out′ → TurnIs c g′ text′ at out r bodies′ out′
-turn-as {c} {g} {g′} {text} {text′} {at} {out} {r} {bodies′} {out′} eg et t =
-    subst (λ (x : List ℕ). TurnIs c g′ x at out r bodies′ out′) et (subst (λ (x : Group). TurnIs c x text at out r bodies′ out′) eg t)
+    module _ (known : j .known ≡ true) where
+      -- an event by what leaves it, and whether there is room for it
+      module _ (o : Outgoing) (leaves : sentBy (j .answer) ≡ o) (b : Bool) (room : hasRoom sent o ≡ b) where
+        abbrev text : Bool → Outgoing → List ℕ
+        text t x = cond t (answerLine (numberOf (j .answer)) (j .member .held) (logNumber sent x)) unknownLine
 
--- nothing moves
-pub turn-unknown : (c : Cluster) (bodies : List ℕ) (at : ℕ) (out : List ℕ) (r : Turned) (out′ : List ℕ) → Sound c bodies → r .cluster ≡ c → Put unknownLine at out (r .at) out′
-    → TurnIs c (groupOf c bodies) unknownLine at out r bodies out′
-turn-unknown c bodies at out r out′ s e p = record {
-  group = ap (λ (x : Cluster). groupOf x bodies) e;
-  count = ap (λ (x : Cluster). x .count) e;
-  sound = subst (λ (x : Cluster). Sound x bodies) (sym e) s;
-  put = p;
-  brief = omega arith;
-}
+        by : (heads′ bodies′ : List ℕ) → nodeOf (d .member) ≡ cond b (nodeOf (j .member)) (nodeOf m)
+            → logOf heads′ bodies′ (d .sent) ≡ cond b (logged (logOf heads bodies sent) (nodeOf (j .member)) o) (logOf heads bodies sent) → Stored heads′ bodies′ (d .sent)
+            → Put (text b o) at out (d .at) out′ → length (text b o) ≤ 25 → DoneIs m heads bodies sent (resultOf j) at out d heads′ bodies′ out′
+        by heads′ bodies′ en el es p short =
+            let r : b ≡ hasRoom sent (sentBy (j .answer)) = sym (ap (hasRoom sent) leaves ∙ room) in
+            let e = sym leaves in
+            rw known
+            (record {
+              node = en ∙ ap (λ (t : Bool). cond t (nodeOf (j .member)) (nodeOf m)) r;
+              log = el ∙ (λ i. cond (r i) (logged (logOf heads bodies sent) (nodeOf (j .member)) (e i)) (logOf heads bodies sent));
+              stored = es;
+              put = subst (λ (x : List ℕ). Put x at out (d .at) out′) (λ i. text (r i) (e i)) p;
+              brief = subst (λ (x : List ℕ). length x ≤ 25) (λ i. text (r i) (e i)) short;
+            })
 
-placed-count : (c : Cluster) (who : ℕ) (m : Member) → placed c who m .count ≡ c .count
-unfolding placed
-placed-count c who m = refl
+      pub end-full : (msg : Message) (h : Header) → sentBy (j .answer) ≡ Sent msg h → 256 ≤ sent → d .member ≡ m → d .sent ≡ sent → Put unknownLine at out (d .at) out′
+          → DoneIs m heads bodies sent (resultOf j) at out d heads bodies out′
+      end-full msg h l f em es p =
+          by (Sent msg h) l false (le-ltb sent 256 f) heads bodies (ap nodeOf em) (ap (logOf heads bodies) es) (rw es s) p (omega arith)
 
-pushed-count : (c : Cluster) (who : ℕ) (m : Member) (msg : Message) (h : Header) (body : List ℕ) → pushed (placed c who m) (envelopeOf msg h body) .count ≡ c .count
-unfolding placed pushed
-pushed-count c who m msg h body = refl
+      pub end-settled : sentBy (j .answer) ≡ None → d .member ≡ j .member → d .sent ≡ sent
+          → Put (answerLine (numberOf (j .answer)) (j .member .held) left.Nothing) at out (d .at) out′ → length (answerLine (numberOf (j .answer)) (j .member .held) left.Nothing) ≤ 25
+          → DoneIs m heads bodies sent (resultOf j) at out d heads bodies out′
+      end-settled l em es p b = by None l true refl heads bodies (ap nodeOf em) (ap (logOf heads bodies) es) (rw es s) p b
 
-placed-sent : (c : Cluster) (who : ℕ) (m : Member) → placed c who m .sent ≡ c .sent
-unfolding placed
-placed-sent c who m = refl
+      pub end-sent : (msg : Message) (h : Header) (heads′ bodies′ : List ℕ) → sentBy (j .answer) ≡ Sent msg h → h .index ≡ 0 → sent < 256
+          → d .member ≡ j .member → d .sent ≡ sent + 1
+          → heads′ ≡ kept 6 heads sent (encode (envelopeOf msg h (leavingBody (Sent msg h) (j .member .held) (j .member .store))))
+          → Fits (envelopeOf msg h (leavingBody (Sent msg h) (j .member .held) (j .member .store)))
+          → bodies′ ≡ kept 192 bodies sent (leavingBody (Sent msg h) (j .member .held) (j .member .store))
+          → length (leavingBody (Sent msg h) (j .member .held) (j .member .store)) ≤ 192
+          → Put (answerLine (numberOf (j .answer)) (j .member .held) (left.Message sent)) at out (d .at) out′
+          → length (answerLine (numberOf (j .answer)) (j .member .held) (left.Message sent)) ≤ 25
+          → DoneIs m heads bodies sent (resultOf j) at out d heads′ bodies′ out′
+      end-sent msg h heads′ bodies′ l z f em es eh fits eb lb p b =
+          let body = leavingBody (Sent msg h) (j .member .held) (j .member .store) in
+          by (Sent msg h) l true (lt-ltb sent 256 f) heads′ bodies′ (ap nodeOf em)
+          ((λ i. logOf (eh i) (eb i) (es i)) ∙ log-more heads bodies body sent (envelopeOf msg h body) fits refl f s
+          ∙ ap (λ (x : Logged). logOf heads bodies sent ++ (x ∷ [])) (sym (as-logged (j .member) msg h z)))
+          (rw (eh, eb, es) (stored-more heads bodies body sent (envelopeOf msg h body) fits refl f s lb)) p b
 
-log-length : (c : Cluster) (bodies : List ℕ) → length (groupOf c bodies .log) ≡ c .sent
-unfolding groupOf
-log-length c bodies = length-log (c .log) bodies (c .sent)
+-- ---- what a line comes to at its member
 
--- an event by what leaves it, and whether there is room for it
-module _ (g : Group) (sent who : ℕ) (o : Outcome) (s : Outgoing) (leaves : sentBy (o .answer) ≡ s) (b : Bool) (room : hasRoom sent s ≡ b) (l : length (g .log) ≡ sent) where
-  commit-is : commit g who (event o) ≡ cond b (record { at = λ k. cond (eqb k who) (o .node) (g .at k); log = logged (g .log) (o .node) s }) g
-  commit-is =
-      ap (λ (x : Outgoing). cond (hasRoom (length (g .log)) x) (record { at = λ k. cond (eqb k who) (o .node) (g .at k); log = logged (g .log) (o .node) x }) g) leaves
-      ∙ ap (λ (t : Bool). cond t (record { at = λ k. cond (eqb k who) (o .node) (g .at k); log = logged (g .log) (o .node) s }) g) (ap (λ (n : ℕ). hasRoom n s) l ∙ room)
+module _ (n : ℕ) (s : List ℕ) (l : Line) (log : List Logged) (node : Node) where
+  pub line-entry : (who : ℕ) (c : Command) (x : Result) → l ≡ line.Entry who c → who < n → x ≡ perform higher (actionOf c (textOf s)) log node → x ≡ lineResult n s l log node
+  line-entry who c x e h r = rw (e, lt-ltb who n h) r
 
-  reply-is : reply sent (event o) ≡ cond b (answerLine (numberOf (o .answer)) (recordOf 0 (o .node)) (logNumber sent s)) unknownLine
-  reply-is =
-      ap (λ (x : Outgoing). cond (hasRoom sent x) (answerLine (numberOf (o .answer)) (recordOf 0 (o .node)) (logNumber sent x)) unknownLine) leaves
-      ∙ ap (λ (t : Bool). cond t (answerLine (numberOf (o .answer)) (recordOf 0 (o .node)) (logNumber sent s)) unknownLine) room
+  pub line-stranger : (who : ℕ) (c : Command) → l ≡ line.Entry who c → n ≤ who → nothing ≡ lineResult n s l log node
+  line-stranger who c e h = rw (e, le-ltb who n h)
 
--- the four ways a line with an entry ends
-module _ (c : Cluster) (bodies : List ℕ) (who : ℕ) (j : Judged) (at : ℕ) (out : List ℕ) (r : Turned) (out′ : List ℕ) (s : Sound c bodies) where
-  o : Outcome
-  o = record { answer = j .answer; node = nodeOf (j .member) }
+  pub line-unknown : l ≡ line.Unknown → nothing ≡ lineResult n s l log node
+  line-unknown e = rw e
 
-  pub end-unknown : j .known ≡ false → r .cluster ≡ c → Put unknownLine at out (r .at) out′
-      → TurnIs c (commit (groupOf c bodies) who (resultOf j)) (reply (c .sent) (resultOf j)) at out r bodies out′
-  unfolding o
-  end-unknown k e p =
-      let q : nothing ≡ resultOf j = ap (λ (t : Bool). cond t (event o) nothing) (sym k) in
-      turn-as (ap (commit (groupOf c bodies) who) q) (ap (reply (c .sent)) q) (turn-unknown c bodies at out r out′ s e p)
+pub done-as : {m : Member} {heads bodies : List ℕ} {sent : ℕ} {x y : Result} {at : ℕ} {out : List ℕ} {d : Done} {heads′ bodies′ out′ : List ℕ} → x ≡ y
+    → DoneIs m heads bodies sent x at out d heads′ bodies′ out′ → DoneIs m heads bodies sent y at out d heads′ bodies′ out′
+done-as {m} {heads} {bodies} {sent} {x} {y} {at} {out} {d} {heads′} {bodies′} {out′} e t = subst (λ (z : Result). DoneIs m heads bodies sent z at out d heads′ bodies′ out′) e t
 
-  module _ (known : j .known ≡ true) where
-    is : event o ≡ resultOf j
-    unfolding o
-    is = ap (λ (t : Bool). cond t (event o) nothing) (sym known)
+-- ---- a line that is played is an entry of the run
 
-    -- what is shown of the event is shown of what the entry came to
-    by : {g : Group} {text bodies′ : List ℕ} → commit (groupOf c bodies) who (event o) ≡ g → reply (c .sent) (event o) ≡ text → TurnIs c g text at out r bodies′ out′
-        → TurnIs c (commit (groupOf c bodies) who (resultOf j)) (reply (c .sent) (resultOf j)) at out r bodies′ out′
-    by eg et t = turn-as (sym eg ∙ ap (commit (groupOf c bodies) who) is) (sym et ∙ ap (reply (c .sent)) is) t
+advanced : (g : Group) (a : Entry) (o : Outcome) → result higher g a ≡ event o
+    → advance higher g a ≡ record { at = λ k. cond (eqb k (a .who)) (o .node) (g .at k); log = logged (g .log) (o .node) (sentBy (o .answer)) }
+unfolding advance
+advanced g a o e = λ i. record { at = λ k. cond (eqb k (a .who)) (nodeAfter (e i) (g .at k)) (g .at k); log = logAfter (e i) (g .log) }
 
-    pub end-full : (m : Message) (h : Header) → sentBy (j .answer) ≡ Sent m h → 256 ≤ c .sent → r .cluster ≡ c → Put unknownLine at out (r .at) out′
-        → TurnIs c (commit (groupOf c bodies) who (resultOf j)) (reply (c .sent) (resultOf j)) at out r bodies out′
-    unfolding o
-    end-full m h l f e p =
-        by (commit-is (groupOf c bodies) (c .sent) who o (Sent m h) l false (le-ltb _ _ f) (log-length c bodies))
-        (reply-is (groupOf c bodies) (c .sent) who o (Sent m h) l false (le-ltb _ _ f) (log-length c bodies)) (turn-unknown c bodies at out r out′ s e p)
+-- a replica put back as it was
+unmoved : (g : Group) (who : ℕ) → g ≡ record { at = λ k. cond (eqb k who) (g .at who) (g .at k); log = g .log }
+unmoved g who = λ i. record { at = λ k. same k (eqb k who) refl i; log = g .log }
+  where
+    same : (k : ℕ) (t : Bool) → eqb k who ≡ t → g .at k ≡ cond t (g .at who) (g .at k)
+    same k true e = ap (g .at) (eqb-true k who e)
+    same k false e = refl
 
-    pub end-settled : sentBy (j .answer) ≡ None → who < 4 → r .cluster ≡ placed c who (j .member)
-        → Put (answerLine (numberOf (j .answer)) (j .member .held) left.Nothing) at out (r .at) out′ → length (answerLine (numberOf (j .answer)) (j .member .held) left.Nothing) ≤ 25
-        → TurnIs c (commit (groupOf c bodies) who (resultOf j)) (reply (c .sent) (resultOf j)) at out r bodies out′
-    unfolding o
-    end-settled l w e p b =
-        by (commit-is (groupOf c bodies) (c .sent) who o None l true refl (log-length c bodies))
-        (reply-is (groupOf c bodies) (c .sent) who o None l true refl (log-length c bodies))
-        (record {
-          group = ap (λ (x : Cluster). groupOf x bodies) e ∙ group-placed c bodies who (j .member) w (s .four);
-          count = ap (λ (x : Cluster). x .count) e ∙ placed-count c who (j .member);
-          sound = subst (λ (x : Cluster). Sound x bodies) (sym e) (placed-sound c bodies who (j .member) s);
-          put = p;
-          brief = b;
-        })
+commit-run : (g : Group) (a : Entry) (r : Result) → result higher g a ≡ r → run higher g (played (length (g .log)) a r) ≡ commit g (a .who) r
+commit-run g a nothing e = unmoved g (a .who)
+commit-run g a (event o) e = go (hasRoom (length (g .log)) (sentBy (o .answer)))
+  where
+    go : (t : Bool) → run higher g (cond t (a ∷ []) [])
+        ≡ record { at = λ k. cond (eqb k (a .who)) (cond t (o .node) (g .at (a .who))) (g .at k); log = cond t (logged (g .log) (o .node) (sentBy (o .answer))) (g .log) }
+    go true = advanced g a o e
+    go false = unmoved g (a .who)
 
-    pub end-sent : (m : Message) (h : Header) (bodies′ : List ℕ) → sentBy (j .answer) ≡ Sent m h → h .index ≡ 0 → who < 4 → c .sent < 256
-        → r .cluster ≡ pushed (placed c who (j .member)) (envelopeOf m h (leavingBody (Sent m h) (j .member .held) (j .member .store)))
-        → bodies′ ≡ kept bodies (c .sent) (leavingBody (Sent m h) (j .member .held) (j .member .store))
-        → length (leavingBody (Sent m h) (j .member .held) (j .member .store)) ≤ 192
-        → Put (answerLine (numberOf (j .answer)) (j .member .held) (left.Message (c .sent))) at out (r .at) out′
-        → length (answerLine (numberOf (j .answer)) (j .member .held) (left.Message (c .sent))) ≤ 25
-        → TurnIs c (commit (groupOf c bodies) who (resultOf j)) (reply (c .sent) (resultOf j)) at out r bodies′ out′
-    unfolding o placed
-    end-sent m h bodies′ l z w f e eb lb p b =
-        by (commit-is (groupOf c bodies) (c .sent) who o (Sent m h) l true (lt-ltb _ _ f) (log-length c bodies))
-        (reply-is (groupOf c bodies) (c .sent) who o (Sent m h) l true (lt-ltb _ _ f) (log-length c bodies))
-        (record {
-          group = (λ i. groupOf (e i) (eb i)) ∙ group-pushed c bodies who (j .member) m h w s f z;
-          count = ap (λ (x : Cluster). x .count) e ∙ pushed-count c who (j .member) m h (leavingBody (Sent m h) (j .member .held) (j .member .store));
-          sound = sound-after;
-          put = p;
-          brief = b;
-        })
-      where
-        sound-after : Sound (r .cluster) bodies′
-        sound-after =
-            rw (e, eb)
-            (rw (placed-sent c who (j .member)) at
-            (pushed-sound (placed c who (j .member)) bodies (leavingBody (Sent m h) (j .member .held) (j .member .store))
-            (envelopeOf m h (leavingBody (Sent m h) (j .member .held) (j .member .store))) (placed-sound c bodies who (j .member) s) (rw (placed-sent c who (j .member)) f) lb lb))
+module _ (n : ℕ) (g : Group) (s : List ℕ) where
+  -- what a line of a laptop does, and what it comes to
+  known : Command → ℕ → Turn
+  known c who = let a : Entry = record { who = who; what = actionOf c (textOf s) } in
+      record { entries = played (length (g .log)) a (result higher g a); text = reply (length (g .log)) (result higher g a) }
 
--- ---- a line
+  pub line-group : (l : Line) → run higher g (turnOf n g s l .entries) ≡ commit g (whoOf n l) (lineResult n s l (g .log) (g .at (whoOf n l)))
+  unfolding entryTurn result known
+  line-group (line.Entry who c) = go (ltb who n)
+    where
+      go : (t : Bool) → run higher g (cond t (known c who) unknown .entries)
+          ≡ commit g (cond t who 0) (cond t (perform higher (actionOf c (textOf s)) (g .log) (g .at (cond t who 0))) nothing)
+      go true = commit-run g (record { who = who; what = actionOf c (textOf s) }) (perform higher (actionOf c (textOf s)) (g .log) (g .at who)) refl
+      go false = unmoved g 0
+  line-group line.Unknown = unmoved g 0
 
--- of an index within the list, what would stand past its end plays no part
-getD-any : (l : List Member) (k : ℕ) (d e : Member) → k < length l → getD l k d ≡ getD l k e
-getD-any [] k d e h = absurd (not-suc-le-zero h)
-getD-any (x ∷ l) zero d e h = refl
-getD-any (x ∷ l) (suc k) d e h = getD-any l k d e (omega arith)
-
-module _ (c : Cluster) (bodies s : List ℕ) where
-  -- a line that is no entry of one of the laptops
-  pub line-unknown : lineOf s ≡ line.Unknown → {at : ℕ} {out : List ℕ} {r : Turned} {bodies′ out′ : List ℕ} → TurnIs c (groupOf c bodies) unknownLine at out r bodies′ out′
-      → TurnIs c (after (c .count) (groupOf c bodies) s) (turn (c .count) (groupOf c bodies) s .text) at out r bodies′ out′
-  unfolding turn
-  line-unknown e t = turn-as (rw e) (rw e) t
-
-  pub line-stranger : (who : ℕ) (what : Command) → lineOf s ≡ line.Entry who what → c .count ≤ who → {at : ℕ} {out : List ℕ} {r : Turned} {bodies′ out′ : List ℕ}
-      → TurnIs c (groupOf c bodies) unknownLine at out r bodies′ out′
-      → TurnIs c (after (c .count) (groupOf c bodies) s) (turn (c .count) (groupOf c bodies) s .text) at out r bodies′ out′
-  unfolding turn entryTurn
-  line-stranger who what e h t = turn-as (rw (e, le-ltb who (c .count) h)) (rw (e, le-ltb who (c .count) h)) t
-
-  -- the entry of a known laptop, and what it came to
-  result-is : (who : ℕ) (what : Command) (j : Judged) (d : Member) → who < 4 → length (c .members) ≡ 4
-      → resultOf j ≡ perform higher (actionOf what (textOf s)) (logOf (c .log) bodies (c .sent)) (nodeOf (getD (c .members) who d))
-      → result higher (groupOf c bodies) (record { who = who; what = actionOf what (textOf s) }) ≡ resultOf j
-  unfolding result groupOf
-  result-is who what j d w l e =
-      ap (λ (t : Bool). perform higher (actionOf what (textOf s)) (logOf (c .log) bodies (c .sent)) (cond t (nodeOf (getD (c .members) who noMember)) (freshNode (c .count) who))) (lt-ltb who 4 w)
-      ∙ ap (λ (x : Member). perform higher (actionOf what (textOf s)) (logOf (c .log) bodies (c .sent)) (nodeOf x)) (getD-any (c .members) who noMember d (omega arith)) ∙ sym e
-
-  pub line-entry : (who : ℕ) (what : Command) (j : Judged) (d : Member) → lineOf s ≡ line.Entry who what → who < c .count → who < 4 → length (c .members) ≡ 4
-      → resultOf j ≡ perform higher (actionOf what (textOf s)) (logOf (c .log) bodies (c .sent)) (nodeOf (getD (c .members) who d))
-      → {at : ℕ} {out : List ℕ} {r : Turned} {bodies′ out′ : List ℕ} → TurnIs c (commit (groupOf c bodies) who (resultOf j)) (reply (c .sent) (resultOf j)) at out r bodies′ out′
-      → TurnIs c (after (c .count) (groupOf c bodies) s) (turn (c .count) (groupOf c bodies) s .text) at out r bodies′ out′
-  unfolding turn entryTurn
-  line-entry who what j d e h w l p t =
-      let a : Entry = record { who = who; what = actionOf what (textOf s) } in
-      let q = result-is who what j d w l p in
-      turn-as
-      (sym (commit-run (groupOf c bodies) a (resultOf j) q) ∙ ap (λ (x : Result). run higher (groupOf c bodies) (played (length (groupOf c bodies .log)) a x)) (sym q) ∙ rw (e, lt-ltb who (c .count) h))
-      (ap (λ (n : ℕ). reply n (resultOf j)) (sym (log-length c bodies)) ∙ ap (reply (length (groupOf c bodies .log))) (sym q) ∙ rw (e, lt-ltb who (c .count) h))
-      t
+  pub line-text : (l : Line) → turnOf n g s l .text ≡ reply (length (g .log)) (lineResult n s l (g .log) (g .at (whoOf n l)))
+  unfolding entryTurn result known
+  line-text (line.Entry who c) = go (ltb who n)
+    where
+      go : (t : Bool) → cond t (known c who) unknown .text ≡ reply (length (g .log)) (cond t (perform higher (actionOf c (textOf s)) (g .log) (g .at (cond t who 0))) nothing)
+      go true = refl
+      go false = refl
+  line-text line.Unknown = refl

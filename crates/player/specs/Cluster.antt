@@ -1,65 +1,42 @@
--- How the cluster that the code holds by value, with the lent bytes of the bodies, is read as a group of the run.
+-- How the cluster that the code holds by value, with the log in lent memory, is read as a group of the run.
 -- No public contract names these.
-use Prim.Native.Nat.{ℕ, zero, suc, _+_, _-_, _*_, _^_, _≤_}
+use Prim.Native.Nat.{ℕ, _-_, _^_, _≤_}
 use mathlib.Core.Path.{_≡_}
 use mathlib.Core.Bool.{cond}
-use mathlib.Core.List.{List, [], _∷_, _++_}
-use lib.ListN.{length, take, drop, getD, set, replicate}
+use mathlib.Core.List.{List, [], _∷_}
+use lib.ListN.{length, getD, replicate}
 use lib.Dec.{ltb, eqb}
-use Rattle.hermes.specs.declared.message.Outgoing.{Outgoing}
-use Rattle.hermes.specs.declared.message.Outgoing.the-variants.{None, Sent}
-use lib.Seq.{paste}
-use Rattle.hermes.specs.declared.message.Header.{Header}
-use Rattle.hermes.specs.declared.message.Message.{Message}
-use Rattle.hermes.specs.declared.message.Message.the-variants.{Inv}
 use Rattle.hermes.specs.Record.{freshRecord}
 use Rattle.hermes.specs.Node.{Node, newcomer}
 use Rattle.hermes.specs.Event.{sentBy}
-use Rattle.hermes.specs.Run.{Logged, Group, Result, nothing, event, logged}
+use Rattle.hermes.specs.Order.{higher}
+use Rattle.hermes.specs.Run.{Logged, Group, Result, nothing, event, perform, logged}
+use Rattle.script.specs.Command.{textOf}
+use Rattle.script.specs.declared.command.Line.{Line}
+use Rattle.script.specs.declared.command.Line.the-variants as line
 use Rattle.player.specs.declared.cluster.Member.{Member}
-use Rattle.player.specs.declared.cluster.Envelope.{Envelope}
 use Rattle.player.specs.declared.cluster.Cluster.{Cluster}
 use Rattle.player.specs.declared.turn.Judged.{Judged}
-use Rattle.player.specs.declared.turn.Turned.{Turned}
+use Rattle.player.specs.declared.turn.Done.{Done}
 use Rattle.player.specs.Print.{Put}
-use Rattle.player.specs.Play.{freshNode, hasRoom}
-
--- what an index past the end of an array stands for
-abbrev pub noMember : Member
-noMember = record { me = newcomer 0 0; held = freshRecord 0; store = replicate 192 0 }
-
-abbrev pub noEnvelope : Envelope
-noEnvelope = record { sender = 0; epoch = 0; message = Inv (record { version = 0; tie = 0 }); len = 0 }
+use Rattle.player.specs.Play.{freshNode, hasRoom, reply, actionOf}
+use Rattle.player.specs.Log.{logOf, Stored}
 
 -- ---- a group
 
 abbrev pub nodeOf : Member → Node
 nodeOf m = record { me = m .me; table = m .held ∷ []; store = m .store }
 
--- message k, whose body stands in the 192 bytes from 192 times k on
-abbrev pub loggedAt : List Envelope → List ℕ → ℕ → Logged
-loggedAt log bodies k = record {
-  header = record { sender = getD log k noEnvelope .sender; epoch = getD log k noEnvelope .epoch; index = 0 };
-  message = getD log k noEnvelope .message;
-  body = take (getD log k noEnvelope .len) (drop (192 * k) bodies);
-}
-
--- f 0, f 1, .. f (n - 1)
-unfoldable pub upTo : ℕ → (ℕ → Logged) → List Logged
-upTo zero f = []
-upTo (suc n) f = upTo n f ++ (f n ∷ [])
-
-unfoldable pub logOf : List Envelope → List ℕ → ℕ → List Logged
-logOf log bodies sent = upTo sent (loggedAt log bodies)
+-- what an index past the end of the members stands for
+abbrev pub noMember : Member
+noMember = record { me = newcomer 0 0; held = freshRecord 0; store = replicate 192 0 }
 
 -- the group has no more than four members; the others, which no line can name, have just started
-unfoldable pub groupOf : Cluster → List ℕ → Group
-groupOf c bodies = record {
+unfoldable pub groupOf : Cluster → List ℕ → List ℕ → Group
+groupOf c heads bodies = record {
   at = λ k. cond (ltb k 4) (nodeOf (getD (c .members) k noMember)) (freshNode (c .count) k);
-  log = logOf (c .log) bodies (c .sent);
+  log = logOf heads bodies (c .sent);
 }
-
--- ---- the steps of the cluster
 
 -- replica k of a group whose first view is this set
 abbrev pub freshIn : ℕ → ℕ → Member
@@ -72,57 +49,52 @@ unfoldable pub freshCluster : ℕ → Cluster
 freshCluster n = record {
   count = n;
   members = freshMember n 0 ∷ freshMember n 1 ∷ freshMember n 2 ∷ freshMember n 3 ∷ [];
-  log = replicate 256 noEnvelope;
   sent = 0;
 }
 
--- member k is put back
-unfoldable pub placed : Cluster → ℕ → Member → Cluster
-placed c k m = record { count = c .count; members = set (c .members) k m; log = c .log; sent = c .sent }
-
--- a message is logged
-unfoldable pub pushed : Cluster → Envelope → Cluster
-pushed c e = record { count = c .count; members = c .members; log = set (c .log) (c .sent) e; sent = c .sent + 1 }
-
--- a message as it is logged, with a body of so many bytes
-abbrev pub envelopeOf : Message → Header → List ℕ → Envelope
-envelopeOf m h body = record { sender = h .sender; epoch = h .epoch; message = m; len = length body }
-
--- the bytes of the bodies with that of message n
-abbrev pub kept : List ℕ → ℕ → List ℕ → List ℕ
-kept bodies n body = paste bodies (192 * n) body (length body)
+-- a cluster as every line leaves it
+pub record Sound (c : Cluster) (heads bodies : List ℕ) : Type 0 where
+  pub few : c .count ≤ 4
+  pub four : length (c .members) ≡ 4
+  pub stored : Stored heads bodies (c .sent)
 
 -- ---- what one line does to it
+
+-- the replica that a line is about, of the first n; a line that is no entry of one of these does nothing to the first
+abbrev pub whoOf : ℕ → Line → ℕ
+whoOf n (line.Entry who c) = cond (ltb who n) who 0
+whoOf n line.Unknown = 0
+
+-- what the line s comes to at that replica
+abbrev pub lineResult : ℕ → List ℕ → Line → List Logged → Node → Result
+lineResult n s (line.Entry who c) log node = cond (ltb who n) (perform higher (actionOf c (textOf s)) log node) nothing
+lineResult n s line.Unknown log node = nothing
 
 -- what an entry came to
 abbrev pub resultOf : Judged → Result
 resultOf j = cond (j .known) (event (record { answer = j .answer; node = nodeOf (j .member) })) nothing
 
+-- the replica after an entry that came to this; an event counts where the log has room for what leaves it
+abbrev pub nodeBy : ℕ → Result → Node → Node
+nodeBy sent nothing n = n
+nodeBy sent (event o) n = cond (hasRoom sent (sentBy (o .answer))) (o .node) n
+
+-- the log after it
+abbrev pub logBy : ℕ → Result → List Logged → List Logged
+logBy sent nothing log = log
+logBy sent (event o) log = cond (hasRoom sent (sentBy (o .answer))) (logged log (o .node) (sentBy (o .answer))) log
+
 -- the group after an entry of replica `who` that came to this
 abbrev pub commit : Group → ℕ → Result → Group
-commit g who nothing = g
-commit g who (event o) =
-    cond (hasRoom (length (g .log)) (sentBy (o .answer)))
-    (record { at = λ k. cond (eqb k who) (o .node) (g .at k); log = logged (g .log) (o .node) (sentBy (o .answer)) })
-    g
+commit g who x = record {
+  at = λ k. cond (eqb k who) (nodeBy (length (g .log)) x (g .at who)) (g .at k);
+  log = logBy (length (g .log)) x (g .log);
+}
 
--- every body in the log has its place
-abbrev pub Sized : List Envelope → Type 0
-Sized log = (k : ℕ) → getD log k noEnvelope .len ≤ 192
-
--- a cluster as every line leaves it
-pub record Sound (c : Cluster) (bodies : List ℕ) : Type 0 where
-  pub few : c .count ≤ 4
-  pub four : length (c .members) ≡ 4
-  pub slots : length (c .log) ≡ 256
-  pub short : c .sent ≤ 256
-  pub sized : Sized (c .log)
-  pub space : length bodies ≡ 49152
-
--- what a line of the script must come to: the group after it, and the bytes that it prints
-pub record TurnIs (c : Cluster) (g′ : Group) (text : List ℕ) (at : ℕ) (out : List ℕ) (r : Turned) (bodies′ out′ : List ℕ) : Type 0 where
-  pub group : groupOf (r .cluster) bodies′ ≡ g′
-  pub count : r .cluster .count ≡ c .count
-  pub sound : Sound (r .cluster) bodies′
-  pub put : Put text at out (r .at) out′
-  pub brief : length text ≤ 25
+-- what a line of the script must come to at its member: the replica and the log after it, and the bytes that it prints
+pub record DoneIs (m : Member) (heads bodies : List ℕ) (sent : ℕ) (x : Result) (at : ℕ) (out : List ℕ) (d : Done) (heads′ bodies′ out′ : List ℕ) : Type 0 where
+  pub node : nodeOf (d .member) ≡ nodeBy sent x (nodeOf m)
+  pub log : logOf heads′ bodies′ (d .sent) ≡ logBy sent x (logOf heads bodies sent)
+  pub stored : Stored heads′ bodies′ (d .sent)
+  pub put : Put (reply sent x) at out (d .at) out′
+  pub brief : length (reply sent x) ≤ 25

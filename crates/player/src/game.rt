@@ -4,7 +4,7 @@ ghost use Prim.Native.Nat.{_+_, _*_, _≤_, _<_};
 ghost use lib.ListN.{length, drop};
 ghost use Rattle.script.specs.Text.{lines};
 ghost use Rattle.player.specs.Print.{Put};
-ghost use Rattle.player.specs.Play.{freshGroup, prints, printed, answerOf, outputOf};
+ghost use Rattle.player.specs.Play.{freshGroup, prints, answerOf, outputOf};
 use crate::cluster::Cluster;
 use crate::print;
 use crate::turn;
@@ -23,16 +23,30 @@ pub enum Played {
     Refused,
 }
 
-// Room for the bodies of the log.
-fn space() -> [u8; 49152]
+// Room for the words of the log.
+fn head_space() -> [u32; 1536]
+    ensures { λ r. ⌜ 1536 ≡ length r ⌝ }
+{
+    [0; 1536]
+}
+
+// Room for its bodies.
+fn body_space() -> [u8; 49152]
     ensures { λ r. ⌜ 49152 ≡ length r ⌝ }
 {
     [0; 49152]
 }
 
 // The lines from index `from` on, played by a group of this many that has just started.
-fn play_lines(count: usize, input: &[u8], from: usize, bodies: &mut [u8], out: &mut [u8]) -> usize
-    requires { ⌜ (count < 5) × (length (now input) ≤ 65536) × (length (now bodies) ≡ 49152) × (25 * length (now input) ≤ length (now out)) ⌝ }
+fn play_lines(
+    count: usize,
+    input: &[u8],
+    from: usize,
+    heads: &mut [u32],
+    bodies: &mut [u8],
+    out: &mut [u8],
+) -> usize
+    requires { ⌜ (count < 5) × (length (now input) ≤ 65536) × (length (now heads) ≡ 1536) × (length (now bodies) ≡ 49152) × (25 * length (now input) ≤ length (now out)) ⌝ }
     ensures { λ r. ⌜ Put (prints count (freshGroup count) (lines (drop from (now (input .entry))))) 0 (now (out .entry)) r (now (out .exit)) ⌝ }
 {
     let mut c = Cluster::fresh(count);
@@ -40,9 +54,15 @@ fn play_lines(count: usize, input: &[u8], from: usize, bodies: &mut [u8], out: &
     let mut at = 0;
     while pos < input.len() {
         let end = bytes::scan::find(input, pos, input.len(), LINE_FEED);
-        let t = turn::turn(c, &input[pos..end], bodies, out, at);
-        c = t.cluster;
-        at = t.at;
+        let line = &input[pos..end];
+        let asked = script::parse(line);
+        let who = turn::who(asked, c.count);
+        let m = c.members[who];
+        let d = turn::turn(m, c.count, asked, line, heads, bodies, c.sent, out, at);
+        let after = d.member;
+        c.members[who] = after;
+        c.sent = d.sent;
+        at = d.at;
         pos = end + 1;
     }
     at
@@ -64,7 +84,8 @@ pub fn play(input: &[u8], out: &mut [u8]) -> Played
         let to = print::put_unknown(out, 0);
         return Played::Printed(to);
     };
-    let mut bodies = space();
-    let to = play_lines(count, input, end + 1, &mut bodies, out);
+    let mut heads = head_space();
+    let mut bodies = body_space();
+    let to = play_lines(count, input, end + 1, &mut heads, &mut bodies, out);
     Played::Printed(to)
 }

@@ -1,6 +1,7 @@
 // The playing program as a library: what a script prints.
 mod cluster;
 mod game;
+mod log;
 mod print;
 mod turn;
 

@@ -1,4 +1,4 @@
-// One line of a script, played on the cluster.
+// One line of a script, played on a member of the cluster.
 ghost use mathlib.Core.Path.{_≡_};
 ghost use Prim.Native.Nat.{_+_, _≤_, _<_};
 ghost use lib.ListN.{length};
@@ -9,11 +9,12 @@ ghost use Rattle.hermes.specs.Node.{indexOf, apply, viewed};
 ghost use Rattle.hermes.specs.Run.{event, find, delivery, perform};
 ghost use Rattle.script.specs.Command.{textOf};
 ghost use Rattle.player.specs.Print.{Put, answerLine, unknownLine};
-ghost use Rattle.player.specs.Play.{reply, actionOf, turn, after};
-ghost use Rattle.player.specs.Cluster.{nodeOf, logOf, groupOf, resultOf, commit, placed, pushed, kept, envelopeOf, Sized, Sound, TurnIs};
-use crate::cluster::Cluster;
-use crate::cluster::Envelope;
+ghost use Rattle.player.specs.Play.{actionOf};
+ghost use Rattle.player.specs.Log.{logOf, kept, encode, envelopeOf, Fits, Stored};
+ghost use Rattle.player.specs.Cluster.{nodeOf, whoOf, lineResult, resultOf, DoneIs};
 use crate::cluster::Member;
+use crate::log;
+use crate::log::Envelope;
 use crate::print;
 use crate::print::Left;
 use hermes::Admission;
@@ -34,9 +35,10 @@ pub struct Judged {
     pub member: Member,
 }
 
-// The cluster after a line, and the index in the output after what the line printed.
-pub struct Turned {
-    pub cluster: Cluster,
+// The member after a line, how many messages have left, and the index in the output after what it printed.
+pub struct Done {
+    pub member: Member,
+    pub sent: usize,
     pub at: usize,
 }
 
@@ -62,9 +64,9 @@ fn apply(m: Member, e: Event, value: &[u8]) -> Judged
 }
 
 // Message k is delivered.
-fn deliver(m: Member, log: [Envelope; 256], sent: usize, k: usize, bodies: &[u8]) -> Judged
-    requires { ⌜ (sent ≤ 256) × (Sized log) × (length (now bodies) ≡ 49152) ⌝ }
-    ensures { λ j. ⌜ (resultOf j ≡ delivery higher (find (logOf log (now (bodies .entry)) sent) k) (nodeOf m)) × (indexOf (sentBy (j .answer)) ≡ 0) ⌝ }
+fn deliver(m: Member, heads: &[u32], bodies: &[u8], sent: usize, k: usize) -> Judged
+    requires { ⌜ Stored (now heads) (now bodies) sent ⌝ }
+    ensures { λ j. ⌜ (resultOf j ≡ delivery higher (find (logOf (now (heads .entry)) (now (bodies .entry)) sent) k) (nodeOf m)) × (indexOf (sentBy (j .answer)) ≡ 0) ⌝ }
 {
     if sent <= k {
         return Judged {
@@ -73,10 +75,10 @@ fn deliver(m: Member, log: [Envelope; 256], sent: usize, k: usize, bodies: &[u8]
             member: m,
         };
     }
-    let e = log[k];
+    let e = log::envelope_at(heads, k);
     let message = e.message;
     let at = Record::VALUE_MAX * k;
-    let end = at + e.len;
+    let end = at + e.len as usize;
     let received = Received {
         sender: e.sender,
         epoch: e.epoch,
@@ -111,20 +113,24 @@ fn view(m: Member, epoch: u32, set: u16) -> Judged
     }
 }
 
-// What a command comes to at a member of the cluster.
-fn perform(c: Cluster, m: Member, what: Command, line: &[u8], bodies: &[u8]) -> Judged
-    requires { ⌜ Sound c (now bodies) ⌝ }
-    ensures { λ j. ⌜ (resultOf j ≡ perform higher (actionOf what (textOf (now (line .entry)))) (logOf (c .log) (now (bodies .entry)) (c .sent)) (nodeOf m))
+// What a command comes to at a member.
+fn perform(
+    m: Member,
+    what: Command,
+    line: &[u8],
+    heads: &[u32],
+    bodies: &[u8],
+    sent: usize,
+) -> Judged
+    requires { ⌜ Stored (now heads) (now bodies) sent ⌝ }
+    ensures { λ j. ⌜ (resultOf j ≡ perform higher (actionOf what (textOf (now (line .entry)))) (logOf (now (heads .entry)) (now (bodies .entry)) sent) (nodeOf m))
         × (indexOf (sentBy (j .answer)) ≡ 0) ⌝ }
 {
     match what {
         Command::Read => apply(m, Event::Read, &line[..0]),
         Command::Write => apply(m, Event::Write, script::text(line)),
         Command::Replay => apply(m, Event::Replay, &line[..0]),
-        Command::Deliver(k) => {
-            let log = c.log;
-            deliver(m, log, c.sent, k, bodies)
-        }
+        Command::Deliver(k) => deliver(m, heads, bodies, sent, k),
         Command::Validate => apply(m, Event::Validate, &line[..0]),
         Command::Resend => apply(m, Event::Resend, &line[..0]),
         Command::View(epoch, set) => view(m, epoch, set),
@@ -167,7 +173,7 @@ fn copy(body: &[u8], bodies: &mut [u8], at: usize)
 fn keep(m: Member, o: Outgoing, bodies: &mut [u8], n: usize) -> usize
     requires { ⌜ (n < 256) × (length (now bodies) ≡ 49152) ⌝ }
     ensures { λ r. ⌜ (r ≡ length (leavingBody o (m .held) (m .store))) × (r ≤ 192)
-        × (now (bodies .exit) ≡ kept (now (bodies .entry)) n (leavingBody o (m .held) (m .store))) ⌝ }
+        × (now (bodies .exit) ≡ kept 192 (now (bodies .entry)) n (leavingBody o (m .held) (m .store))) ⌝ }
 {
     let held = m.held;
     let store = m.store;
@@ -176,110 +182,138 @@ fn keep(m: Member, o: Outgoing, bodies: &mut [u8], n: usize) -> usize
     body.len()
 }
 
-// The line `?`: nothing moves.
-fn unknown(c: Cluster, out: &mut [u8], at: usize) -> Turned
+// A line that does nothing prints `?`.
+fn skip(m: Member, sent: usize, out: &mut [u8], at: usize) -> Done
     requires { ⌜ at + 25 ≤ length (now out) ⌝ }
-    ensures { λ r. ⌜ (r .cluster ≡ c) × (Put unknownLine at (now (out .entry)) (r .at) (now (out .exit))) ⌝ }
+    ensures { λ d. ⌜ (d .member ≡ m) × (d .sent ≡ sent) × (Put unknownLine at (now (out .entry)) (d .at) (now (out .exit))) ⌝ }
 {
     let to = print::put_unknown(out, at);
-    Turned { cluster: c, at: to }
+    Done {
+        member: m,
+        sent: sent,
+        at: to,
+    }
 }
 
-// An event that sends nothing: the member is put back.
-fn settle(c: Cluster, who: usize, j: Judged, out: &mut [u8], at: usize) -> Turned
-    requires { ⌜ (who < 4) × (at + 25 ≤ length (now out)) ⌝ }
-    ensures { λ r. ⌜ (r .cluster ≡ placed c who (j .member))
-        × (Put (answerLine (numberOf (j .answer)) (j .member .held) Left.Nothing) at (now (out .entry)) (r .at) (now (out .exit)))
+// An event that sends nothing.
+fn settle(j: Judged, sent: usize, out: &mut [u8], at: usize) -> Done
+    requires { ⌜ at + 25 ≤ length (now out) ⌝ }
+    ensures { λ d. ⌜ (d .member ≡ j .member) × (d .sent ≡ sent)
+        × (Put (answerLine (numberOf (j .answer)) (j .member .held) Left.Nothing) at (now (out .entry)) (d .at) (now (out .exit)))
         × (length (answerLine (numberOf (j .answer)) (j .member .held) Left.Nothing) ≤ 25) ⌝ }
 {
     let answer = j.answer;
     let member = j.member;
     let held = member.held;
     let to = print::put_answer(number_of(answer), held, Left::Nothing, out, at);
-    Turned {
-        cluster: c.place(who, member),
+    Done {
+        member: member,
+        sent: sent,
         at: to,
     }
 }
 
-// An event that sends a message, for which the log has room.
+// An event that sends message n, for which the log has room.
 fn log_message(
-    c: Cluster,
-    who: usize,
     j: Judged,
     message: Message,
     header: Header,
+    heads: &mut [u32],
     bodies: &mut [u8],
+    n: usize,
     out: &mut [u8],
     at: usize,
-) -> Turned
-    requires { ⌜ (who < 4) × (c .sent < 256) × (length (now bodies) ≡ 49152) × (at + 25 ≤ length (now out)) ⌝ }
-    ensures { λ r. ⌜ (r .cluster ≡ pushed (placed c who (j .member)) (envelopeOf message header (leavingBody (Outgoing.Sent message header) (j .member .held) (j .member .store))))
-        × (now (bodies .exit) ≡ kept (now (bodies .entry)) (c .sent) (leavingBody (Outgoing.Sent message header) (j .member .held) (j .member .store)))
+) -> Done
+    requires { ⌜ (n < 256) × (length (now heads) ≡ 1536) × (length (now bodies) ≡ 49152) × (at + 25 ≤ length (now out)) ⌝ }
+    ensures { λ d. ⌜ (d .member ≡ j .member) × (d .sent ≡ n + 1)
+        × (now (heads .exit) ≡ kept 6 (now (heads .entry)) n (encode (envelopeOf message header (leavingBody (Outgoing.Sent message header) (j .member .held) (j .member .store)))))
+        × (Fits (envelopeOf message header (leavingBody (Outgoing.Sent message header) (j .member .held) (j .member .store))))
+        × (now (bodies .exit) ≡ kept 192 (now (bodies .entry)) n (leavingBody (Outgoing.Sent message header) (j .member .held) (j .member .store)))
         × (length (leavingBody (Outgoing.Sent message header) (j .member .held) (j .member .store)) ≤ 192)
-        × (Put (answerLine (numberOf (j .answer)) (j .member .held) (Left.Message (c .sent))) at (now (out .entry)) (r .at) (now (out .exit)))
-        × (length (answerLine (numberOf (j .answer)) (j .member .held) (Left.Message (c .sent))) ≤ 25) ⌝ }
+        × (Put (answerLine (numberOf (j .answer)) (j .member .held) (Left.Message n)) at (now (out .entry)) (d .at) (now (out .exit)))
+        × (length (answerLine (numberOf (j .answer)) (j .member .held) (Left.Message n)) ≤ 25) ⌝ }
 {
     let answer = j.answer;
     let member = j.member;
     let held = member.held;
-    let n = c.sent;
     let len = keep(member, Outgoing::Sent(message, header), bodies, n);
-    let to = print::put_answer(number_of(answer), held, Left::Message(n as u32), out, at);
     let e = Envelope {
         sender: header.sender,
         epoch: header.epoch,
         message: message,
-        len: len,
+        len: len as u32,
     };
-    Turned {
-        cluster: c.place(who, member).push(e),
+    log::put_envelope(heads, n, e);
+    let to = print::put_answer(number_of(answer), held, Left::Message(n as u32), out, at);
+    Done {
+        member: member,
+        sent: n + 1,
         at: to,
     }
 }
 
-// What an entry came to is printed and, if the log has room for what leaves, done.
+// What an entry of this member came to is printed and, if the log has room for what leaves, done.
 fn conclude(
-    c: Cluster,
-    who: usize,
+    m: Member,
     j: Judged,
+    heads: &mut [u32],
     bodies: &mut [u8],
+    sent: usize,
     out: &mut [u8],
     at: usize,
-) -> Turned
-    requires { ⌜ (who < 4) × (Sound c (now bodies)) × (indexOf (sentBy (j .answer)) ≡ 0) × (at + 25 ≤ length (now out)) ⌝ }
-    ensures { λ r. ⌜ TurnIs c (commit (groupOf c (now (bodies .entry))) who (resultOf j)) (reply (c .sent) (resultOf j)) at (now (out .entry)) r (now (bodies .exit)) (now (out .exit)) ⌝ }
+) -> Done
+    requires { ⌜ (Stored (now heads) (now bodies) sent) × (indexOf (sentBy (j .answer)) ≡ 0) × (at + 25 ≤ length (now out)) ⌝ }
+    ensures { λ d. ⌜ DoneIs m (now (heads .entry)) (now (bodies .entry)) sent (resultOf j) at (now (out .entry)) d (now (heads .exit)) (now (bodies .exit)) (now (out .exit)) ⌝ }
 {
     if !j.known {
-        return unknown(c, out, at);
+        return skip(m, sent, out, at);
     }
     let answer = j.answer;
-    let sent = sent_by(answer);
-    match sent {
-        Outgoing::None => settle(c, who, j, out, at),
+    let leaving = sent_by(answer);
+    match leaving {
+        Outgoing::None => settle(j, sent, out, at),
         Outgoing::Sent(message, header) => {
-            if 256 <= c.sent {
-                return unknown(c, out, at);
+            if 256 <= sent {
+                return skip(m, sent, out, at);
             }
-            log_message(c, who, j, message, header, bodies, out, at)
+            log_message(j, message, header, heads, bodies, sent, out, at)
         }
     }
 }
 
-// One line.
-pub(crate) fn turn(c: Cluster, line: &[u8], bodies: &mut [u8], out: &mut [u8], at: usize) -> Turned
-    requires { ⌜ (Sound c (now bodies)) × (at + 25 ≤ length (now out)) ⌝ }
-    ensures { λ r. ⌜ TurnIs c (after (c .count) (groupOf c (now (bodies .entry))) (now (line .entry)))
-        (turn (c .count) (groupOf c (now (bodies .entry))) (now (line .entry)) .text) at (now (out .entry)) r (now (bodies .exit)) (now (out .exit)) ⌝ }
+// The member that a line is about, of the first `count`.
+pub(crate) fn who(asked: Line, count: usize) -> usize
+    requires { ⌜ count ≤ 4 ⌝ }
+    ensures { λ k. ⌜ (k ≡ whoOf count asked) × (k < 4) ⌝ }
 {
-    let asked = script::parse(line);
-    let Line::Entry(who, what) = asked else {
-        return unknown(c, out, at);
-    };
-    if c.count <= who {
-        return unknown(c, out, at);
+    match asked {
+        Line::Entry(k, _) => { if k < count { k } else { 0 } }
+        Line::Unknown => 0,
     }
-    let m = c.members[who];
-    let j = perform(c, m, what, line, bodies);
-    conclude(c, who, j, bodies, out, at)
+}
+
+// One line, as it was read, at its member.
+pub(crate) fn turn(
+    m: Member,
+    count: usize,
+    asked: Line,
+    line: &[u8],
+    heads: &mut [u32],
+    bodies: &mut [u8],
+    sent: usize,
+    out: &mut [u8],
+    at: usize,
+) -> Done
+    requires { ⌜ (Stored (now heads) (now bodies) sent) × (at + 25 ≤ length (now out)) ⌝ }
+    ensures { λ d. ⌜ DoneIs m (now (heads .entry)) (now (bodies .entry)) sent (lineResult count (now (line .entry)) asked (logOf (now (heads .entry)) (now (bodies .entry)) sent) (nodeOf m))
+        at (now (out .entry)) d (now (heads .exit)) (now (bodies .exit)) (now (out .exit)) ⌝ }
+{
+    let Line::Entry(k, what) = asked else {
+        return skip(m, sent, out, at);
+    };
+    if count <= k {
+        return skip(m, sent, out, at);
+    }
+    let j = perform(m, what, line, heads, bodies, sent);
+    conclude(m, j, heads, bodies, sent, out, at)
 }

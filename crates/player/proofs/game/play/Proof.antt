@@ -6,11 +6,11 @@ use Rattle.player.specs.Print.{unknownLine}
 use Rattle.script.proofs.Words.{size-few}
 use Rattle.script.specs.Text.{lines}
 use Rattle.script.specs.declared.line.Size.{Size}
-use borrow.Author.Needs.{needs}
 use lib.ListN.{drop}
 use lib.Seq.{length-take-le}
 use mathlib.Core.Path.{_∙_, ap, sym}
 use native.Mathlib.Omega.{arith}
+use borrow.Author.Needs.{needs}
 use Rattle.player.proofs.game.play.Statement.{statement}
 use Rattle.player.proofs.game.play.Tie as tie
 
@@ -48,10 +48,18 @@ same-length : tie.Need-same-length
 same-length c = search needs
 
 returns-3 : tie.Need-returns-3
-returns-3 c = all-played (c .before .before .before .before .before .before .before .before .before .before .before .before .before .args .input .now) (c .before .before .before .before .before .before .before .before .before .before .before .before .before .args .out .now) (c .before .before .before .before .before .before .before .before .before .before .if1 .left) (c .before .before .before .before .before .before .before .before .before .if2 .left) unknownLine _ _ (first-line (c .before .before .before .before .before .before .before .before .before .before .before .before .before .args .input .now) (c .before .before .before .before .before .before .before .before .find .result) (c .before .before .before .before .before .before .before .before .find .ensures .0) ∙ ap (λ (z : Size). begun z (lines (drop (c .before .before .before .before .before .before .before .before .find .result + 1) (c .before .before .before .before .before .before .before .before .before .before .before .before .before .args .input .now)))) (sym (c .before .before .before .before .before .before .group-size .ensures) ∙ c .before .before .before .before .enum-told .given .1)) (c .before .before .put-unknown .ensures)
+returns-3 c =
+    let v = c .before .before .before .before .before .before .before .before .before .before .before .before .before .args in
+    all-played (v .input .now) (v .out .now) (c .before .before .before .before .before .before .before .before .before .before .if1 .left) (c .before .before .before .before .before .before .before .before .before .if2 .left) unknownLine _ _
+    (first-line (v .input .now) (c .before .before .before .before .before .before .before .before .find .result) (c .before .before .before .before .before .before .before .before .find .ensures .0)
+    ∙ ap (λ (z : Size). begun z (lines (drop (c .before .before .before .before .before .before .before .before .find .result + 1) (v .input .now)))) (sym (c .before .before .before .before .before .before .group-size .ensures) ∙ c .before .before .before .before .enum-told .given .1))
+    (c .before .before .put-unknown .ensures)
 
-space-requires : tie.Need-space-requires
-space-requires c κs = search needs
+head-space-requires : tie.Need-head-space-requires
+head-space-requires c κs = search needs
+
+body-space-requires : tie.Need-body-space-requires
+body-space-requires c κs = search needs
 
 add-play-lines : tie.Need-add-play-lines
 add-play-lines c = search needs
@@ -59,14 +67,22 @@ add-play-lines c = search needs
 slice-aggregate-play-lines : tie.Need-slice-aggregate-play-lines
 slice-aggregate-play-lines c = search needs
 
+slice-aggregate-play-lines-2 : tie.Need-slice-aggregate-play-lines-2
+slice-aggregate-play-lines-2 c = search needs
+
 play-lines-requires : tie.Need-play-lines-requires
-play-lines-requires c κs = (size-few _ _ (sym (c .before .before .before .before .before .before .group-size .ensures) ∙ c .before .before .before .before .size .given .1), c .before .before .before .before .before .before .before .before .before .before .if1 .left, sym (c .before .before .space .ensures), omega (arith, c .before .before .before .before .before .before .before .before .before .if2 .left))
+play-lines-requires c κs = (size-few _ _ (sym (c .before .before .before .before .before .before .before .before .group-size .ensures) ∙ c .before .before .before .before .before .before .size .given .1), c .before .before .before .before .before .before .before .before .before .before .before .before .if1 .left, sym (c .before .before .before .before .head-space .ensures), sym (c .before .before .before .body-space .ensures), omega (arith, c .before .before .before .before .before .before .before .before .before .before .before .if2 .left))
 
 same-length-2 : tie.Need-same-length-2
 same-length-2 c = search needs
 
 returns-4 : tie.Need-returns-4
-returns-4 c = all-played (c .before .before .before .before .before .before .before .before .before .before .before .before .before .before .before .before .before .args .input .now) (c .before .before .before .before .before .before .before .before .before .before .before .before .before .before .before .before .before .args .out .now) (c .before .before .before .before .before .before .before .before .before .before .before .before .before .before .if1 .left) (c .before .before .before .before .before .before .before .before .before .before .before .before .before .if2 .left) _ _ _ (first-line (c .before .before .before .before .before .before .before .before .before .before .before .before .before .before .before .before .before .args .input .now) (c .before .before .before .before .before .before .before .before .before .before .before .before .find .result) (c .before .before .before .before .before .before .before .before .before .before .before .before .find .ensures .0) ∙ ap (λ (z : Size). begun z (lines (drop (c .before .before .before .before .before .before .before .before .before .before .before .before .find .result + 1) (c .before .before .before .before .before .before .before .before .before .before .before .before .before .before .before .before .before .args .input .now)))) (sym (c .before .before .before .before .before .before .before .before .before .before .group-size .ensures) ∙ c .before .before .before .before .before .before .before .before .size .given .1)) (c .before .before .before .play-lines .ensures)
+returns-4 c =
+    let v = c .before .before .before .before .before .before .before .before .before .before .before .before .before .before .before .before .before .before .before .before .args in
+    all-played (v .input .now) (v .out .now) (c .before .before .before .before .before .before .before .before .before .before .before .before .before .before .before .before .before .if1 .left) (c .before .before .before .before .before .before .before .before .before .before .before .before .before .before .before .before .if2 .left) _ _ _
+    (first-line (v .input .now) (c .before .before .before .before .before .before .before .before .before .before .before .before .before .before .before .find .result) (c .before .before .before .before .before .before .before .before .before .before .before .before .before .before .before .find .ensures .0)
+    ∙ ap (λ (z : Size). begun z (lines (drop (c .before .before .before .before .before .before .before .before .before .before .before .before .before .before .before .find .result + 1) (v .input .now)))) (sym (c .before .before .before .before .before .before .before .before .before .before .before .before .before .group-size .ensures) ∙ c .before .before .before .before .before .before .before .before .before .before .before .size .given .1))
+    (c .before .before .before .before .play-lines .ensures)
 
 pub play-spec : {M : Type 1} → statement M
 play-spec =
@@ -84,9 +100,11 @@ play-spec =
     put-unknown-requires
     same-length
     returns-3
-    space-requires
+    head-space-requires
+    body-space-requires
     add-play-lines
     slice-aggregate-play-lines
+    slice-aggregate-play-lines-2
     play-lines-requires
     same-length-2
     returns-4)

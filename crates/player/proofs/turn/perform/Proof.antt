@@ -5,9 +5,9 @@ use Rattle.hermes.specs.Node.{apply}
 use Rattle.hermes.specs.Order.{higher}
 use Rattle.hermes.specs.Run.{event}
 use Rattle.player.specs.Cluster.{nodeOf}
-use borrow.Author.Needs.{needs}
 use mathlib.Core.List.{List}
 use mathlib.Core.Path.{_∙_, ap}
+use borrow.Author.Needs.{needs}
 use Rattle.player.proofs.turn.perform.Statement.{statement}
 use Rattle.player.proofs.turn.perform.Tie as tie
 
@@ -72,13 +72,13 @@ returns : tie.Need-returns
 returns c = (rw (c .before .before .enum-told .given .1) (c .apply .ensures .0), c .apply .ensures .1)
 
 returns-2 : tie.Need-returns-2
-returns-2 c = (rw (c .before .before .enum-told2 .given .1) (c .apply2 .ensures .0 ∙ ap (λ (v : List ℕ). event (apply higher (nodeOf (c .before .before .before .before .before .before .args .m)) 0 Write v)) (c .before .text .ensures)), c .apply2 .ensures .1)
+returns-2 c = (rw (c .before .before .enum-told2 .given .1) (c .apply2 .ensures .0 ∙ ap (λ (v : List ℕ). event (apply higher (nodeOf (c .before .before .before .before .before .before .before .args .m)) 0 Write v)) (c .before .text .ensures)), c .apply2 .ensures .1)
 
 returns-3 : tie.Need-returns-3
 returns-3 c = (rw (c .before .before .enum-told3 .given .1) (c .apply3 .ensures .0), c .apply3 .ensures .1)
 
 returns-4 : tie.Need-returns-4
-returns-4 c = (rw (c .before .before .before .what .given .1) (c .deliver .ensures .0), c .deliver .ensures .1)
+returns-4 c = (rw (c .before .before .what .given .1) (c .deliver .ensures .0), c .deliver .ensures .1)
 
 returns-5 : tie.Need-returns-5
 returns-5 c = (rw (c .before .before .enum-told4 .given .1) (c .apply4 .ensures .0), c .apply4 .ensures .1)

@@ -1,6 +1,6 @@
 -- `player::turn::settle` meets its contract.
+use mathlib.Core.Path.{refl}
 use borrow.Author.Needs.{needs}
-use native.Mathlib.Omega.{arith}
 use Rattle.player.proofs.turn.settle.Statement.{statement}
 use Rattle.player.proofs.turn.settle.Tie as tie
 
@@ -8,17 +8,13 @@ number-of-requires : tie.Need-number-of-requires
 number-of-requires c κs = search needs
 
 put-answer-requires : tie.Need-put-answer-requires
-put-answer-requires c κs = (c .before .before .before .before .before .pre .1, omega arith)
-
-place-requires : tie.Need-place-requires
-place-requires c κs = search needs
+put-answer-requires c κs = search needs
 
 same-length : tie.Need-same-length
 same-length c = search needs
 
 returns : tie.Need-returns
-returns c = (c .place .ensures, rw (c .before .before .before .before .before .number-of .ensures) at (c .before .before .before .put-answer .ensures .0), rw (c .before .before .before .before .before .number-of .ensures) at (c .before .before .before .put-answer .ensures .1))
+returns c = (refl, refl, rw (c .before .before .before .before .number-of .ensures) at (c .before .before .put-answer .ensures .0), rw (c .before .before .before .before .number-of .ensures) at (c .before .before .put-answer .ensures .1))
 
 pub settle-spec : {M : Type 1} → statement M
-settle-spec =
-    tie.close (tie.spec number-of-requires put-answer-requires place-requires same-length returns)
+settle-spec = tie.close (tie.spec number-of-requires put-answer-requires same-length returns)
