@@ -21,7 +21,7 @@ use Rattle.hermes.specs.declared.event.Replica.{Replica}
 use Rattle.hermes.specs.declared.event.Event.{Event}
 use Rattle.hermes.specs.declared.event.Event.the-variants.{Read, Write, Replay, Deliver, Validate, Resend}
 use Rattle.hermes.specs.declared.event.Admission.the-variants.{Admitted}
-use Rattle.hermes.specs.Members.{has, with, lowest}
+use Rattle.hermes.specs.Members.{has, lowest}
 use Rattle.hermes.specs.Order.{higher, later, sameTimestamp}
 use Rattle.hermes.specs.Record.{oneOf, invalidatedState, freshRecord}
 use Rattle.hermes.specs.Store.{slot}

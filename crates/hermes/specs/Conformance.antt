@@ -50,6 +50,7 @@ elevenOf n sender (Val t) more = ask 11 (has (n .me .view) sender && not (eqb se
 abbrev pub delivered : Node → ℕ → Received → List ℕ → List Question
 delivered n i m v = fiveAnd n i (elevenOf n (m .sender) (m .message) (question12 m (length v) ∷ []))
 
+-- 01, Deliver: a message with its sender and epoch
 abbrev pub message : ℕ → ℕ → Message → Received
 message sender epoch m = record { sender = sender; epoch = epoch; message = m }
 
