@@ -15,7 +15,7 @@ use Rattle.hermes.specs.declared.event.Replica.{Replica}
 use Rattle.hermes.specs.declared.event.Event.the-variants.{Validate}
 use Rattle.hermes.specs.Members.{lowest}
 use Rattle.hermes.specs.Order.{TieOrder, higher, NotAfter}
-use Rattle.hermes.specs.Record.{oneOf, freshRecord, validated}
+use Rattle.hermes.specs.Record.{oneOf, freshRecord}
 use Rattle.hermes.specs.Store.{slot, padded}
 use Rattle.hermes.specs.Event.{numberOf}
 use Rattle.hermes.specs.Node.{Node, Outcome, recordOf, apply, newcomer}

@@ -21,13 +21,13 @@ use Rattle.hermes.specs.declared.event.Replica.{Replica}
 use Rattle.hermes.specs.declared.event.Event.{Event}
 use Rattle.hermes.specs.declared.event.Event.the-variants.{Read, Write, Replay, Deliver, Validate, Resend}
 use Rattle.hermes.specs.declared.event.Admission.the-variants.{Admitted}
-use Rattle.hermes.specs.Members.{has, with, lowest}
+use Rattle.hermes.specs.Members.{has, lowest}
 use Rattle.hermes.specs.Order.{higher, later, sameTimestamp}
 use Rattle.hermes.specs.Record.{oneOf, invalidatedState, freshRecord}
 use Rattle.hermes.specs.Store.{slot}
 use Rattle.hermes.specs.Guards.{Question, AllYes, ask, firstNo, question1, question3, question8, question12}
-use Rattle.hermes.specs.Event.{Step, invStep, resent, numberOf, answerOf, sentBy, leavingBody}
-use Rattle.hermes.specs.Node.{Node, Outcome, recordOf, apply, newcomer, startQuestions, start, view, viewed, viewQuestions, admissionOf, admissionNumber}
+use Rattle.hermes.specs.Event.{Step, invStep, resent, numberOf, answerOf, sentBy}
+use Rattle.hermes.specs.Node.{Node, Outcome, recordOf, leaving, apply, newcomer, startQuestions, start, view, viewed, viewQuestions, admissionOf, admissionNumber}
 use Rattle.hermes.specs.Frame.{bytesAfter, Changed}
 use Rattle.hermes.specs.Locality.{body}
 use Rattle.hermes.specs.Source as source
@@ -75,7 +75,7 @@ module _ (wins : ℕ → ℕ → Bool) (n : Node) (i : ℕ) (e : Event) (v : Lis
   -- the step as the source sees it is what the event left
   acted : (action : Vars → Vars → Sending → Type 0) → AllYes (questionsOf n i e v) → Changed i s n (done n i s)
       → action (seen (recordOf i n) (slot i (n .store))) (stepVars s (slot i (n .store))) (stepSends s (slot i (n .store)))
-      → action (varsOf i n) (varsOf i (done n i s)) (record { message = s .sent; body = leavingBody (s .sent) (recordOf i (done n i s)) (done n i s .store) })
+      → action (varsOf i n) (varsOf i (done n i s)) (record { message = s .sent; body = leaving (s .sent) (done n i s .table) (done n i s .store) })
   acted action y c h = subst₃ action (sym (vars-seen i n short)) (sym after) (sym sent) h
     where
       short : recordOf i n .len ≤ 192
@@ -87,8 +87,8 @@ module _ (wins : ℕ → ℕ → Bool) (n : Node) (i : ℕ) (e : Event) (v : Lis
       after : varsOf i (done n i s) ≡ stepVars s (slot i (n .store))
       after = vars-seen i (done n i s) short′ ∙ (λ t. seen (c .here t) (c .bytes t))
 
-      sent : record { message = s .sent; body = leavingBody (s .sent) (recordOf i (done n i s)) (done n i s .store) } ≡ stepSends s (slot i (n .store))
-      sent = (λ t. record { message = s .sent; body = leaving-slot i (s .sent) (step-about wins (n .me) i (recordOf i n) e v) (recordOf i (done n i s)) (done n i s .store) short′ t })
+      sent : record { message = s .sent; body = leaving (s .sent) (done n i s .table) (done n i s .store) } ≡ stepSends s (slot i (n .store))
+      sent = (λ t. record { message = s .sent; body = leaving-slot i (s .sent) (step-about wins (n .me) i (recordOf i n) e v) (done n i s) short′ t })
           ∙ (λ t. record { message = s .sent; body = leavingSlot (s .sent) (c .here t) (c .bytes t) })
 
   follows : (own : List Question) (guard : Vars → Type 0) (action : Vars → Vars → Sending → Type 0)
@@ -104,7 +104,7 @@ module _ (wins : ℕ → ℕ → Bool) (n : Node) (i : ℕ) (e : Event) (v : Lis
       exactly o (refused k z q) = (λ a. absurd (omega (arith, ap number q)), λ g. absurd (omega (arith, z, passed-zero n i e v (from g))))
       exactly o (accepted y c q) = (λ a. to y, λ g. ap number q)
 
-      does : (o : Outcome) → Applied wins n i e v o → numberOf (o .answer) ≡ 0 → action (varsOf i n) (varsOf i (o .node)) (record { message = sentBy (o .answer); body = body i o })
+      does : (o : Outcome) → Applied wins n i e v o → numberOf (o .answer) ≡ 0 → action (varsOf i n) (varsOf i (o .node)) (record { message = sentBy (o .answer); body = body o })
       does o (refused k z q) a = absurd (omega (arith, ap number q))
       does o (accepted y c q) a = rw q (acted action y c (act y))
 

@@ -9,8 +9,7 @@ use lib.Seq.{drop-length}
 use Rattle.hermes.specs.declared.record.Record.{Record}
 use Rattle.hermes.specs.declared.event.Replica.{Replica}
 use Rattle.hermes.specs.declared.event.Admission.the-variants.{Refused}
-use Rattle.hermes.specs.Guards.{firstNo}
-use Rattle.hermes.specs.Node.{newcomer, startQuestions, admissionOf, admit, begin, start}
+use Rattle.hermes.specs.Node.{newcomer, admissionOf, startRefusal, admit, begin, start}
 
 -- the first i of a list are r, and the others are as they were
 module _ {A : Type 0} where
@@ -31,7 +30,7 @@ begins-admission (suc k) me table store = refl
 
 module _ (number view : ℕ) (table : List Record) (store : List ℕ) where
   abbrev no : ℕ
-  no = firstNo (startQuestions (newcomer number view) (length table) (length store))
+  no = startRefusal number view (length table) (length store)
 
   pub start-admission : admit number view (length table) (length store) ≡ start number view table store .admission
   unfolding start

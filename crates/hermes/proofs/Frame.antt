@@ -4,17 +4,16 @@ use mathlib.Core.Path.{_≡_, refl, ap}
 use mathlib.Core.Bool.{Bool}
 use mathlib.Core.List.{List}
 use native.Mathlib.Omega.{arith}
-use lib.ListN.{length}
 use Rattle.hermes.specs.declared.event.Event.{Event}
 use Rattle.hermes.specs.declared.event.Replica.{Replica}
-use Rattle.hermes.specs.declared.event.Admission.the-variants as admission
 use Rattle.hermes.specs.declared.record.Record.{Record}
 use Rattle.hermes.specs.declared.message.Outgoing.the-variants.{None}
-use Rattle.hermes.specs.Guards.{Question, firstNo}
+use Rattle.hermes.specs.Guards.{firstNo}
 use Rattle.hermes.specs.Event.{numberOf, answerOf}
-use Rattle.hermes.specs.Node.{Node, Outcome, apply, view, viewed, viewQuestions, admissionOf, admissionNumber, identity, newcomer, startQuestions, begin, start}
+use Rattle.hermes.specs.Node.{Node, Outcome, apply, view, viewed, viewQuestions, admissionOf, admissionNumber, identity}
 use Rattle.hermes.specs.Frame.{Changed, EventFrame, ViewFrame, StartFrame}
 use Rattle.hermes.proofs.Start.{Begun, begun}
+use Rattle.hermes.proofs.Filling.{start-refused}
 use Rattle.hermes.proofs.Apply.{stepOf, Applied, refused, accepted, applied}
 
 pub event-frame : (wins : ℕ → ℕ → Bool) (n : Node) (i : ℕ) (e : Event) (v : List ℕ) → EventFrame wins n i e v
@@ -53,13 +52,5 @@ view-frame n epoch next = record { accepted = yes-case (firstNo (viewQuestions (
 pub start-frame : (k view : ℕ) (table : List Record) (store : List ℕ) → StartFrame k view table store
 start-frame k view table store = record {
   accepted = λ me a. let b : Begun k view table store me = begun k view table store me a in (b .identity, b .tableAfter, b .storeAfter);
-  refused = λ number r. unfold start in no-case (firstNo questions) number (unfold start in r);
+  refused = start-refused k view table store;
 }
-  where
-    questions : List Question
-    questions = startQuestions (newcomer k view) (length table) (length store)
-
-    no-case : (z number : ℕ) → begin z (newcomer k view) table store .admission ≡ admission.Refused number
-        → (begin z (newcomer k view) table store .table ≡ table) × (begin z (newcomer k view) table store .store ≡ store)
-    no-case zero number r = let q : _≡_ {A = ℕ} 0 1 = cc in absurd (omega arith)
-    no-case (suc z) number r = (refl, refl)

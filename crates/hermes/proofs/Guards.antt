@@ -6,7 +6,7 @@ use mathlib.Core.List.{List, [], _∷_}
 use mathlib.Core.Logic.{_⊎_, inl, inr}
 use native.Mathlib.Omega.{arith}
 use lib.Dec.{ltb, leb, eqb}
-use borrow.Author.Tests.{ltb-true, leb-true, eqb-true}
+use borrow.Author.Tests.{ltb-true, leb-true, eqb-true, not-true}
 use Rattle.hermes.specs.declared.timestamp.Timestamp.{Timestamp}
 use Rattle.hermes.specs.declared.record.Record.{Record}
 use Rattle.hermes.specs.declared.record.State.the-variants as state
@@ -22,7 +22,7 @@ use Rattle.hermes.specs.Record.{oneOf}
 use Rattle.hermes.specs.Guards.{Question, AllYes, firstNo, question5, shapely}
 use Rattle.hermes.specs.Event.{common, ofKind, own, refusal}
 use Rattle.hermes.specs.Node.{viewQuestions}
-use Rattle.hermes.proofs.Tests.{both, either, not-true}
+use Rattle.hermes.proofs.Tests.{both, either}
 use Rattle.hermes.proofs.Order.{same-equal}
 
 -- ---- lists of questions

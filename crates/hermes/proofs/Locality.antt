@@ -14,8 +14,8 @@ use Rattle.hermes.specs.declared.event.Event.the-variants.{Read}
 use Rattle.hermes.specs.declared.event.Answer.the-variants.{Accepted, Refused}
 use Rattle.hermes.specs.Order.{higher}
 use Rattle.hermes.specs.Store.{slot, valueAt}
-use Rattle.hermes.specs.Event.{Step, refusal, step, partOf, readPart, bodyOf, leavingBody}
-use Rattle.hermes.specs.Node.{Node, Outcome, recordOf, apply}
+use Rattle.hermes.specs.Event.{Step, refusal, step, partOf, readPart, bodyOf}
+use Rattle.hermes.specs.Node.{Node, Outcome, recordOf, valueOf, leaving, apply}
 use Rattle.hermes.specs.Frame.{bytesAfter, Changed}
 use Rattle.hermes.specs.Locality.{EqualAt, AnswersAlike, Locality, ReadLocality, Demand1}
 use Rattle.hermes.proofs.Frame.{event-frame, view-frame, start-frame}
@@ -30,9 +30,9 @@ abbrev pub leavingSlot : Outgoing → Record → List ℕ → List ℕ
 leavingSlot None r b = []
 leavingSlot (Sent m h) r b = bodyOf m (take (r .len) b)
 
-pub leaving-slot : (i : ℕ) (o : Outgoing) → About i o → (r : Record) (s : List ℕ) → r .len ≤ 192 → leavingBody o r s ≡ leavingSlot o r (slot i s)
-leaving-slot i None a r s h = refl
-leaving-slot i (Sent m d) a r s h = ap (bodyOf m) (ap (λ (j : ℕ). valueAt j (r .len) s) a ∙ value-slot i (r .len) s h)
+pub leaving-slot : (i : ℕ) (o : Outgoing) → About i o → (n : Node) → recordOf i n .len ≤ 192 → leaving o (n .table) (n .store) ≡ leavingSlot o (recordOf i n) (slot i (n .store))
+leaving-slot i None a n h = refl
+leaving-slot i (Sent m d) a n h = ap (bodyOf m) (ap (λ (j : ℕ). valueOf j n) a ∙ value-slot i (recordOf i n .len) (n .store) h)
 
 module _ (wins : ℕ → ℕ → Bool) (i : ℕ) (n m : Node) (q : EqualAt i n m) (e : Event) (v : List ℕ) where
   same-refusal : refusalOf n i e v ≡ refusalOf m i e v
@@ -67,12 +67,12 @@ locality wins i n m q e v = go (apply wins n i e v) (applied wins n i e v) (appl
         after = both-done wins i n m q e v c d
 
         left : (x : Node) → AllYes (questionsOf x i e v) → Changed i (stepOf wins x i e v) x (done x i (stepOf wins x i e v))
-            → leavingBody (stepOf wins x i e v .sent) (recordOf i (done x i (stepOf wins x i e v))) (done x i (stepOf wins x i e v) .store)
+            → leaving (stepOf wins x i e v .sent) (done x i (stepOf wins x i e v) .table) (done x i (stepOf wins x i e v) .store)
             ≡ leavingSlot (stepOf wins x i e v .sent) (recordOf i (done x i (stepOf wins x i e v))) (slot i (done x i (stepOf wins x i e v) .store))
-        left x y c = leaving-slot i (stepOf wins x i e v .sent) (step-about wins (x .me) i (recordOf i x) e v) _ _ (rw (c .here) (sound-step wins x i e v y .after .short))
+        left x y c = leaving-slot i (stepOf wins x i e v .sent) (step-about wins (x .me) i (recordOf i x) e v) (done x i (stepOf wins x i e v)) (rw (c .here) (sound-step wins x i e v y .after .short))
 
-        leaves : leavingBody (stepOf wins n i e v .sent) (recordOf i (done n i (stepOf wins n i e v))) (done n i (stepOf wins n i e v) .store)
-            ≡ leavingBody (stepOf wins m i e v .sent) (recordOf i (done m i (stepOf wins m i e v))) (done m i (stepOf wins m i e v) .store)
+        leaves : leaving (stepOf wins n i e v .sent) (done n i (stepOf wins n i e v) .table) (done n i (stepOf wins n i e v) .store)
+            ≡ leaving (stepOf wins m i e v .sent) (done m i (stepOf wins m i e v) .table) (done m i (stepOf wins m i e v) .store)
         leaves = left n y c ∙ (λ t. leavingSlot (same t .sent) (after .here t) (after .bytes t)) ∙ sym (left m y′ d)
 
 pub read-locality : ReadLocality

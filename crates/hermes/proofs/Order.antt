@@ -9,7 +9,7 @@ use lib.Dec.{ltb, eqb}
 use borrow.Author.Tests.{ltb-true, ltb-false, eqb-true, eqb-false, lt-ltb, le-ltb, eq-eqb}
 use Rattle.hermes.specs.declared.timestamp.Timestamp.{Timestamp}
 use Rattle.hermes.specs.Order.{TieOrder, higher, later, sameTimestamp, NotAfter, equal, rises}
-use Rattle.hermes.proofs.Tests.{both, and-both, or-right, either, neither}
+use Rattle.hermes.proofs.Tests.{both, and-both, or-right, either, is-false}
 
 pub timestamp-path : {s t : Timestamp} → s .version ≡ t .version → s .tie ≡ t .tie → s ≡ t
 timestamp-path p q = λ i. record { version = p i; tie = q i }
@@ -51,26 +51,18 @@ data Before (wins : ℕ → ℕ → Bool) (s t : Timestamp) : Type 0 where
   tied : s .version ≡ t .version → wins (t .tie) (s .tie) ≡ true → Before wins s t
 
 module _ (wins : ℕ → ℕ → Bool) where
-  later-older : (s t : Timestamp) → s .version < t .version → later wins t s ≡ true
-  unfolding later
-  later-older s t h = rw (lt-ltb (s .version) (t .version) h)
-
-  later-tied : (s t : Timestamp) → s .version ≡ t .version → wins (t .tie) (s .tie) ≡ true → later wins t s ≡ true
-  unfolding later
-  later-tied s t p q = or-right (ltb (s .version) (t .version)) _ (and-both (eqb (t .version) (s .version)) (wins (t .tie) (s .tie)) (eq-eqb (t .version) (s .version) (sym p)) q)
-
   test : {s t : Timestamp} → Before wins s t → NotAfter wins s t
   test (one e) = equal e
-  test {s} {t} (older h) = rises (later-older s t h)
-  test {s} {t} (tied p q) = rises (later-tied s t p q)
+  test {s} {t} (older h) = rises (greater-later wins t s (inl h))
+  test {s} {t} (tied p q) = rises (greater-later wins t s (inr (sym p, q)))
 
   facts : (s t : Timestamp) → NotAfter wins s t → Before wins s t
   facts s t (equal e) = one e
-  facts s t (rises g) = go (either _ _ (unfold later in g))
+  facts s t (rises g) = go (later-greater wins t s g)
     where
-      go : (ltb (s .version) (t .version) ≡ true) ⊎ ((eqb (t .version) (s .version) && wins (t .tie) (s .tie)) ≡ true) → Before wins s t
-      go (inl h) = older (ltb-true _ _ h)
-      go (inr h) = let (p, q) = both _ _ h in tied (sym (eqb-true _ _ p)) q
+      go : (s .version < t .version) ⊎ ((t .version ≡ s .version) × (wins (t .tie) (s .tie) ≡ true)) → Before wins s t
+      go (inl h) = older h
+      go (inr (p, q)) = tied (sym p) q
 
   pub notAfter-refl : (s : Timestamp) → NotAfter wins s s
   notAfter-refl s = equal refl
@@ -114,14 +106,15 @@ module _ (wins : ℕ → ℕ → Bool) (ord : TieOrder wins) where
 
   -- the order is total: what is not later is not after
   pub notAfter-total : (s t : Timestamp) → later wins s t ≡ false → NotAfter wins s t
-  unfolding later
-  notAfter-total s t g = let (a, b) = neither _ _ g in go a b (ltb (s .version) (t .version)) refl (eqb (s .tie) (t .tie)) refl
+  notAfter-total s t g = go (ltb (s .version) (t .version)) refl (eqb (s .tie) (t .tie)) refl
     where
-      level : ltb (t .version) (s .version) ≡ false → ltb (s .version) (t .version) ≡ false → s .version ≡ t .version
-      level a p = omega (arith, ltb-false (t .version) (s .version) a, ltb-false (s .version) (t .version) p)
+      never : (t .version < s .version) ⊎ ((s .version ≡ t .version) × (wins (s .tie) (t .tie) ≡ true)) → ⊥
+      never h = false≢true (sym g ∙ greater-later wins s t h)
 
-      go : ltb (t .version) (s .version) ≡ false → (eqb (s .version) (t .version) && wins (s .tie) (t .tie)) ≡ false
-          → (x : Bool) → ltb (s .version) (t .version) ≡ x → (y : Bool) → eqb (s .tie) (t .tie) ≡ y → NotAfter wins s t
-      go a b true p y q = test wins (older (ltb-true _ _ p))
-      go a b false p true q = equal (timestamp-path (level a p) (eqb-true _ _ q))
-      go a b false p false q = test wins (tied (level a p) (ord .total (s .tie) (t .tie) (eqb-false _ _ q) (rw (eq-eqb (s .version) (t .version) (level a p)) at b)))
+      level : ltb (s .version) (t .version) ≡ false → s .version ≡ t .version
+      level p = omega (arith, ltb-false (t .version) (s .version) (is-false _ (λ e. never (inl (ltb-true _ _ e)))), ltb-false (s .version) (t .version) p)
+
+      go : (x : Bool) → ltb (s .version) (t .version) ≡ x → (y : Bool) → eqb (s .tie) (t .tie) ≡ y → NotAfter wins s t
+      go true p y q = test wins (older (ltb-true _ _ p))
+      go false p true q = equal (timestamp-path (level p) (eqb-true _ _ q))
+      go false p false q = test wins (tied (level p) (ord .total (s .tie) (t .tie) (eqb-false _ _ q) (is-false _ (λ w. never (inr (level p, w))))))

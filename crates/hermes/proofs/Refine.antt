@@ -26,7 +26,7 @@ use Rattle.hermes.specs.Order.{TieOrder, later, NotAfter, rises}
 use Rattle.hermes.specs.Record.{oneOf, invalidatedState}
 use Rattle.hermes.specs.Store.{slot, valueAt, padded}
 use Rattle.hermes.specs.Guards.{AllYes, firstNo}
-use Rattle.hermes.specs.Event.{Step, storing, invStep, deliverStep, resent, bodyOf, answerOf}
+use Rattle.hermes.specs.Event.{Step, invStep, deliverStep, resent, bodyOf, answerOf}
 use Rattle.hermes.specs.Node.{Node, Outcome, recordOf, apply, view, viewed, viewQuestions, admissionOf, admissionNumber, identity}
 use Rattle.hermes.specs.Run as run
 use Rattle.hermes.specs.Run.{Logged, Action, Result, Found, find, received, delivery, perform, nodeAfter, logged, logAfter}

@@ -14,7 +14,7 @@ use Rattle.hermes.specs.declared.record.State.the-variants as state
 use Rattle.hermes.specs.declared.event.Replica.{Replica}
 use Rattle.hermes.specs.declared.event.Event.{Event}
 use Rattle.hermes.specs.declared.event.Event.the-variants.{Read, Write, Replay, Deliver, Validate, Resend}
-use Rattle.hermes.specs.Members.{size, within, lowest}
+use Rattle.hermes.specs.Members.{size, lowest}
 use Rattle.hermes.specs.Record.{freshRecord}
 use Rattle.hermes.specs.Guards.{firstNo, question5}
 use Rattle.hermes.specs.Event.{Step, numberOf, readPart}
@@ -25,7 +25,7 @@ use Rattle.hermes.specs.Agreement.{FreshStart, Sees, Shows, after}
 use Rattle.hermes.specs.Reads.{Sound, ReadGives, StaySound, ReadsTell}
 use Rattle.hermes.proofs.Tests.{both}
 use Rattle.hermes.proofs.Members.{has-zero}
-use Rattle.hermes.proofs.Guards.{all-yes}
+use Rattle.hermes.proofs.Guards.{view-inside, all-yes}
 use Rattle.hermes.proofs.Steps.{sound-yes}
 use Rattle.hermes.proofs.Apply.{passed-zero, refusalOf, stepOf, done, Applied, refused, accepted, applied, its-own, sound-step}
 use Rattle.hermes.proofs.Words.{is-state}
@@ -65,7 +65,7 @@ module _ (wins : ℕ → ℕ → Bool) (count k : ℕ) where
       go zero z = record {
         number = ok .number;
         records = ok .records;
-        first = rw (both (leb (n .me .number) 15) (leb 2 (size (n .me .view))) (ok .first) .0) (both (within next (n .me .view)) (leb 2 (size next)) (all-yes (viewQuestions (n .me) epoch next) refl z .1 .1 .1 .0) .1);
+        first = rw (both (leb (n .me .number) 15) (leb 2 (size (n .me .view))) (ok .first) .0) (view-inside (n .me) epoch next (all-yes (viewQuestions (n .me) epoch next) refl z) .1);
         second = ok .second;
         fifth = ok .fifth;
       }

@@ -14,8 +14,8 @@ use Rattle.hermes.specs.declared.event.Admission.the-variants.{Admitted}
 use Rattle.hermes.specs.Members.{has, lowest, lowestFrom}
 use Rattle.hermes.specs.Record.{freshRecord}
 use Rattle.hermes.specs.Source.{Lowest}
-use Rattle.hermes.specs.Guards.{AllYes, firstNo, question2}
-use Rattle.hermes.specs.Node.{newcomer, startQuestions, begin, start}
+use Rattle.hermes.specs.Guards.{AllYes, question2}
+use Rattle.hermes.specs.Node.{newcomer, startQuestions, startRefusal, begin, start}
 use Rattle.hermes.proofs.Tests.{both}
 use Rattle.hermes.proofs.Members.{Has, has-small}
 use Rattle.hermes.proofs.Store.{zeros}
@@ -33,9 +33,9 @@ pub record Begun (k view : ℕ) (table : List Record) (store : List ℕ) (me : R
 
 pub begun : (k view : ℕ) (table : List Record) (store : List ℕ) (me : Replica) → start k view table store .admission ≡ Admitted me → Begun k view table store me
 unfolding start
-begun k view table store me a = go (firstNo (startQuestions (newcomer k view) (length table) (length store))) refl a
+begun k view table store me a = go (startRefusal k view (length table) (length store)) refl a
   where
-    go : (z : ℕ) → firstNo (startQuestions (newcomer k view) (length table) (length store)) ≡ z → begin z (newcomer k view) table store .admission ≡ Admitted me
+    go : (z : ℕ) → startRefusal k view (length table) (length store) ≡ z → begin z (newcomer k view) table store .admission ≡ Admitted me
         → Begun k view table store me
     go zero e a = record {
       identity = cc;

@@ -33,10 +33,6 @@ pub implies : (a b : Bool) → (a ≡ true → b ≡ true) → (not a || b) ≡ 
 implies true b f = f refl
 implies false b f = refl
 
-pub not-true : (b : Bool) → not b ≡ true → b ≡ false
-not-true true e = absurd (false≢true e)
-not-true false e = refl
-
 pub is-false : (b : Bool) → (b ≡ true → ⊥) → b ≡ false
 is-false true f = absurd (f refl)
 is-false false f = refl

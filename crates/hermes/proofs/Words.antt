@@ -21,14 +21,14 @@ use Rattle.hermes.proofs.Order.{timestamp-path, equal-same}
 
 -- ---- states
 
-coded : ℕ → State
+pub coded : ℕ → State
 coded zero = Valid
 coded (suc zero) = Invalid
 coded (suc (suc zero)) = InvalidWrite
 coded (suc (suc (suc zero))) = Write
 coded (suc (suc (suc (suc k)))) = Replay
 
-coded-code : (s : State) → s ≡ coded (code s)
+pub coded-code : (s : State) → s ≡ coded (code s)
 unfolding coded
 coded-code Valid = refl
 coded-code Invalid = refl

@@ -50,6 +50,7 @@ elevenOf n sender (Val t) more = ask 11 (has (n .me .view) sender && not (eqb se
 abbrev pub delivered : Node → ℕ → Received → List ℕ → List Question
 delivered n i m v = fiveAnd n i (elevenOf n (m .sender) (m .message) (question12 m (length v) ∷ []))
 
+-- 01, Deliver: a message with its sender and epoch
 abbrev pub message : ℕ → ℕ → Message → Received
 message sender epoch m = record { sender = sender; epoch = epoch; message = m }
 
@@ -73,7 +74,7 @@ module _ (wins : ℕ → ℕ → Bool) where
   pub record Follows (n : Node) (i : ℕ) (e : Event) (v : List ℕ) (own : List Question) (guard : Vars → Type 0) (action : Vars → Vars → Sending → Type 0) : Type 0 where
     pub accepted : (numberOf (apply wins n i e v .answer) ≡ 0) ↔ (AllYes own × guard (varsOf i n))
     pub does : numberOf (apply wins n i e v .answer) ≡ 0
-        → action (varsOf i n) (varsOf i (apply wins n i e v .node)) (record { message = sentBy (apply wins n i e v .answer); body = body i (apply wins n i e v) })
+        → action (varsOf i n) (varsOf i (apply wins n i e v .node)) (record { message = sentBy (apply wins n i e v .answer); body = body (apply wins n i e v) })
     pub refused : numberOf (apply wins n i e v .answer) ≢ 0 → (apply wins n i e v .node ≡ n) × (sentBy (apply wins n i e v .answer) ≡ None)
 
   -- demand 2, of every event; that a refused start changes nothing stands in `Frame`, StartFrame

@@ -152,11 +152,12 @@ abbrev pub answerOf : ℕ → Outgoing → Answer
 answerOf zero o = Accepted o
 answerOf (suc k) o = Refused (suc k)
 
--- the number of an answer, and what leaves with it
+-- 01, "one of these numbers, or 0": the number of an answer
 abbrev pub numberOf : Answer → ℕ
 numberOf (Accepted o) = 0
 numberOf (Refused k) = k
 
+-- 01, "0 with the message": what leaves with an answer
 abbrev pub sentBy : Answer → Outgoing
 sentBy (Accepted o) = o
 sentBy (Refused k) = None
@@ -199,6 +200,7 @@ abbrev pub partOf : ℕ → List ℕ → List ℕ
 partOf zero v = v
 partOf (suc k) v = []
 
+-- 01, Read: the part that a read of record i, r, hands out
 unfoldable pub readPart : Replica → ℕ → ℕ → Record → List ℕ → List ℕ
 readPart me count i r store = partOf (refusal me count (length store) i r Read 0) (valueAt i (r .len) store)
 
@@ -215,7 +217,7 @@ abbrev pub leavingBody : Outgoing → Record → List ℕ → List ℕ
 leavingBody None r store = []
 leavingBody (Sent m h) r store = bodyOf m (valueAt (h .index) (r .len) store)
 
--- 01, Deliver INV, an ACK leaves "for its sender": the sender of the message that the event delivered
+-- 01, Deliver INV, an ACK leaves "for its sender": the sender of the message that the event delivered, as a set
 abbrev pub senderOf : Event → ℕ
 senderOf Read = 0
 senderOf Write = 0

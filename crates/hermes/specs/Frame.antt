@@ -10,11 +10,9 @@ use Rattle.hermes.specs.declared.record.Record.{Record}
 use Rattle.hermes.specs.declared.event.Replica.{Replica}
 use Rattle.hermes.specs.declared.event.Event.{Event}
 use Rattle.hermes.specs.declared.event.Admission.the-variants.{Admitted, Refused}
-use Rattle.hermes.specs.Members.{lowest}
-use Rattle.hermes.specs.Record.{freshRecord}
 use Rattle.hermes.specs.Store.{slot, padded}
 use Rattle.hermes.specs.Event.{Stored, kept, placed, Step, step, numberOf}
-use Rattle.hermes.specs.Node.{Node, recordOf, apply, viewed, newcomer, start}
+use Rattle.hermes.specs.Node.{Node, recordOf, apply, viewed, newcomer, firstRecord, start}
 
 -- the 192 bytes of a record after a step that found these
 abbrev pub bytesAfter : Stored → List ℕ → List ℕ
@@ -46,6 +44,6 @@ pub record ViewFrame (n : Node) (epoch set : ℕ) : Type 0 where
 -- a fresh start: every record fresh and the store zero, or all as found
 pub record StartFrame (k view : ℕ) (table : List Record) (store : List ℕ) : Type 0 where
   pub accepted : (me : Replica) → start k view table store .admission ≡ Admitted me
-      → (me ≡ newcomer k view) × (start k view table store .table ≡ replicate (length table) (freshRecord (lowest view))) × (start k view table store .store ≡ replicate (length store) 0)
+      → (me ≡ newcomer k view) × (start k view table store .table ≡ replicate (length table) (firstRecord view)) × (start k view table store .store ≡ replicate (length store) 0)
   pub refused : (number : ℕ) → start k view table store .admission ≡ Refused number
       → (start k view table store .table ≡ table) × (start k view table store .store ≡ store)

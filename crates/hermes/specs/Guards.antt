@@ -20,6 +20,7 @@ pub record Question : Type 0 where
   pub number : ℕ
   pub yes : Bool
 
+-- 01, a numbered question with its answer
 abbrev pub ask : ℕ → Bool → Question
 ask k b = record { number = k; yes = b }
 
@@ -91,6 +92,7 @@ shapely (Inv t) n = leb (t .tie) 15 && leb n 192
 shapely (Ack t) n = leb (t .tie) 15 && eqb n 0
 shapely (Val t) n = leb (t .tie) 15 && eqb n 0
 
+-- 12, of a received message
 abbrev pub question12 : Received → ℕ → Question
 question12 m n = ask 12 (shapely (m .message) n)
 

@@ -9,9 +9,9 @@ use Rattle.hermes.specs.declared.record.Record.{Record}
 use Rattle.hermes.specs.declared.event.Event.{Event}
 use Rattle.hermes.specs.Order.{higher}
 use Rattle.hermes.specs.Store.{slot}
-use Rattle.hermes.specs.Event.{sentBy, leavingBody}
+use Rattle.hermes.specs.Event.{sentBy}
 use Rattle.hermes.specs.Frame.{EventFrame, ViewFrame, StartFrame}
-use Rattle.hermes.specs.Node.{Node, Outcome, recordOf, apply, read}
+use Rattle.hermes.specs.Node.{Node, Outcome, recordOf, leaving, apply, read}
 
 pub record EqualAt (i : ℕ) (n m : Node) : Type 0 where
   -- number, epoch and view
@@ -21,14 +21,14 @@ pub record EqualAt (i : ℕ) (n m : Node) : Type 0 where
   pub here : recordOf i n ≡ recordOf i m
   pub bytes : slot i (n .store) ≡ slot i (m .store)
 
--- the bytes that leave with an outcome's message, which is about record i
-abbrev pub body : ℕ → Outcome → List ℕ
-body i o = leavingBody (sentBy (o .answer)) (recordOf i (o .node)) (o .node .store)
+-- the bytes that leave with an outcome's message
+abbrev pub body : Outcome → List ℕ
+body o = leaving (sentBy (o .answer)) (o .node .table) (o .node .store)
 
 -- two outcomes are alike: number and message, the bytes that leave, the record and its bytes after, and so all of the above once more
 pub record AnswersAlike (i : ℕ) (o p : Outcome) : Type 0 where
   pub answer : o .answer ≡ p .answer
-  pub leaves : body i o ≡ body i p
+  pub leaves : body o ≡ body p
   pub after : EqualAt i (o .node) (p .node)
 
 -- 01, "answer an event on that record alike", for every event and value

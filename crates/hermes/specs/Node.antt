@@ -31,6 +31,7 @@ lent me table store = record { me = me; table = table; store = store }
 abbrev pub recordAt : List Record → ℕ → Record
 recordAt table i = getD table i (freshRecord 0)
 
+-- 01, "records, numbered from 0": record i of a replica
 abbrev pub recordOf : ℕ → Node → Record
 recordOf i n = recordAt (n .table) i
 
@@ -54,6 +55,7 @@ pub record Outcome : Type 0 where
 
 -- ---- the events on one record
 
+-- 01, an event's questions and step, on record i of a replica
 abbrev pub effectOf : (ℕ → ℕ → Bool) → Node → ℕ → Event → List ℕ → Effect
 effectOf wins n i e v = effect wins (n .me) (length (n .table)) i (recordOf i n) (n .store) e v
 
@@ -80,6 +82,7 @@ abbrev pub identity : Admission → Replica → Replica
 identity (Admitted me) old = me
 identity (Refused k) old = old
 
+-- 01, "one of these numbers, or 0": the number of an admission
 abbrev pub admissionNumber : Admission → ℕ
 admissionNumber (Admitted me) = 0
 admissionNumber (Refused k) = k
@@ -98,9 +101,13 @@ pub record Start : Type 0 where
   pub table : List Record
   pub store : List ℕ
 
--- a fresh start with so many records and bytes of store: its admission
+-- a fresh start with so many records and bytes of store: the number of its first no
+abbrev pub startRefusal : ℕ → ℕ → ℕ → ℕ → ℕ
+startRefusal number view count bytes = firstNo (startQuestions (newcomer number view) count bytes)
+
+-- the admission of that start
 abbrev pub admit : ℕ → ℕ → ℕ → ℕ → Admission
-admit number view count bytes = admissionOf (firstNo (startQuestions (newcomer number view) count bytes)) (newcomer number view)
+admit number view count bytes = admissionOf (startRefusal number view count bytes) (newcomer number view)
 
 -- 01, fresh start: "both stamps version 0 with the lowest number in the view; that number as last writer"
 abbrev pub firstRecord : ℕ → Record
@@ -118,7 +125,7 @@ begin (suc k) me table store = record { admission = admissionOf (suc k) me; tabl
 -- 01, "A fresh start takes number, view and lent memory"
 unfoldable pub start : ℕ → ℕ → List Record → List ℕ → Start
 start number view table store =
-    begin (firstNo (startQuestions (newcomer number view) (length table) (length store))) (newcomer number view) table store
+    begin (startRefusal number view (length table) (length store)) (newcomer number view) table store
 
 -- 01, "A view event asks only 1 and 3 of these", then 18 and 19
 abbrev pub viewQuestions : Replica → ℕ → ℕ → List Question

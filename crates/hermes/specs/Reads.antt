@@ -27,6 +27,7 @@ module _ (wins : ℕ → ℕ → Bool) where
     pub accepted : numberOf (apply wins n i Read [] .answer) ≡ 0 → read n i ≡ valueOf i n
     pub refused : numberOf (apply wins n i Read [] .answer) ≢ 0 → read n i ≡ []
 
+  -- 01, questions 1, 2 and 5: after every list of entries the replicas are sound
   abbrev pub StaySound : Type 0
   StaySound = (member : ℕ → Bool) (count : ℕ) (issued : ℕ → ℕ) (g : Group) → Started member count issued g
       → (entries : List Entry) → Entries member issued entries

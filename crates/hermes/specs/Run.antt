@@ -47,6 +47,7 @@ pub data Result : Type 0 where
   nothing : Result
   event : Outcome → Result
 
+-- 01, "A delivered message left an earlier entry": that message, or none of the log number
 pub data Found : Type 0 where
   missing : Found
   found : Logged → Found
@@ -87,6 +88,7 @@ abbrev pub logged : List Logged → Node → Outgoing → List Logged
 logged log n None = log
 logged log n (Sent m h) = log ++ (record { header = h; message = m; body = leaving (Sent m h) (n .table) (n .store) } ∷ [])
 
+-- 01, what left an entry can be delivered: the log after a result
 abbrev pub logAfter : Result → List Logged → List Logged
 logAfter nothing log = log
 logAfter (event o) log = logged log (o .node) (sentBy (o .answer))

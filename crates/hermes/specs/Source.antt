@@ -220,7 +220,7 @@ pub record NodeFailure (n n′ : Replica) (epoch alive : ℕ) (m : Outgoing) : T
 abbrev pub ResendGuard : Replica → Vars → Type 0
 ResendGuard n s = In (s .nodeState) (Write ∷ Replay ∷ []) ⊎ ((s .nodeState ≡ Valid) × (s .nodeLastWriter ≡ n .number))
 
--- what HWrite and HReplayWrite sent, or what HSendVals sent, once more and at the epoch of now
+-- what HWrite and HReplayWrite sent, or what HSendVals sent, once more and at the current epoch
 pub record Resent (n : Replica) (i : ℕ) (s s′ : Vars) (m : Sending) : Type 0 where
   pub unchanged : s′ ≡ s
   pub writing : In (s .nodeState) (Write ∷ Replay ∷ []) → m ≡ sendInv n i s

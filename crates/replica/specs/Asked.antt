@@ -1,5 +1,6 @@
 -- What a question of the code answers.
 -- No public contract names these: they say what the crate's own questions answer.
+-- A refusal keeps its number, whatever it is, so its cases stand here themselves: `answerOf` and `admissionOf` give 0 to an acceptance.
 use Prim.Native.Nat.{ℕ}
 use mathlib.Core.Bool.{Bool, true, false}
 use mathlib.Core.List.{List, [], _∷_}

@@ -1,5 +1,5 @@
 -- Every worked row holds: one test that is computed over the whole list, and one lemma that turns it into what each row says.
-use Prim.Native.Nat.{ℕ, zero, suc, _<_}
+use Prim.Native.Nat.{ℕ, zero, suc}
 use mathlib.Core.Path.{_≡_, refl, sym, ap, ap₂, _∙_}
 use mathlib.Core.Bool.{Bool, true, false, _&&_, false≢true}
 use mathlib.Core.List.{List, [], _∷_, List·Memᴰ, List·Memᴰ·cases-cons, List·Memᴰ·not-nil}
@@ -10,21 +10,19 @@ use borrow.Author.Tests.{eqb-true}
 use Rattle.hermes.specs.declared.timestamp.Timestamp.{Timestamp}
 use Rattle.hermes.specs.declared.record.Record.{Record}
 use Rattle.hermes.specs.declared.record.State.{State}
-use Rattle.hermes.specs.declared.record.State.the-variants.{Valid, Invalid, InvalidWrite, Write, Replay}
 use Rattle.hermes.specs.declared.message.Message.{Message}
 use Rattle.hermes.specs.declared.message.Message.the-variants.{Inv, Ack, Val}
-use Rattle.hermes.specs.declared.message.Header.{Header}
 use Rattle.hermes.specs.declared.message.Outgoing.{Outgoing}
 use Rattle.hermes.specs.declared.message.Outgoing.the-variants.{None, Sent}
 use Rattle.hermes.specs.declared.event.Replica.{Replica}
-use Rattle.hermes.specs.Members.{has, size, lowest, within, othersIn, with, without}
+use Rattle.hermes.specs.Members.{has, size, lowest, within, othersIn, with}
 use Rattle.hermes.specs.Order.{later, sameTimestamp}
 use Rattle.hermes.specs.Record.{code}
 use Rattle.hermes.specs.Store.{padded, place}
 use Rattle.hermes.specs.Event.{numberOf, sentBy, send, refusal, effect}
 use Rattle.hermes.specs.Node.{Node, Outcome, recordOf, apply, start, view, viewed}
 use Rattle.hermes.proofs.Tests.{both}
-use Rattle.packet.specs.declared.entry.Entry.{Entry}
+use Rattle.hermes.proofs.Words.{coded, coded-code}
 use Rattle.packet.specs.declared.answer.Fetched.{Fetched}
 use Rattle.packet.specs.declared.answer.Fetched.the-variants.{Found, Refused}
 use Rattle.packet.specs.Entry.{good, entryBytes}
@@ -60,23 +58,8 @@ same-sound : {A : Type 0} (c : Coded A) (a b : A) → same c a b ≡ true → a 
 unfolding same
 same-sound c a b e = sym (c .had a) ∙ ap (c .back) (list-sound (c .numbers a) (c .numbers b) e) ∙ c .had b
 
-named : ℕ → State
-named zero = Valid
-named (suc zero) = Invalid
-named (suc (suc zero)) = InvalidWrite
-named (suc (suc (suc zero))) = Write
-named (suc (suc (suc (suc k)))) = Replay
-
-named-code : (s : State) → named (code s) ≡ s
-unfolding named
-named-code Valid = refl
-named-code Invalid = refl
-named-code InvalidWrite = refl
-named-code Write = refl
-named-code Replay = refl
-
 stateCode : Coded State
-stateCode = record { numbers = λ s. code s ∷ []; back = λ l. named (getD l 0 0); had = named-code }
+stateCode = record { numbers = λ s. code s ∷ []; back = λ l. coded (getD l 0 0); had = λ s. sym (coded-code s) }
 
 timestampCode : Coded Timestamp
 timestampCode = record { numbers = λ t. t .version ∷ t .tie ∷ []; back = λ l. record { version = getD l 0 0; tie = getD l 1 0 }; had = λ t. refl }
@@ -87,7 +70,7 @@ recordNumbers r =
 
 recordBack : List ℕ → Record
 recordBack l = record {
-  state = named (getD l 0 0);
+  state = coded (getD l 0 0);
   timestamp = record { version = getD l 1 0; tie = getD l 2 0 };
   writer = getD l 3 0;
   written = record { version = getD l 4 0; tie = getD l 5 0 };
@@ -100,7 +83,7 @@ unfolding recordNumbers recordBack
 recordCode = record {
   numbers = recordNumbers;
   back = recordBack;
-  had = λ r i. record { state = named-code (r .state) i; timestamp = r .timestamp; writer = r .writer; written = r .written; acks = r .acks; len = r .len };
+  had = λ r i. record { state = sym (coded-code (r .state)) i; timestamp = r .timestamp; writer = r .writer; written = r .written; acks = r .acks; len = r .len };
 }
 
 replicaCode : Coded Replica

@@ -5,16 +5,16 @@ use lib.ListN.{replicate}
 use Rattle.hermes.specs.declared.message.Message.{Message}
 use Rattle.hermes.specs.declared.message.Message.the-variants.{Inv, Ack, Val}
 use Rattle.hermes.specs.declared.record.State.the-variants as state
-use Rattle.hermes.specs.declared.event.Event.the-variants.{Read, Write, Replay, Deliver, Validate, Resend}
+use Rattle.hermes.specs.declared.event.Event.the-variants.{Read, Write, Replay, Deliver, Validate}
 use Rattle.hermes.specs.Record.{freshRecord}
 use Rattle.hermes.specs.Node.{Node, newcomer}
-use Rattle.vectors.specs.Meaning.{Deed, starts, does, turns, Claim, answers, leaves, stamps, acknowledgedBy, sends, silent, unchanged, Row, row, packs}
+use Rattle.vectors.specs.Meaning.{Deed, starts, does, turns, answers, leaves, stamps, acknowledgedBy, sends, silent, unchanged, Row, row, packs}
 
 -- the laptop before its start: one record, and memory that holds something else
 unfoldable pub lent : Node
 lent = record { me = newcomer 9 0; table = freshRecord 9 ∷ []; store = replicate 192 7 }
 
--- {1,2,5}, {1,2}, {1,5} and {1}
+-- views, as 16-bit sets: {1,2,5} is 38, {1,2} is 6, {1,5} is 34 and {1} is 2
 abbrev group : ℕ
 group = 38
 
@@ -65,7 +65,7 @@ rows =
     ∷ row (fresh (inv 4294967294 5 5 0 ∷ [])) save (answers 0 ∷ leaves state.Write ∷ stamps 4294967295 2 ∷ [])
     ∷ row (fresh (inv 4294967295 5 5 0 ∷ [])) save (answers 9 ∷ unchanged ∷ silent ∷ [])
     -- view epoch 0: 18; epoch 1 {1}: 19; {1,5} accepted, then 3
-    ∷ row (fresh []) (turns 0 38) (answers 18 ∷ unchanged ∷ [])
+    ∷ row (fresh []) (turns 0 group) (answers 18 ∷ unchanged ∷ [])
     ∷ row (fresh []) (turns 1 2) (answers 19 ∷ unchanged ∷ [])
     ∷ row (fresh []) (turns 1 34) (answers 0 ∷ silent ∷ [])
     ∷ row (fresh (turns 1 34 ∷ [])) (turns 2 34) (answers 3 ∷ unchanged ∷ [])
