@@ -42,7 +42,7 @@ fn fetched_out(fetched: Fetched) -> CetskobiFetched
 {
     match fetched {
         Fetched::Found(entry, at) => {
-            let f = packet_writer::fields_for(entry, at);
+            let f = packet::fields_for(entry, at);
             CetskobiFetched {
                 number: 0,
                 kind: f.kind,

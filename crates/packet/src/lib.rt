@@ -2,6 +2,7 @@
 // What a packet is stands in specs/; that writing and reading are inverse in proofs/RoundTrip.antt.
 mod answer;
 mod entry;
+mod fields;
 mod layout;
 mod numbers;
 mod reader;
@@ -10,6 +11,7 @@ pub use answer::Fetched;
 pub use answer::Written;
 pub use entry::Entry;
 pub use entry::Fields;
+pub use fields::fields_for;
 pub use layout::COUNT_MAX;
 pub use layout::ENTRY_BYTES;
 pub use layout::HEADER_BYTES;

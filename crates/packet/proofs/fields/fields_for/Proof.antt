@@ -1,7 +1,7 @@
 -- Field by field, with kind and timestamp by the message's case.
 use borrow.Author.Needs.{needs}
-use Rattle.packet_writer.proofs.fields.fields_for.Statement.{statement}
-use Rattle.packet_writer.proofs.fields.fields_for.Tie as tie
+use Rattle.packet.proofs.fields.fields_for.Statement.{statement}
+use Rattle.packet.proofs.fields.fields_for.Tie as tie
 
 timestamp-of-requires : tie.Need-timestamp-of-requires
 timestamp-of-requires c κs = search needs

@@ -1,10 +1,10 @@
 // The fields of a message.
 ghost use mathlib.Core.Path.{_≡_};
 ghost use Rattle.packet.specs.Entry.{kindOf, timestampOf, fieldsFor};
+use crate::entry::Entry;
+use crate::entry::Fields;
 use hermes::Message;
 use hermes::Timestamp;
-use packet::Entry;
-use packet::Fields;
 
 // The number of a message's kind.
 fn kind_of(message: Message) -> u8
