@@ -1,8 +1,8 @@
 -- An exported event's end: what the parts of its code give is what hermes's `apply` says of the replica with its bytes.
-use Prim.Native.Nat.{ℕ, zero, suc, _*_}
-use mathlib.Core.Path.{_≡_, refl, sym, ap, _∙_}
-use mathlib.Core.List.{List, [], _∷_}
-use lib.ListN.{length, take, drop}
+use Prim.Native.Nat.{ℕ, zero, suc}
+use mathlib.Core.Path.{_≡_, sym, ap, _∙_}
+use mathlib.Core.List.{List, []}
+use lib.ListN.{length}
 use Rattle.hermes.specs.declared.record.Record.{Record}
 use Rattle.hermes.specs.declared.event.Replica.{Replica}
 use Rattle.hermes.specs.declared.event.Event.{Event}
@@ -12,7 +12,7 @@ use Rattle.hermes.specs.declared.event.Moved.{Moved}
 use Rattle.hermes.specs.Order.{higher}
 use Rattle.hermes.specs.Event.{Effect, effect, moved, step, numberOf, partOf, readPart, refusal}
 use Rattle.hermes.specs.Store.{valueAt}
-use Rattle.hermes.specs.Node.{recordAt, effectOf, apply, read}
+use Rattle.hermes.specs.Node.{recordAt, effectOf, apply}
 use Rattle.replica.proofs.Asked.{quiet}
 use Rattle.ffi.specs.declared.events.Subject.{Subject}
 use Rattle.ffi.specs.declared.crossing.CetskobiReplica.{CetskobiReplica}

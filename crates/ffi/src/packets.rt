@@ -111,7 +111,7 @@ pub extern "C" fn cetskobi_deliver_packet(
     let fetched = packet::fetch(packet, i);
     match fetched {
         Fetched::Found(entry, at) => {
-            let f = packet_writer::fields_for(entry, at);
+            let f = packet::fields_for(entry, at);
             let message = CetskobiMessage {
                 kind: f.kind,
                 sender: f.sender,

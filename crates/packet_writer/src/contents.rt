@@ -15,7 +15,7 @@ use packet::ENTRY_BYTES;
 use packet::HEADER_BYTES;
 
 // The 16 bytes of a good message's entry, whose body begins at `at`.
-// A word is read between the stores of two numbers: the compiler then makes one store of each number.
+// Each word is read just before it is stored: the compiler then makes one store of its bytes.
 fn put_entry(out: &mut [u8], pos: usize, words: &[u32], w: usize, at: usize)
     requires { ⌜ (w + 7 ≤ length (now words)) × (good (fieldsAt (now words) w 0) ≡ true) × (at < 65536) × (pos + 16 ≤ length (now out)) ⌝ }
     ensures { λ _. ⌜ now (out .exit) ≡ sets (now (out .entry)) pos (entryBytes (fieldsAt (now (words .entry)) w at)) ⌝ }

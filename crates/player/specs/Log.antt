@@ -16,10 +16,11 @@ use Rattle.player.specs.declared.log.Envelope.{Envelope}
 
 -- ---- a message as six words: kind, sender, epoch, version, tie-breaker, length of the body
 
+-- 01, "kind (1 INV, 2 ACK, 3 VAL)"
 abbrev pub kindOf : Message → ℕ
-kindOf (Inv t) = 0
-kindOf (Ack t) = 1
-kindOf (Val t) = 2
+kindOf (Inv t) = 1
+kindOf (Ack t) = 2
+kindOf (Val t) = 3
 
 abbrev pub timestampOf : Message → Timestamp
 timestampOf (Inv t) = t
@@ -28,7 +29,7 @@ timestampOf (Val t) = t
 
 -- any number is a kind
 abbrev pub messageOf : ℕ → Timestamp → Message
-messageOf k t = cond (eqb k 0) (Inv t) (cond (eqb k 1) (Ack t) (Val t))
+messageOf k t = cond (eqb k 1) (Inv t) (cond (eqb k 2) (Ack t) (Val t))
 
 abbrev pub encode : Envelope → List ℕ
 encode e = kindOf (e .message) ∷ e .sender ∷ e .epoch ∷ timestampOf (e .message) .version ∷ timestampOf (e .message) .tie ∷ e .len ∷ []

@@ -17,13 +17,14 @@ pub struct Envelope {
 // The words of a message: kind, sender, epoch, version, tie-breaker, length of the body.
 const WORDS: usize = 6;
 
+// The number of a kind, as a packet has it.
 fn kind_of(m: Message) -> u32
     ensures { λ r. ⌜ r ≡ kindOf m ⌝ }
 {
     match m {
-        Message::Inv(_) => 0,
-        Message::Ack(_) => 1,
-        Message::Val(_) => 2,
+        Message::Inv(_) => 1,
+        Message::Ack(_) => 2,
+        Message::Val(_) => 3,
     }
 }
 
@@ -40,10 +41,10 @@ fn timestamp_of(m: Message) -> Timestamp
 fn message_of(kind: u32, t: Timestamp) -> Message
     ensures { λ r. ⌜ r ≡ messageOf kind t ⌝ }
 {
-    if kind == 0 {
+    if kind == 1 {
         return Message::Inv(t);
     }
-    if kind == 1 {
+    if kind == 2 {
         return Message::Ack(t);
     }
     Message::Val(t)

@@ -13,7 +13,7 @@ use Rattle.hermes.specs.declared.record.Record.{Record}
 use Rattle.hermes.specs.Record.{code}
 use Rattle.hermes.specs.Event.{Step, movedBy}
 use Rattle.hermes.specs.Node.{recordAt}
-use Rattle.record_bytes.specs.Layout.{two, four, inTwo, inFour, stateOf, unsound, orUnsound, decode, encode, countOf, decodeAt, tableOf, put, bytesAfter}
+use Rattle.record_bytes.specs.Layout.{two, four, inTwo, inFour, stateOf, orUnsound, decode, encode, countOf, decodeAt, tableOf, put, bytesAfter}
 use Rattle.record_bytes.specs.Back.{Bytes, PutBack}
 use Rattle.record_bytes.proofs.Lent.{record-in, settled-in}
 

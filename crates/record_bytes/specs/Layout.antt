@@ -48,13 +48,13 @@ orUnsound false r = r
 
 -- the numbers of a record, as they stand in its bytes
 unfoldable pub decode : ℕ → ℕ → ℕ → ℕ → ℕ → ℕ → ℕ → ℕ → Record
-decode state tie writer ownTie version ownVersion acks len =
+decode state tie writer writtenTie version writtenVersion acks len =
     orUnsound (ltb 4 state)
     (record {
       state = stateOf state;
       timestamp = record { version = version; tie = tie };
       writer = writer;
-      written = record { version = ownVersion; tie = ownTie };
+      written = record { version = writtenVersion; tie = writtenTie };
       acks = acks;
       len = len;
     })

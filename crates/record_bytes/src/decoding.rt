@@ -57,13 +57,13 @@ pub(crate) fn decoded(
     state: u8,
     tie: u8,
     writer: u8,
-    owntie: u8,
+    writtentie: u8,
     version: u32,
-    own: u32,
+    written: u32,
     acks: u16,
     len: u8,
 ) -> Record
-    ensures { λ r. ⌜ r ≡ decode state tie writer owntie version own acks len ⌝ }
+    ensures { λ r. ⌜ r ≡ decode state tie writer writtentie version written acks len ⌝ }
 {
     if 4 < state {
         return none();
@@ -74,8 +74,8 @@ pub(crate) fn decoded(
         tie: tie,
     };
     let last = Timestamp {
-        version: own,
-        tie: owntie,
+        version: written,
+        tie: writtentie,
     };
     Record {
         state: s,

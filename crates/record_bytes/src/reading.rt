@@ -36,7 +36,7 @@ fn record_in(bytes: &[u8], i: usize) -> Record
 {
     let at = SIZE * i;
     let version = four(bytes[at + 4], bytes[at + 5], bytes[at + 6], bytes[at + 7]);
-    let own = four(bytes[at + 8], bytes[at + 9], bytes[at + 10], bytes[at + 11]);
+    let written = four(bytes[at + 8], bytes[at + 9], bytes[at + 10], bytes[at + 11]);
     let acks = two(bytes[at + 12], bytes[at + 13]);
     decoded(
         bytes[at],
@@ -44,7 +44,7 @@ fn record_in(bytes: &[u8], i: usize) -> Record
         bytes[at + 2],
         bytes[at + 3],
         version,
-        own,
+        written,
         acks,
         bytes[at + 14],
     )
