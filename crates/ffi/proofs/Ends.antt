@@ -19,10 +19,13 @@ use Rattle.ffi.specs.declared.crossing.CetskobiReplica.{CetskobiReplica}
 use Rattle.ffi.specs.declared.crossing.CetskobiAnswer.{CetskobiAnswer}
 use Rattle.ffi.specs.declared.crossing.CetskobiRead.{CetskobiRead}
 use Rattle.ffi.specs.Crossing.{replicaOf, answerOut}
-use Rattle.record_bytes.specs.Layout.{countOf, tableOf, bytesAfter, tableAfter}
+use Rattle.record_bytes.specs.declared.reading.Found.{Found}
+use Rattle.record_bytes.specs.declared.reading.Found.the-variants.{Here}
+use Rattle.record_bytes.specs.Layout.{countOf, tableOf, bytesAfter, tableAfter, find}
 use Rattle.ffi.specs.Leaving.{PartAt}
 use Rattle.ffi.specs.Events.{nodeOf, subjectOf, Finished, Done, ReadDone}
 use Rattle.record_bytes.proofs.Lent.{length-table}
+use Rattle.record_bytes.proofs.Finding.{found-here}
 use Rattle.ffi.proofs.Parts.{cut, no-part}
 use Rattle.record_bytes.proofs.Table.{settled-step}
 
@@ -35,6 +38,11 @@ pub record Taken (me : CetskobiReplica) (bytes : List ℕ) (i : ℕ) (who : Repl
 pub taken : (me : CetskobiReplica) (bytes : List ℕ) (i : ℕ) (s : Subject) → s ≡ subjectOf me bytes i → Taken me bytes i (s .who) (s .count) (s .found)
 taken me bytes i s e =
     record { identity = ap (λ (x : Subject). x .who) e; counted = ap (λ (x : Subject). x .count) e; found = ap (λ (x : Subject). x .found) e }
+
+-- the same where the record was found
+pub taken-here : (me : CetskobiReplica) (bytes : List ℕ) (i : ℕ) (who : Replica) (count : ℕ) (f : Found) (r : Record) → who ≡ replicaOf me → count ≡ countOf (length bytes)
+    → f ≡ find bytes i → f ≡ Here r → Taken me bytes i who count r
+taken-here me bytes i who count f r hw hc finds here = record { identity = hw; counted = hc; found = found-here bytes i r (sym finds ∙ here) }
 
 module _ (me : CetskobiReplica) (bytes : List ℕ) (i : ℕ) (who : Replica) (count : ℕ) (r : Record) (t : Taken me bytes i who count r) where
   -- the engine's effect is that of the node

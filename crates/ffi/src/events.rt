@@ -3,7 +3,7 @@ ghost use mathlib.Core.Path.{_≡_};
 ghost use mathlib.Core.List.{[]};
 ghost use Rattle.hermes.specs.declared.event.Event.the-variants.{Write, Replay, Deliver, Validate, Resend};
 ghost use Rattle.ffi.specs.Crossing.{receivedIn};
-ghost use Rattle.ffi.specs.Events.{nodeOf, subjectOf, Finished, Done, ReadDone};
+ghost use Rattle.ffi.specs.Events.{nodeOf, subjectOf, missing, Finished, Done, ReadDone};
 use crate::crossing;
 use crate::crossing::CetskobiAnswer;
 use crate::crossing::CetskobiMessage;
@@ -12,6 +12,7 @@ use crate::crossing::CetskobiReplica;
 use hermes::Moved;
 use hermes::Record;
 use hermes::Replica;
+use record_bytes::Found;
 
 // Whom an event is asked of, of how many records, and on which.
 pub(crate) struct Subject {
@@ -41,6 +42,15 @@ pub(crate) fn finish(table: &mut [u8], i: usize, m: Moved) -> CetskobiAnswer
     crossing::answer_out(a)
 }
 
+// The answer to an event on a number where no record stands. It is the same for every event: one of questions 1 to 5 says no.
+fn missed(me: CetskobiReplica, table: &[u8], bytes: usize, i: usize) -> CetskobiAnswer
+    ensures { λ a. ⌜ a ≡ missing me (now (table .entry)) bytes i ⌝ }
+{
+    let s = subject_of(me, table, i);
+    let answer = replica::read_number(s.who, s.count, bytes, i, s.found);
+    crossing::answer_out(answer)
+}
+
 // Write of a value to record i.
 #[no_mangle]
 pub extern "C" fn cetskobi_write(
@@ -52,8 +62,13 @@ pub extern "C" fn cetskobi_write(
 ) -> CetskobiAnswer
     ensures { λ a. ⌜ Done (nodeOf me (now (table .entry)) (now (store .entry))) (now (table .entry)) i Write (now (value .entry)) a (now (table .exit)) (now (store .exit)) ⌝ }
 {
-    let s = subject_of(me, table, i);
-    let m = replica::write(s.who, s.count, i, s.found, store, value);
+    let found = record_bytes::find(table, i);
+    let Found::Here(r) = found else {
+        return missed(me, table, store.len(), i);
+    };
+    let who = crossing::replica_of(me);
+    let count = record_bytes::count(table.len());
+    let m = replica::write(who, count, i, r, store, value);
     finish(table, i, m)
 }
 
@@ -69,9 +84,14 @@ pub extern "C" fn cetskobi_deliver(
 ) -> CetskobiAnswer
     ensures { λ a. ⌜ Done (nodeOf me (now (table .entry)) (now (store .entry))) (now (table .entry)) i (Deliver (receivedIn message)) (now (value .entry)) a (now (table .exit)) (now (store .exit)) ⌝ }
 {
-    let s = subject_of(me, table, i);
+    let found = record_bytes::find(table, i);
+    let Found::Here(r) = found else {
+        return missed(me, table, store.len(), i);
+    };
+    let who = crossing::replica_of(me);
+    let count = record_bytes::count(table.len());
     let received = crossing::received_in(message);
-    let m = replica::deliver(s.who, s.count, i, s.found, store, received, value);
+    let m = replica::deliver(who, count, i, r, store, received, value);
     finish(table, i, m)
 }
 
@@ -85,8 +105,13 @@ pub extern "C" fn cetskobi_replay(
 ) -> CetskobiAnswer
     ensures { λ a. ⌜ Done (nodeOf me (now (table .entry)) (now (store .entry))) (now (table .entry)) i Replay [] a (now (table .exit)) (now (store .entry)) ⌝ }
 {
-    let s = subject_of(me, table, i);
-    let m = replica::replay(s.who, s.count, store.len(), i, s.found);
+    let found = record_bytes::find(table, i);
+    let Found::Here(r) = found else {
+        return missed(me, table, store.len(), i);
+    };
+    let who = crossing::replica_of(me);
+    let count = record_bytes::count(table.len());
+    let m = replica::replay(who, count, store.len(), i, r);
     finish(table, i, m)
 }
 
@@ -100,8 +125,13 @@ pub extern "C" fn cetskobi_validate(
 ) -> CetskobiAnswer
     ensures { λ a. ⌜ Done (nodeOf me (now (table .entry)) (now (store .entry))) (now (table .entry)) i Validate [] a (now (table .exit)) (now (store .entry)) ⌝ }
 {
-    let s = subject_of(me, table, i);
-    let m = replica::validate(s.who, s.count, store.len(), i, s.found);
+    let found = record_bytes::find(table, i);
+    let Found::Here(r) = found else {
+        return missed(me, table, store.len(), i);
+    };
+    let who = crossing::replica_of(me);
+    let count = record_bytes::count(table.len());
+    let m = replica::validate(who, count, store.len(), i, r);
     finish(table, i, m)
 }
 
@@ -115,8 +145,13 @@ pub extern "C" fn cetskobi_resend(
 ) -> CetskobiAnswer
     ensures { λ a. ⌜ Done (nodeOf me (now (table .entry)) (now (store .entry))) (now (table .entry)) i Resend [] a (now (table .exit)) (now (store .entry)) ⌝ }
 {
-    let s = subject_of(me, table, i);
-    let m = replica::resend(s.who, s.count, store.len(), i, s.found);
+    let found = record_bytes::find(table, i);
+    let Found::Here(r) = found else {
+        return missed(me, table, store.len(), i);
+    };
+    let who = crossing::replica_of(me);
+    let count = record_bytes::count(table.len());
+    let m = replica::resend(who, count, store.len(), i, r);
     finish(table, i, m)
 }
 

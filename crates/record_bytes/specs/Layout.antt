@@ -13,6 +13,9 @@ use Rattle.hermes.specs.declared.event.Answer.{Answer}
 use Rattle.hermes.specs.declared.event.Answer.the-variants.{Accepted, Refused}
 use Rattle.hermes.specs.declared.event.Moved.{Moved}
 use Rattle.hermes.specs.Record.{code}
+use Rattle.hermes.specs.Node.{recordAt}
+use Rattle.record_bytes.specs.declared.reading.Found.{Found}
+use Rattle.record_bytes.specs.declared.reading.Found.the-variants.{Here, Missing}
 
 -- ---- numbers, the least significant byte first
 
@@ -87,6 +90,11 @@ records (suc n) at bytes = decodeAt bytes at ∷ records n (at + 16) bytes
 -- the table that bytes hold
 unfoldable pub tableOf : List ℕ → List Record
 tableOf bytes = records (countOf (length bytes)) 0 bytes
+
+-- what an event finds at number i: the record, unless it lies past the table's end or its bytes have no state
+abbrev pub find : List ℕ → ℕ → Found
+find bytes i =
+    cond (ltb i (countOf (length bytes))) (cond (ltb 4 (getD bytes (16 * i) 0)) Missing (Here (recordAt (tableOf bytes) i))) Missing
 
 -- ---- the bytes after an event on record i
 

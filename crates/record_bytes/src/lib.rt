@@ -6,5 +6,7 @@ mod reading;
 
 pub use filling::fill;
 pub use putting::settle;
+pub use reading::Found;
 pub use reading::count;
+pub use reading::find;
 pub use reading::record_at;

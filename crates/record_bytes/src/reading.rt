@@ -2,7 +2,7 @@
 ghost use mathlib.Core.Path.{_≡_};
 ghost use lib.ListN.{length};
 ghost use Rattle.hermes.specs.Node.{recordAt};
-ghost use Rattle.record_bytes.specs.Layout.{decodeAt, countOf, tableOf};
+ghost use Rattle.record_bytes.specs.Layout.{decodeAt, countOf, tableOf, find};
 ghost use Prim.Native.Nat.{_+_, _*_, _≤_};
 use crate::decoding::decoded;
 use crate::decoding::four;
@@ -27,6 +27,26 @@ pub fn record_at(bytes: &[u8], i: usize) -> Record
         return Record::fresh(0);
     }
     record_in(bytes, i)
+}
+
+// What stands at a number: a record, or none.
+pub enum Found {
+    Here(Record),
+    Missing,
+}
+
+// Record i of the table, if its bytes are there and are a record.
+pub fn find(bytes: &[u8], i: usize) -> Found
+    ensures { λ f. ⌜ f ≡ find (now (bytes .entry)) i ⌝ }
+{
+    if count(bytes.len()) <= i {
+        return Found::Missing;
+    }
+    if 4 < bytes[SIZE * i] {
+        return Found::Missing;
+    }
+    let r = record_in(bytes, i);
+    Found::Here(r)
 }
 
 // The record of bytes that are there.
