@@ -15,13 +15,13 @@ use hermes::Replica;
 use record_bytes::Found;
 
 // Whom an event is asked of, of how many records, and on which.
-pub(crate) struct Subject {
-    pub(crate) who: Replica,
-    pub(crate) count: usize,
-    pub(crate) found: Record,
+struct Subject {
+    who: Replica,
+    count: usize,
+    found: Record,
 }
 
-pub(crate) fn subject_of(me: CetskobiReplica, table: &[u8], i: usize) -> Subject
+fn subject_of(me: CetskobiReplica, table: &[u8], i: usize) -> Subject
     ensures { λ s. ⌜ s ≡ subjectOf me (now (table .entry)) i ⌝ }
 {
     let who = crossing::replica_of(me);
@@ -34,7 +34,7 @@ pub(crate) fn subject_of(me: CetskobiReplica, table: &[u8], i: usize) -> Subject
 }
 
 // The end of an event on record i: its answer, and the bytes of the table.
-pub(crate) fn finish(table: &mut [u8], i: usize, m: Moved) -> CetskobiAnswer
+fn finish(table: &mut [u8], i: usize, m: Moved) -> CetskobiAnswer
     ensures { λ a. ⌜ Finished (now (table .entry)) i m a (now (table .exit)) ⌝ }
 {
     record_bytes::settle(table, i, m);
