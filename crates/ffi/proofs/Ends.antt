@@ -13,7 +13,7 @@ use Rattle.hermes.specs.Order.{higher}
 use Rattle.hermes.specs.Event.{Effect, effect, moved, step, numberOf, partOf, readPart, refusal}
 use Rattle.hermes.specs.Store.{valueAt}
 use Rattle.hermes.specs.Node.{recordAt, effectOf, apply}
-use Rattle.replica.proofs.Asked.{quiet}
+use Rattle.replica.proofs.Outcomes.{quiet}
 use Rattle.ffi.specs.declared.events.Subject.{Subject}
 use Rattle.ffi.specs.declared.crossing.CetskobiReplica.{CetskobiReplica}
 use Rattle.ffi.specs.declared.crossing.CetskobiAnswer.{CetskobiAnswer}

@@ -13,7 +13,7 @@ use Rattle.hermes.proofs.Filling.{start-admission, start-refused}
 use Rattle.ffi.specs.declared.crossing.CetskobiAdmission.{CetskobiAdmission}
 use Rattle.ffi.specs.Crossing.{identityOf, admissionOut}
 use Rattle.record_bytes.specs.Layout.{countOf, tableOf, fill}
-use Rattle.ffi.specs.Membership.{StartDone}
+use Rattle.ffi.specs.Admission.{StartDone}
 use Rattle.record_bytes.proofs.Lent.{length-table}
 
 module _ (number view : ℕ) (bytes store : List ℕ) (count : ℕ) (a : Admission) (counted : count ≡ countOf (length bytes)) (asked : a ≡ admit number view count (length store)) where

@@ -1,5 +1,5 @@
 pub mod Crossing
 pub mod Leaving
 pub mod Events
-pub mod Membership
+pub mod Admission
 pub mod Packets

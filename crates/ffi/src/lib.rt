@@ -1,10 +1,12 @@
 // The engine for C and Rust: exported functions over numbers, slices of numbers and structs of numbers.
+mod admission;
 mod crossing;
 mod events;
 mod leaving;
-mod membership;
 mod packets;
 
+pub use admission::cetskobi_start;
+pub use admission::cetskobi_view;
 pub use crossing::CetskobiAdmission;
 pub use crossing::CetskobiAnswer;
 pub use crossing::CetskobiMessage;
@@ -18,8 +20,6 @@ pub use events::cetskobi_validate;
 pub use events::cetskobi_write;
 pub use leaving::cetskobi_body;
 pub use leaving::cetskobi_recipients;
-pub use membership::cetskobi_start;
-pub use membership::cetskobi_view;
 pub use packets::CetskobiFetched;
 pub use packets::CetskobiWritten;
 pub use packets::cetskobi_deliver_packet;

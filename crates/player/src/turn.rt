@@ -94,7 +94,7 @@ fn view(m: Member, epoch: u32, set: u16) -> Judged
     let me = m.me;
     let held = m.held;
     let store = m.store;
-    let a = replica::view(me, epoch, set);
+    let a = membership::view(me, epoch, set);
     match a {
         Admission::Admitted(next) => Judged {
             known: true,

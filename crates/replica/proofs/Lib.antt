@@ -1,2 +1,2 @@
-pub mod Asked
 pub mod Bytes
+pub mod Outcomes

@@ -1,7 +1,6 @@
 // What leaves an event: the message with its header, the bytes that it takes along, and who gets it.
 ghost use mathlib.Core.Path.{_≡_};
 ghost use Rattle.hermes.specs.Event.{send, leavingBody, senderOf, recipients};
-use crate::members;
 use crate::value;
 use hermes::Event;
 use hermes::Header;

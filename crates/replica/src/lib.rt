@@ -1,13 +1,9 @@
 // The engine of one replica: the events on one record by value, with the lent store.
 mod delivery;
 mod events;
-mod guards;
 mod leaving;
-mod members;
-mod membership;
 mod reading;
 mod settle;
-mod states;
 mod value;
 mod writing;
 
@@ -15,9 +11,6 @@ pub use delivery::deliver;
 pub use events::step;
 pub use leaving::body;
 pub use leaving::recipients;
-pub use membership::admit;
-pub use membership::fresh_record;
-pub use membership::view;
 pub use reading::read;
 pub use reading::read_number;
 pub use settle::replay;

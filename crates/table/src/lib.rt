@@ -6,8 +6,8 @@ mod starting;
 
 pub use events::apply;
 pub use leaving::body;
+pub use membership::view;
 pub use reading::read;
 pub use reading::read_number;
-pub use replica::view;
 pub use starting::start;
 pub use starting::zero;

@@ -5,8 +5,8 @@ ghost use Rattle.hermes.specs.Node.{admit, firstRecord, start};
 ghost use Rattle.table.specs.Filling.{filledBy, zeroedBy};
 use hermes::Admission;
 use hermes::Record;
-use replica::admit;
-use replica::fresh_record;
+use membership::admit;
+use membership::fresh_record;
 
 // What a fresh start comes to: its admission, how many records it fills, and with what.
 struct Begun {

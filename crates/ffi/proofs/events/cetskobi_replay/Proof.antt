@@ -1,7 +1,7 @@
 -- `ffi::events::cetskobi_replay` meets its contract.
 use Rattle.ffi.proofs.Ends.{taken-here, done-quiet}
 use Rattle.ffi.proofs.Missing.{missed-done}
-use Rattle.replica.proofs.Asked.{quiet}
+use Rattle.replica.proofs.Outcomes.{quiet}
 use Rattle.hermes.specs.Order.{higher}
 use Rattle.hermes.specs.declared.event.Event.the-variants as event
 use mathlib.Core.List.{[]}

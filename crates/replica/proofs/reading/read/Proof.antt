@@ -1,6 +1,6 @@
 -- `replica::reading::read` meets its contract.
 use Rattle.hermes.specs.Event.{readPart}
-use Rattle.replica.proofs.Asked.{accepted, refused, same-record, no-part}
+use Rattle.replica.proofs.Outcomes.{accepted, refused, same-record, no-part}
 use lib.ListN.{length}
 use Rattle.hermes.specs.declared.event.Event.the-variants as event
 use mathlib.Core.Path.{sym, _∙_}

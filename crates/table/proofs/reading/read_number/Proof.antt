@@ -50,7 +50,7 @@ use Rattle.hermes.specs.declared.event.Event.the-variants.{Read}
 use Rattle.hermes.specs.Event.{Effect, moved}
 use Rattle.hermes.specs.Node.{lent, recordAt}
 use Rattle.hermes.specs.Node as node
-use Rattle.replica.proofs.Asked.{quiet}
+use Rattle.replica.proofs.Outcomes.{quiet}
 use Rattle.table.proofs.reading.record_at.Symbol as record-at-def
 use Rattle.table.proofs.reading.record_at.Symbol.{name as #table·reading·record-at}
 use Rattle.table.proofs.reading.record_at.Met as record-at-thm

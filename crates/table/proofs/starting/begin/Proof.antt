@@ -6,8 +6,8 @@ use Rattle.table.proofs.starting.begin.Statement.{statement}
 use Rattle.table.proofs.starting.begin.Tie as tie
 use Rattle.table.proofs.starting.begin.Reads as reads
 use Rattle.table.proofs.starting.begin.Lts as lts
-use Rattle.replica.proofs.admit.Reads as admit-reads
-use Rattle.replica.proofs.fresh_record.Reads as fresh-record-reads
+use Rattle.membership.proofs.admit.Reads as admit-reads
+use Rattle.membership.proofs.fresh_record.Reads as fresh-record-reads
 use Rattle.table.proofs.starting.zero.Reads as zero-reads
 
 -- src/starting.rt:36:9
