@@ -1,4 +1,4 @@
--- `replica::guards::at_start` meets its contract.
+-- `guards::at_start` meets its contract.
 use Rattle.hermes.specs.Guards.{question1, question2, question3}
 use mathlib.Core.List.{[], _∷_}
 use mathlib.Core.Path.{sym, _∙_}

@@ -1,4 +1,4 @@
--- `replica::guards::every` meets its contract.
+-- `guards::every` meets its contract.
 use Rattle.hermes.specs.Guards.{question4, question5}
 use Rattle.hermes.specs.Node.{startQuestions}
 use mathlib.Core.List.{[], _∷_}

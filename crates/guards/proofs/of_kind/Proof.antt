@@ -1,4 +1,4 @@
--- `replica::guards::of_kind` meets its contract.
+-- `guards::of_kind` meets its contract.
 use borrow.Author.Needs.{needs}
 use Rattle.guards.proofs.of_kind.Statement.{statement}
 use Rattle.guards.proofs.of_kind.Tie as tie

@@ -1,4 +1,4 @@
--- `replica::guards::question` meets its contract.
+-- `guards::question` meets its contract.
 use borrow.Author.Needs.{needs}
 use Rattle.guards.proofs.question.Statement.{statement}
 use Rattle.guards.proofs.question.Tie as tie

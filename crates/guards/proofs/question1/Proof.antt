@@ -1,4 +1,4 @@
--- `replica::guards::question1` meets its contract.
+-- `guards::question1` meets its contract.
 use mathlib.Core.Path.{ap, _∙_}
 use mathlib.Core.Bool.{Bool, _&&_}
 use lib.Dec.{leb}

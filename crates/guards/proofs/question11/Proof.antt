@@ -1,4 +1,4 @@
--- `replica::guards::question11` meets its contract.
+-- `guards::question11` meets its contract.
 use mathlib.Core.Path.{refl, _∙_}
 use borrow.Author.Needs.{needs}
 use Rattle.guards.proofs.question11.Statement.{statement}

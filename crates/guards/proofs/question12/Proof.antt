@@ -1,4 +1,4 @@
--- `replica::guards::question12` meets its contract.
+-- `guards::question12` meets its contract.
 use borrow.Author.Needs.{needs}
 use Rattle.guards.proofs.question12.Statement.{statement}
 use Rattle.guards.proofs.question12.Tie as tie

@@ -1,4 +1,4 @@
--- `replica::guards::question17` meets its contract.
+-- `guards::question17` meets its contract.
 use mathlib.Core.Path.{ap, _∙_}
 use mathlib.Core.Bool.{Bool, _&&_, _||_}
 use mathlib.Core.List.{[], _∷_}

@@ -1,4 +1,4 @@
--- `replica::guards::question19` meets its contract.
+-- `guards::question19` meets its contract.
 use mathlib.Core.Path.{_∙_}
 use borrow.Author.Needs.{needs}
 use Rattle.guards.proofs.question19.Statement.{statement}

@@ -1,4 +1,4 @@
--- `replica::guards::question2` meets its contract.
+-- `guards::question2` meets its contract.
 use Rattle.hermes.proofs.Tests.{and-true, and-false}
 use borrow.Author.Tests.{le-leb, lt-leb}
 use borrow.Author.Needs.{needs}

@@ -1,4 +1,4 @@
--- `replica::guards::question3` meets its contract.
+-- `guards::question3` meets its contract.
 use mathlib.Core.Path.{_∙_}
 use borrow.Author.Needs.{needs}
 use Rattle.guards.proofs.question3.Statement.{statement}

@@ -1,4 +1,4 @@
--- `replica::guards::question5` meets its contract.
+-- `guards::question5` meets its contract.
 use mathlib.Core.Path.{ap, _∙_}
 use mathlib.Core.Bool.{Bool, _&&_, not}
 use lib.Dec.{leb}

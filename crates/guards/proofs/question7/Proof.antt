@@ -1,4 +1,4 @@
--- `replica::guards::question7` meets its contract.
+-- `guards::question7` meets its contract.
 use mathlib.Core.Path.{_∙_}
 use borrow.Author.Needs.{needs}
 use Rattle.guards.proofs.question7.Statement.{statement}

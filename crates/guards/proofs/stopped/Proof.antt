@@ -1,4 +1,4 @@
--- `replica::guards::stopped` meets its contract.
+-- `guards::stopped` meets its contract.
 use borrow.Author.Needs.{needs}
 use Rattle.guards.proofs.stopped.Statement.{statement}
 use Rattle.guards.proofs.stopped.Tie as tie

@@ -1,4 +1,4 @@
--- `replica::members::has` meets its contract.
+-- `members::has` meets its contract.
 use borrow.Author.Tests.{lt-ltb, le-ltb}
 use native.Mathlib.Omega.{arith}
 use Rattle.hermes.specs.Members.{has}

@@ -1,4 +1,4 @@
--- `replica::members::lowest` meets its contract.
+-- `members::lowest` meets its contract.
 use mathlib.Core.Path.{sym}
 use native.Mathlib.Nat.{lt-of-le-of-lt}
 use lib.Count.{trailing-le}

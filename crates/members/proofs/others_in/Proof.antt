@@ -1,4 +1,4 @@
--- `replica::members::others_in` meets its contract.
+-- `members::others_in` meets its contract.
 use mathlib.Core.Path.{sym, ap, _∙_}
 use Rattle.hermes.specs.Members.{within}
 use Rattle.hermes.proofs.Members.{others-within}

@@ -1,4 +1,4 @@
--- `replica::members::plural` meets its contract.
+-- `members::plural` meets its contract.
 use borrow.Author.Needs.{needs}
 use mathlib.Core.Path.{sym, ap}
 use lib.Dec.{leb}

@@ -1,4 +1,4 @@
--- `replica::members::with` meets its contract.
+-- `members::with` meets its contract.
 use borrow.Author.Tests.{lt-ltb, le-ltb}
 use native.Mathlib.Omega.{arith}
 use native.Mathlib.Nat.{one-mul}

@@ -1,4 +1,4 @@
--- `replica::members::within` meets its contract.
+-- `members::within` meets its contract.
 use borrow.Author.Needs.{needs}
 use Rattle.hermes.proofs.Members.{and-within}
 use Rattle.members.proofs.within.Statement.{statement}

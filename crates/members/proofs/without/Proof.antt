@@ -1,4 +1,4 @@
--- `replica::members::without` meets its contract.
+-- `members::without` meets its contract.
 use borrow.Author.Tests.{lt-ltb, le-ltb}
 use native.Mathlib.Omega.{arith}
 use native.Mathlib.Nat.{one-mul}

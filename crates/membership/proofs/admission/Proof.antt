@@ -1,4 +1,4 @@
--- `replica::membership::admission` meets its contract.
+-- `membership::admission` meets its contract.
 use borrow.Author.Needs.{needs}
 use Rattle.membership.proofs.admission.Statement.{statement}
 use Rattle.membership.proofs.admission.Tie as tie

@@ -1,4 +1,4 @@
--- `replica::membership::admit` meets its contract.
+-- `membership::admit` meets its contract.
 use mathlib.Core.Path.{refl, ap, _∙_}
 use Rattle.hermes.specs.declared.event.Replica.{Replica}
 use Rattle.guards.specs.declared.Asked.{Asked}

@@ -1,4 +1,4 @@
--- `replica::membership::asks_view` meets its contract.
+-- `membership::asks_view` meets its contract.
 use Rattle.hermes.specs.Guards.{question1, question3, question18, question19}
 use mathlib.Core.List.{[], _∷_}
 use mathlib.Core.Path.{sym, _∙_}

@@ -1,4 +1,4 @@
--- `replica::membership::fresh_record` meets its contract.
+-- `membership::fresh_record` meets its contract.
 use mathlib.Core.Path.{ap, _∙_}
 use Rattle.hermes.specs.Record.{freshRecord}
 use borrow.Author.Needs.{needs}
