@@ -19,32 +19,49 @@ use Rattle.hermes.specs.declared.event.Answer.{Answer}
 use Rattle.hermes.specs.declared.event.Answer.the-variants.{Accepted}
 use Rattle.hermes.specs.declared.event.Event.{Event}
 use Rattle.hermes.specs.declared.event.Event.the-variants.{Read, Write, Replay, Deliver, Validate, Resend}
-use Rattle.hermes.specs.Members.{with}
+use Rattle.hermes.specs.Members.{with, without}
 use Rattle.hermes.specs.Order.{higher, later}
 use Rattle.hermes.specs.Event.{leavingBody, recipients, sentBy, send, Step, step, movedBy, deliverStep, invStep, resent, refusal, effect}
 use Rattle.hermes.specs.Node.{Node, recordAt, recordOf, leaving, apply}
 use Rattle.record_bytes.specs.Layout.{tableOf}
 use Rattle.ffi.specs.declared.crossing.CetskobiAnswer.{CetskobiAnswer}
-use Rattle.ffi.specs.Crossing.{messageIn, answerOut}
-use Rattle.ffi.specs.Leaving.{pickLeft, leftOf, recipientsOf, bodyOf, Delivered, PartAt}
+use Rattle.ffi.specs.Crossing.{pickMessage, answerOut}
+use Rattle.ffi.specs.Leaving.{pickLeft, leftOf, cameFrom, recipientsOf, bodyOf, Delivered, PartAt}
 use Rattle.ffi.specs.Events.{Done}
 use Rattle.ffi.proofs.Parts.{cut, no-part}
 
--- ---- the part of the store
+-- ---- the kinds that the code tells apart
 
-part-of : (b c : Bool) (m : Message) (store : List ℕ) (i : ℕ) (r : Record) (o : Outgoing)
-    → o ≡ pickLeft b None (pickLeft c None (Sent m (record { sender = 0; epoch = 0; index = i })))
-    → PartAt store i (leavingBody o r store) (length (leavingBody o r store))
-part-of true c m store i r o e = rw e (no-part store i)
-part-of false true m store i r o e = rw e (no-part store i)
-part-of false false (Inv t) store i r o e = rw e (cut store i (r .len))
-part-of false false (Ack t) store i r o e = rw e (no-part store i)
-part-of false false (Val t) store i r o e = rw e (no-part store i)
+abbrev stamp : Timestamp
+stamp = record { version = 0; tie = 0 }
 
-pub part-left : (bytes store : List ℕ) (i kind : ℕ) (r : Record) (o : Outgoing) (part : List ℕ) → r ≡ recordAt (tableOf bytes) i → o ≡ leftOf kind i
+abbrev beyond : Timestamp
+beyond = record { version = 0; tie = 255 }
+
+-- an INV and a VAL go to all others
+pub to-others : (me : Replica) (sender : ℕ) (inv val : Bool)
+    → without (me .view) (me .number)
+        ≡ recipients me (Deliver (cameFrom sender)) (Sent (pickMessage inv (Inv stamp) (pickMessage false (Ack stamp) (pickMessage val (Val stamp) (Val beyond)))) (record { sender = 0; epoch = 0; index = 0 }))
+to-others me sender true val = refl
+to-others me sender false true = refl
+to-others me sender false false = refl
+
+-- what is no INV takes nothing along
+pub nothing-along : (bytes store : List ℕ) (i kind : ℕ) → eqb kind 1 ≡ false → PartAt store i (bodyOf bytes store i kind) 0
+nothing-along bytes store i kind h = rw h (go (eqb kind 0) (ltb 3 kind) (eqb kind 2) (eqb kind 3))
+  where
+    go : (none unknown ack val : Bool)
+        → PartAt store i (leavingBody (pickLeft none None (pickLeft unknown None (Sent (pickMessage false (Inv stamp) (pickMessage ack (Ack stamp) (pickMessage val (Val stamp) (Val beyond)))) (record { sender = 0; epoch = 0; index = i })))) (recordAt (tableOf bytes) i) store) 0
+    go true unknown ack val = no-part store i
+    go false true ack val = no-part store i
+    go false false true val = no-part store i
+    go false false false true = no-part store i
+    go false false false false = no-part store i
+
+-- an INV takes its record's part of the store along
+pub part-left : (bytes store : List ℕ) (i kind : ℕ) (r : Record) (o : Outgoing) (part : List ℕ) → kind ≡ 1 → r ≡ recordAt (tableOf bytes) i → o ≡ leftOf 1 i
     → part ≡ leavingBody o r store → PartAt store i (bodyOf bytes store i kind) (length part)
-part-left bytes store i kind r o part hr ho hp =
-    rw (hp, ho, hr) (part-of (eqb kind 0) (ltb 3 kind) (messageIn kind 0 0) store i (recordAt (tableOf bytes) i) (leftOf kind i) refl)
+part-left bytes store i kind r o part hk hr ho hp = rw (hk, hp, ho, hr) (cut store i (recordAt (tableOf bytes) i .len))
 
 -- ---- what left an event
 
