@@ -41,7 +41,7 @@ beyond = record { version = 0; tie = 255 }
 -- an INV and a VAL go to all others
 pub to-others : (me : Replica) (sender : ℕ) (inv val : Bool)
     → without (me .view) (me .number)
-        ≡ recipients me (Deliver (cameFrom sender)) (Sent (pickMessage inv (Inv stamp) (pickMessage false (Ack stamp) (pickMessage val (Val stamp) (Val beyond)))) (record { sender = 0; epoch = 0; index = 0 }))
+    ≡ recipients me (Deliver (cameFrom sender)) (Sent (pickMessage inv (Inv stamp) (pickMessage false (Ack stamp) (pickMessage val (Val stamp) (Val beyond)))) (record { sender = 0; epoch = 0; index = 0 }))
 to-others me sender true val = refl
 to-others me sender false true = refl
 to-others me sender false false = refl
