@@ -21,6 +21,7 @@ use Rattle.hermes.specs.declared.event.Event.{Event}
 use Rattle.hermes.specs.declared.event.Event.the-variants.{Read, Write, Replay, Deliver, Validate, Resend}
 use Rattle.hermes.specs.Members.{with, without}
 use Rattle.hermes.specs.Order.{higher, later}
+use Rattle.hermes.specs.Store.{valueAt}
 use Rattle.hermes.specs.Event.{leavingBody, recipients, sentBy, send, Step, step, movedBy, deliverStep, invStep, resent, refusal, effect}
 use Rattle.hermes.specs.Node.{Node, recordAt, recordOf, leaving, apply}
 use Rattle.record_bytes.specs.Layout.{tableOf}
@@ -59,9 +60,9 @@ nothing-along bytes store i kind h = rw h (go (eqb kind 0) (ltb 3 kind) (eqb kin
     go false false false false = no-part store i
 
 -- an INV takes its record's part of the store along
-pub part-left : (bytes store : List ℕ) (i kind : ℕ) (r : Record) (o : Outgoing) (part : List ℕ) → kind ≡ 1 → r ≡ recordAt (tableOf bytes) i → o ≡ leftOf 1 i
-    → part ≡ leavingBody o r store → PartAt store i (bodyOf bytes store i kind) (length part)
-part-left bytes store i kind r o part hk hr ho hp = rw (hk, hp, ho, hr) (cut store i (recordAt (tableOf bytes) i .len))
+pub part-left : (bytes store : List ℕ) (i kind : ℕ) (r : Record) (part : List ℕ) → kind ≡ 1 → r ≡ recordAt (tableOf bytes) i → part ≡ valueAt i (r .len) store
+    → PartAt store i (bodyOf bytes store i kind) (length part)
+part-left bytes store i kind r part hk hr hp = rw (hk, hp, hr) (cut store i (recordAt (tableOf bytes) i .len))
 
 -- ---- what left an event
 

@@ -1,27 +1,8 @@
 // What leaves an event, for C and Rust: who gets it, and the bytes that it takes along.
 ghost use mathlib.Core.Path.{_≡_};
 ghost use Rattle.ffi.specs.Crossing.{replicaOf};
-ghost use Rattle.ffi.specs.Leaving.{leftOf, recipientsOf, bodyOf, PartAt};
+ghost use Rattle.ffi.specs.Leaving.{recipientsOf, bodyOf, PartAt};
 use crate::crossing::CetskobiReplica;
-use hermes::Header;
-use hermes::Message;
-use hermes::Outgoing;
-use hermes::Timestamp;
-
-// An invalidation about record i, stamped 0.
-fn inv_about(i: usize) -> Outgoing
-    ensures { λ o. ⌜ o ≡ leftOf 1 i ⌝ }
-{
-    let stamp = Timestamp { version: 0, tie: 0 };
-    Outgoing::Sent(
-        Message::Inv(stamp),
-        Header {
-            sender: 0,
-            epoch: 0,
-            index: i,
-        },
-    )
-}
 
 // Who gets a message of this kind: bit n for replica n. Only an ACK asks the sender of the message that was delivered; of an unknown kind it is nobody.
 #[no_mangle]
@@ -49,6 +30,6 @@ pub extern "C" fn cetskobi_body(table: &[u8], store: &[u8], i: usize, kind: u8) 
         return 0;
     }
     let r = record_bytes::record_at(table, i);
-    let part = replica::body(inv_about(i), r, store);
+    let part = outgoing::part(store, i, r.len as usize);
     part.len()
 }

@@ -177,7 +177,7 @@ fn keep(m: Member, o: Outgoing, bodies: &mut [u8], n: usize) -> usize
 {
     let held = m.held;
     let store = m.store;
-    let body = replica::body(o, held, &store);
+    let body = outgoing::body(o, held, &store);
     copy(body, bodies, Record::VALUE_MAX * n);
     body.len()
 }

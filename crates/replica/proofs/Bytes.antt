@@ -1,11 +1,11 @@
--- Laws of a record's bytes in the store, as the code copies them and hands them out.
-use Prim.Native.Nat.{ℕ, zero, suc, _+_, _-_, _*_, _/_, _≤_, _<_}
-use mathlib.Core.Path.{_≡_, refl, sym, ap, _∙_}
+-- Laws of a record's bytes in the store, as the code copies them.
+use Prim.Native.Nat.{ℕ, zero, suc, _+_, _-_, _*_, _≤_}
+use mathlib.Core.Path.{_≡_, refl}
 use mathlib.Core.List.{List, [], _∷_, _++_, append-assoc}
 use native.Mathlib.Omega.{arith}
-use lib.ListN.{length, getD, take, drop, replicate, length-drop, drop-of-length-le}
-use lib.Seq.{paste, take-all, take-nil}
-use Rattle.hermes.specs.Store.{padded, place, valueAt}
+use lib.ListN.{length, getD, take, drop, replicate}
+use lib.Seq.{paste, take-all}
+use Rattle.hermes.specs.Store.{padded, place}
 use Rattle.hermes.proofs.Store.{length-padded}
 
 getD-zeros : (v : List ℕ) (m k : ℕ) → getD (v ++ replicate m 0) k 0 ≡ getD v k 0
@@ -24,15 +24,3 @@ getD-padded v k = getD-zeros v (192 - length v) k
 pub paste-place : (i : ℕ) (v s : List ℕ) → length v ≤ 192 → paste s (192 * i) (padded v) 192 ≡ place i v s
 unfolding place
 paste-place i v s h = rw (take-all 192 (padded v) (omega (arith, length-padded v h))) (append-assoc (take (192 * i) s) (padded v) (drop (192 * i + 192) s))
-
--- ---- the part that is handed out, whether or not the store has it all
-
-pub part-none : (i n : ℕ) (s : List ℕ) → length s / 192 < i → take (length s - length s) (drop (length s) s) ≡ valueAt i n s
-part-none i n s h = rw (drop-of-length-le s {i = length s} (omega arith), drop-of-length-le s {i = 192 * i} (omega arith), take-nil {A = ℕ} (length s - length s), take-nil {A = ℕ} n)
-
-pub part-short : (i n : ℕ) (s : List ℕ) → length s - 192 * i < n → take (length s - 192 * i) (drop (192 * i) s) ≡ valueAt i n s
-part-short i n s h =
-    take-all (length s - 192 * i) (drop (192 * i) s) (simp length-drop (omega arith)) ∙ sym (take-all n (drop (192 * i) s) (simp length-drop (omega arith)))
-
-pub part-whole : (i n : ℕ) (s : List ℕ) → take (192 * i + n - 192 * i) (drop (192 * i) s) ≡ valueAt i n s
-part-whole i n s = let e : 192 * i + n - 192 * i ≡ n = omega arith in ap (λ (k : ℕ). take k (drop (192 * i) s)) e

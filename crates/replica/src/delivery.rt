@@ -8,7 +8,6 @@ ghost use Rattle.hermes.specs.Event.{common, own, effect, decide, invStep};
 ghost use Rattle.hermes.specs.Guards.{question10, question11, question12};
 ghost use Rattle.hermes.specs.declared.event.Event.the-variants.{Deliver};
 ghost use Rattle.guards.specs.Cascade.{asked};
-use crate::leaving;
 use crate::value;
 use guards::Asked;
 use hermes::Answer;
@@ -81,7 +80,7 @@ fn take_inv(
     ensures { λ m. ⌜ (m ≡ decide 0 i r (now (store .entry)) (invStep (later higher t (r .timestamp)) me i r t sender (now (value .entry))) .moved)
         × (now (store .exit) ≡ decide 0 i r (now (store .entry)) (invStep (later higher t (r .timestamp)) me i r t sender (now (value .entry))) .store) ⌝ }
 {
-    let ack = leaving::send(me, i, Message::Ack(t));
+    let ack = outgoing::send(me, i, Message::Ack(t));
     if t.later(r.timestamp) {
         value::place(store, i, value);
         return Moved {

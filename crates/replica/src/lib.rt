@@ -1,7 +1,6 @@
 // The engine of one replica: the events on one record by value, with the lent store.
 mod delivery;
 mod events;
-mod leaving;
 mod reading;
 mod settle;
 mod value;
@@ -9,8 +8,6 @@ mod writing;
 
 pub use delivery::deliver;
 pub use events::step;
-pub use leaving::body;
-pub use leaving::recipients;
 pub use reading::read;
 pub use reading::read_number;
 pub use settle::replay;

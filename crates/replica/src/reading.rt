@@ -5,7 +5,6 @@ ghost use Rattle.hermes.specs.Order.{higher};
 ghost use Rattle.hermes.specs.Event.{common, own, moved, readPart};
 ghost use Rattle.hermes.specs.declared.event.Event.the-variants.{Read};
 ghost use Rattle.guards.specs.Cascade.{asked};
-use crate::value;
 use guards::Asked;
 use hermes::Answer;
 use hermes::Moved;
@@ -53,5 +52,5 @@ pub fn read(me: Replica, count: usize, i: usize, r: Record, store: &[u8]) -> &[u
     let Asked::Passed(r1) = a else {
         return &store[..0];
     };
-    value::part(store, i, r1.len as usize)
+    outgoing::part(store, i, r1.len as usize)
 }

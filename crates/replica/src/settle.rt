@@ -5,7 +5,6 @@ ghost use Rattle.hermes.specs.Order.{higher};
 ghost use Rattle.hermes.specs.Event.{common, own, moved, resent};
 ghost use Rattle.hermes.specs.declared.event.Event.the-variants.{Replay, Validate, Resend};
 ghost use Rattle.guards.specs.Cascade.{asked};
-use crate::leaving;
 use guards::Asked;
 use hermes::Answer;
 use hermes::Message;
@@ -26,7 +25,7 @@ pub fn replay(me: Replica, count: usize, bytes: usize, i: usize, r: Record) -> M
     };
     let t = r1.timestamp;
     Moved {
-        answer: Answer::Accepted(leaving::send(me, i, Message::Inv(t))),
+        answer: Answer::Accepted(outgoing::send(me, i, Message::Inv(t))),
         after: r1.replay(me.number),
     }
 }
@@ -51,7 +50,7 @@ pub fn validate(me: Replica, count: usize, bytes: usize, i: usize, r: Record) ->
     };
     let t = r1.timestamp;
     Moved {
-        answer: Answer::Accepted(leaving::send(me, i, Message::Val(t))),
+        answer: Answer::Accepted(outgoing::send(me, i, Message::Val(t))),
         after: r1.validate(),
     }
 }
@@ -71,11 +70,11 @@ fn again(me: Replica, i: usize, s: State, t: Timestamp) -> Outgoing
     ensures { λ o. ⌜ o ≡ resent me i s t ⌝ }
 {
     match s {
-        State::Valid => leaving::send(me, i, Message::Val(t)),
+        State::Valid => outgoing::send(me, i, Message::Val(t)),
         State::Invalid => Outgoing::None,
         State::InvalidWrite => Outgoing::None,
-        State::Write => leaving::send(me, i, Message::Inv(t)),
-        State::Replay => leaving::send(me, i, Message::Inv(t)),
+        State::Write => outgoing::send(me, i, Message::Inv(t)),
+        State::Replay => outgoing::send(me, i, Message::Inv(t)),
     }
 }
 

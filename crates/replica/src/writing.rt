@@ -5,7 +5,6 @@ ghost use Rattle.hermes.specs.Order.{higher};
 ghost use Rattle.hermes.specs.Event.{common, own, effect};
 ghost use Rattle.hermes.specs.declared.event.Event.the-variants.{Write};
 ghost use Rattle.guards.specs.Cascade.{asked};
-use crate::leaving;
 use crate::value;
 use guards::Asked;
 use hermes::Answer;
@@ -52,7 +51,7 @@ pub fn write(
     let next = r1.write(me.number, value.len() as u8);
     let t = next.timestamp;
     Moved {
-        answer: Answer::Accepted(leaving::send(me, i, Message::Inv(t))),
+        answer: Answer::Accepted(outgoing::send(me, i, Message::Inv(t))),
         after: next,
     }
 }

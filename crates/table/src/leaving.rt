@@ -20,5 +20,5 @@ pub fn body<'a>(out: Outgoing, table: &[Record], store: &'a [u8]) -> &'a [u8]
     ensures { λ p. ⌜ now p ≡ leaving out (now (table .entry)) (now (store .entry)) ⌝ }
 {
     let r = record_at(table, index_of(out));
-    replica::body(out, r, store)
+    outgoing::body(out, r, store)
 }

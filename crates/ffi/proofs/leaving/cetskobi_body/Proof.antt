@@ -11,15 +11,15 @@ returns c = let v = c .before .before .before .args in nothing-along (v .table .
 record-at-requires : tie.Need-record-at-requires
 record-at-requires c κs = search needs
 
-inv-about-requires : tie.Need-inv-about-requires
-inv-about-requires c κs = search needs
+cast-part : tie.Need-cast-part
+cast-part c = search needs
 
-body-requires : tie.Need-body-requires
-body-requires c κs = search needs
+part-requires : tie.Need-part-requires
+part-requires c κs = search needs
 
 returns-2 : tie.Need-returns-2
-returns-2 c = let v = c .before .before .before .before .before .before .args in part-left (v .table .now) (v .store .now) (v .i) (v .kind) _ _ _ (c .before .before .before .if1 .left) (c .before .before .record-at .ensures) (c .before .inv-about .ensures) (c .body .ensures)
+returns-2 c = let v = c .before .before .before .before .before .before .args in part-left (v .table .now) (v .store .now) (v .i) (v .kind) _ _ (c .before .before .before .if1 .left) (c .before .before .record-at .ensures) (c .part .ensures)
 
 pub cetskobi-body-spec : {M : Type 1} → statement M
 cetskobi-body-spec =
-    tie.close (tie.spec returns record-at-requires inv-about-requires body-requires returns-2)
+    tie.close (tie.spec returns record-at-requires cast-part part-requires returns-2)

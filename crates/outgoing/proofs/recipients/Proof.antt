@@ -1,7 +1,7 @@
--- `replica::leaving::recipients` meets its contract.
+-- `outgoing::recipients` meets its contract.
 use borrow.Author.Needs.{needs}
-use Rattle.replica.proofs.leaving.recipients.Statement.{statement}
-use Rattle.replica.proofs.leaving.recipients.Tie as tie
+use Rattle.outgoing.proofs.recipients.Statement.{statement}
+use Rattle.outgoing.proofs.recipients.Tie as tie
 
 enum-known-out : tie.Need-enum-known-out
 enum-known-out c = search needs

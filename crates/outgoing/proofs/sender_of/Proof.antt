@@ -1,7 +1,7 @@
--- `replica::leaving::sender_of` meets its contract.
+-- `outgoing::sender_of` meets its contract.
 use borrow.Author.Needs.{needs}
-use Rattle.replica.proofs.leaving.sender_of.Statement.{statement}
-use Rattle.replica.proofs.leaving.sender_of.Tie as tie
+use Rattle.outgoing.proofs.sender_of.Statement.{statement}
+use Rattle.outgoing.proofs.sender_of.Tie as tie
 
 enum-told : tie.Need-enum-told
 enum-told c = search needs

@@ -1,8 +1,8 @@
--- `replica::value::part` meets its contract.
-use Rattle.replica.proofs.Bytes.{part-none, part-short, part-whole}
+-- `outgoing::part` meets its contract.
+use Rattle.outgoing.proofs.Parts.{part-none, part-short, part-whole}
 use borrow.Author.Needs.{needs}
-use Rattle.replica.proofs.value.part.Statement.{statement}
-use Rattle.replica.proofs.value.part.Tie as tie
+use Rattle.outgoing.proofs.part.Statement.{statement}
+use Rattle.outgoing.proofs.part.Tie as tie
 
 sub-result : tie.Need-sub-result
 sub-result c = search needs

@@ -1,7 +1,7 @@
-// What leaves an event: the message with its header, the bytes that it takes along, and who gets it.
+// What leaves an event: the message with its header, the bytes that it takes along, and who gets it. A read hands out the same bytes.
 ghost use mathlib.Core.Path.{_≡_};
+ghost use Rattle.hermes.specs.Store.{valueAt};
 ghost use Rattle.hermes.specs.Event.{send, leavingBody, senderOf, recipients};
-use crate::value;
 use hermes::Event;
 use hermes::Header;
 use hermes::Message;
@@ -10,7 +10,7 @@ use hermes::Record;
 use hermes::Replica;
 
 // A message about record i, with the replica's number and epoch.
-pub(crate) fn send(me: Replica, i: usize, message: Message) -> Outgoing
+pub fn send(me: Replica, i: usize, message: Message) -> Outgoing
     ensures { λ o. ⌜ o ≡ send me i message ⌝ }
 {
     Outgoing::Sent(
@@ -23,13 +23,28 @@ pub(crate) fn send(me: Replica, i: usize, message: Message) -> Outgoing
     )
 }
 
+// The first n bytes of record i, as a part of the store, or as many of them as it has.
+pub fn part(store: &[u8], i: usize, n: usize) -> &[u8]
+    ensures { λ r. ⌜ now r ≡ valueAt i n (now (store .entry)) ⌝ }
+{
+    let size = store.len();
+    if size / Record::VALUE_MAX < i {
+        return &store[size..];
+    }
+    let at = Record::VALUE_MAX * i;
+    if size - at < n {
+        return &store[at..];
+    }
+    &store[at..at + n]
+}
+
 // The bytes that an invalidation takes along, as a part of the store; the empty part otherwise. r is the record as the event left it.
 pub fn body(out: Outgoing, r: Record, store: &[u8]) -> &[u8]
     ensures { λ p. ⌜ now p ≡ leavingBody out r (now (store .entry)) ⌝ }
 {
     match out {
         Outgoing::Sent(message, header) => match message {
-            Message::Inv(_) => value::part(store, header.index, r.len as usize),
+            Message::Inv(_) => part(store, header.index, r.len as usize),
             Message::Ack(_) => &store[..0],
             Message::Val(_) => &store[..0],
         },

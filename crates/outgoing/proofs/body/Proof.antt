@@ -1,7 +1,7 @@
--- `replica::leaving::body` meets its contract.
+-- `outgoing::body` meets its contract.
 use borrow.Author.Needs.{needs}
-use Rattle.replica.proofs.leaving.body.Statement.{statement}
-use Rattle.replica.proofs.leaving.body.Tie as tie
+use Rattle.outgoing.proofs.body.Statement.{statement}
+use Rattle.outgoing.proofs.body.Tie as tie
 
 enum-known-out : tie.Need-enum-known-out
 enum-known-out c = search needs

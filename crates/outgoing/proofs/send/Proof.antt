@@ -1,0 +1,10 @@
+-- `outgoing::send` meets its contract.
+use mathlib.Core.Path.{refl}
+use Rattle.outgoing.proofs.send.Statement.{statement}
+use Rattle.outgoing.proofs.send.Tie as tie
+
+returns : tie.Need-returns
+returns c = refl
+
+pub send-spec : {M : Type 1} → statement M
+send-spec = tie.close (tie.spec returns)
