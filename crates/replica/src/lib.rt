@@ -1,5 +1,6 @@
 // The engine of one replica: the events on one record by value, with the lent store.
 mod delivery;
+mod ends;
 mod events;
 mod reading;
 mod settle;

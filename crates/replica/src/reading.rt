@@ -5,6 +5,7 @@ ghost use Rattle.hermes.specs.Order.{higher};
 ghost use Rattle.hermes.specs.Event.{common, own, moved, readPart};
 ghost use Rattle.hermes.specs.declared.event.Event.the-variants.{Read};
 ghost use Rattle.guards.specs.Cascade.{asked};
+use crate::ends;
 use guards::Asked;
 use hermes::Answer;
 use hermes::Moved;
@@ -30,10 +31,7 @@ pub(crate) fn read_event(me: Replica, count: usize, bytes: usize, i: usize, r: R
     let Asked::Passed(r1) = a else {
         return guards::stopped(a, r);
     };
-    Moved {
-        answer: Answer::Accepted(Outgoing::None),
-        after: r1,
-    }
+    ends::accepted(Outgoing::None, r1)
 }
 
 // The number of a read of record i, r.

@@ -5,8 +5,8 @@ ghost use Rattle.hermes.specs.Order.{higher};
 ghost use Rattle.hermes.specs.Event.{common, own, moved, resent};
 ghost use Rattle.hermes.specs.declared.event.Event.the-variants.{Replay, Validate, Resend};
 ghost use Rattle.guards.specs.Cascade.{asked};
+use crate::ends;
 use guards::Asked;
-use hermes::Answer;
 use hermes::Message;
 use hermes::Moved;
 use hermes::Outgoing;
@@ -24,10 +24,7 @@ pub fn replay(me: Replica, count: usize, bytes: usize, i: usize, r: Record) -> M
         return guards::stopped(a, r);
     };
     let t = r1.timestamp;
-    Moved {
-        answer: Answer::Accepted(outgoing::send(me, i, Message::Inv(t))),
-        after: r1.replay(me.number),
-    }
+    ends::accepted(outgoing::send(me, i, Message::Inv(t)), r1.replay(me.number))
 }
 
 fn asks_replay(me: Replica, count: usize, bytes: usize, i: usize, r: Record) -> Asked
@@ -49,10 +46,7 @@ pub fn validate(me: Replica, count: usize, bytes: usize, i: usize, r: Record) ->
         return guards::stopped(a, r);
     };
     let t = r1.timestamp;
-    Moved {
-        answer: Answer::Accepted(outgoing::send(me, i, Message::Val(t))),
-        after: r1.validate(),
-    }
+    ends::accepted(outgoing::send(me, i, Message::Val(t)), r1.validate())
 }
 
 fn asks_validate(me: Replica, count: usize, bytes: usize, i: usize, r: Record) -> Asked
@@ -87,10 +81,7 @@ pub fn resend(me: Replica, count: usize, bytes: usize, i: usize, r: Record) -> M
         return guards::stopped(a, r);
     };
     let s = r1.state;
-    Moved {
-        answer: Answer::Accepted(again(me, i, s, r1.timestamp)),
-        after: r1,
-    }
+    ends::accepted(again(me, i, s, r1.timestamp), r1)
 }
 
 fn asks_resend(me: Replica, count: usize, bytes: usize, i: usize, r: Record) -> Asked

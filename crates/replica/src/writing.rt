@@ -5,9 +5,9 @@ ghost use Rattle.hermes.specs.Order.{higher};
 ghost use Rattle.hermes.specs.Event.{common, own, effect};
 ghost use Rattle.hermes.specs.declared.event.Event.the-variants.{Write};
 ghost use Rattle.guards.specs.Cascade.{asked};
+use crate::ends;
 use crate::value;
 use guards::Asked;
-use hermes::Answer;
 use hermes::Message;
 use hermes::Moved;
 use hermes::Record;
@@ -50,8 +50,5 @@ pub fn write(
     value::place(store, i, value);
     let next = r1.write(me.number, value.len() as u8);
     let t = next.timestamp;
-    Moved {
-        answer: Answer::Accepted(outgoing::send(me, i, Message::Inv(t))),
-        after: next,
-    }
+    ends::accepted(outgoing::send(me, i, Message::Inv(t)), next)
 }

@@ -40,11 +40,17 @@ enum-told-2 c = search needs
 acknowledge-requires : tie.Need-acknowledge-requires
 acknowledge-requires c κs = search needs
 
+accepted-requires : tie.Need-accepted-requires
+accepted-requires c κs = search needs
+
 enum-told-3 : tie.Need-enum-told-3
 enum-told-3 c = search needs
 
 validate-requires : tie.Need-validate-requires
 validate-requires c κs = search needs
+
+accepted-requires-2 : tie.Need-accepted-requires-2
+accepted-requires-2 c κs = search needs
 
 same-length : tie.Need-same-length
 same-length c = search needs
@@ -55,11 +61,11 @@ returns-2 c = let v = c .before .before .before .before .before .before .before 
 
 returns-3 : tie.Need-returns-3
 unfolding effect
-returns-3 c = let v = c .before .before .before .before .before .before .before .before .before .args in (rw (c .acknowledge .ensures) (ap (λ y. movedBy 0 (c .before .before .before .before .a .given .0 .0) (deliverStep higher (v .me) (v .i) (c .before .before .before .before .a .given .0 .0) (v .m .sender) y (v .value .now))) (sym (c .before .enum-told2 .given .1)) ∙ goes (v .me) (v .count) (length (v .store .now)) (v .i) (v .r) (event.Deliver (v .m)) (length (v .value .now)) _ (c .before .before .before .before .a .given .0 .0) (λ x. deliverStep higher (v .me) (v .i) x (v .m .sender) (v .m .message) (v .value .now)) (c .before .before .before .before .before .before .asks .ensures) (c .before .before .before .before .a .given .1)), ap (λ y. storing (v .i) ((deliverStep higher (v .me) (v .i) (c .before .before .before .before .a .given .0 .0) (v .m .sender) y (v .value .now)) .stored) (v .store .now)) (sym (c .before .enum-told2 .given .1)) ∙ goes-store (v .me) (v .count) (length (v .store .now)) (v .i) (v .r) (event.Deliver (v .m)) (length (v .value .now)) _ (c .before .before .before .before .a .given .0 .0) (v .store .now) (λ x. deliverStep higher (v .me) (v .i) x (v .m .sender) (v .m .message) (v .value .now)) (c .before .before .before .before .before .before .asks .ensures) (c .before .before .before .before .a .given .1))
+returns-3 c = let v = c .before .before .before .before .before .before .before .before .before .before .args in (c .accepted .ensures ∙ rw (c .before .acknowledge .ensures) (ap (λ y. movedBy 0 (c .before .before .before .before .before .a .given .0 .0) (deliverStep higher (v .me) (v .i) (c .before .before .before .before .before .a .given .0 .0) (v .m .sender) y (v .value .now))) (sym (c .before .before .enum-told2 .given .1)) ∙ goes (v .me) (v .count) (length (v .store .now)) (v .i) (v .r) (event.Deliver (v .m)) (length (v .value .now)) _ (c .before .before .before .before .before .a .given .0 .0) (λ x. deliverStep higher (v .me) (v .i) x (v .m .sender) (v .m .message) (v .value .now)) (c .before .before .before .before .before .before .before .asks .ensures) (c .before .before .before .before .before .a .given .1)), ap (λ y. storing (v .i) ((deliverStep higher (v .me) (v .i) (c .before .before .before .before .before .a .given .0 .0) (v .m .sender) y (v .value .now)) .stored) (v .store .now)) (sym (c .before .before .enum-told2 .given .1)) ∙ goes-store (v .me) (v .count) (length (v .store .now)) (v .i) (v .r) (event.Deliver (v .m)) (length (v .value .now)) _ (c .before .before .before .before .before .a .given .0 .0) (v .store .now) (λ x. deliverStep higher (v .me) (v .i) x (v .m .sender) (v .m .message) (v .value .now)) (c .before .before .before .before .before .before .before .asks .ensures) (c .before .before .before .before .before .a .given .1))
 
 returns-4 : tie.Need-returns-4
 unfolding effect
-returns-4 c = let v = c .before .before .before .before .before .before .before .before .before .args in (rw (c .validate .ensures) (ap (λ y. movedBy 0 (c .before .before .before .before .a .given .0 .0) (deliverStep higher (v .me) (v .i) (c .before .before .before .before .a .given .0 .0) (v .m .sender) y (v .value .now))) (sym (c .before .enum-told3 .given .1)) ∙ goes (v .me) (v .count) (length (v .store .now)) (v .i) (v .r) (event.Deliver (v .m)) (length (v .value .now)) _ (c .before .before .before .before .a .given .0 .0) (λ x. deliverStep higher (v .me) (v .i) x (v .m .sender) (v .m .message) (v .value .now)) (c .before .before .before .before .before .before .asks .ensures) (c .before .before .before .before .a .given .1)), ap (λ y. storing (v .i) ((deliverStep higher (v .me) (v .i) (c .before .before .before .before .a .given .0 .0) (v .m .sender) y (v .value .now)) .stored) (v .store .now)) (sym (c .before .enum-told3 .given .1)) ∙ goes-store (v .me) (v .count) (length (v .store .now)) (v .i) (v .r) (event.Deliver (v .m)) (length (v .value .now)) _ (c .before .before .before .before .a .given .0 .0) (v .store .now) (λ x. deliverStep higher (v .me) (v .i) x (v .m .sender) (v .m .message) (v .value .now)) (c .before .before .before .before .before .before .asks .ensures) (c .before .before .before .before .a .given .1))
+returns-4 c = let v = c .before .before .before .before .before .before .before .before .before .before .args in (c .accepted2 .ensures ∙ rw (c .before .validate .ensures) (ap (λ y. movedBy 0 (c .before .before .before .before .before .a .given .0 .0) (deliverStep higher (v .me) (v .i) (c .before .before .before .before .before .a .given .0 .0) (v .m .sender) y (v .value .now))) (sym (c .before .before .enum-told3 .given .1)) ∙ goes (v .me) (v .count) (length (v .store .now)) (v .i) (v .r) (event.Deliver (v .m)) (length (v .value .now)) _ (c .before .before .before .before .before .a .given .0 .0) (λ x. deliverStep higher (v .me) (v .i) x (v .m .sender) (v .m .message) (v .value .now)) (c .before .before .before .before .before .before .before .asks .ensures) (c .before .before .before .before .before .a .given .1)), ap (λ y. storing (v .i) ((deliverStep higher (v .me) (v .i) (c .before .before .before .before .before .a .given .0 .0) (v .m .sender) y (v .value .now)) .stored) (v .store .now)) (sym (c .before .before .enum-told3 .given .1)) ∙ goes-store (v .me) (v .count) (length (v .store .now)) (v .i) (v .r) (event.Deliver (v .m)) (length (v .value .now)) _ (c .before .before .before .before .before .a .given .0 .0) (v .store .now) (λ x. deliverStep higher (v .me) (v .i) x (v .m .sender) (v .m .message) (v .value .now)) (c .before .before .before .before .before .before .before .asks .ensures) (c .before .before .before .before .before .a .given .1))
 
 pub deliver-spec : {M : Type 1} → statement M
 deliver-spec =
@@ -73,9 +79,9 @@ deliver-spec =
     enum-known-message
     take-inv-requires
     enum-told-2
-    acknowledge-requires
+    acknowledge-requires accepted-requires
     enum-told-3
-    validate-requires
+    validate-requires accepted-requires-2
     same-length
     returns-2
     returns-3

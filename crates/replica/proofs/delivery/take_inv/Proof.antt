@@ -20,16 +20,24 @@ cast-take-invalidation c = search needs
 take-invalidation-requires : tie.Need-take-invalidation-requires
 take-invalidation-requires c κs = search needs
 
+accepted-requires : tie.Need-accepted-requires
+accepted-requires c κs = search needs
+
 same-length : tie.Need-same-length
 same-length c = search needs
 
 returns : tie.Need-returns
-returns c = (rw (c .before .before .before .before .before .before .before .send .ensures, c .take-invalidation .ensures, ← c .before .before .before .before .before .before .later .ensures, c .before .before .before .before .before .if1 .taken), c .before .before .before .place .ensures ∙ rw (← c .before .before .before .before .before .before .later .ensures, c .before .before .before .before .before .if1 .taken))
+returns c = (c .accepted .ensures ∙ rw (c .before .before .before .before .before .before .before .before .send .ensures, c .before .take-invalidation .ensures, ← c .before .before .before .before .before .before .before .later .ensures, c .before .before .before .before .before .before .if1 .taken), c .before .before .before .before .place .ensures ∙ rw (← c .before .before .before .before .before .before .before .later .ensures, c .before .before .before .before .before .before .if1 .taken))
+
+accepted-requires-2 : tie.Need-accepted-requires-2
+accepted-requires-2 c κs = search needs
 
 returns-2 : tie.Need-returns-2
 returns-2 c = (
-  ap (λ o. record { answer = Accepted o; after = c .before .before .before .before .before .args .r }) (c .before .before .send .ensures) ∙ rw (← c .before .later .ensures, c .if1 .left),
-  rw (← c .before .later .ensures, c .if1 .left),
+  c .accepted2 .ensures
+      ∙ ap (λ o. record { answer = Accepted o; after = c .before .before .before .before .before .before .args .r }) (c .before .before .before .send .ensures)
+      ∙ rw (← c .before .before .later .ensures, c .before .if1 .left),
+  rw (← c .before .before .later .ensures, c .before .if1 .left),
 )
 
 pub take-inv-spec : {M : Type 1} → statement M
@@ -40,7 +48,7 @@ take-inv-spec =
     later-requires
     place-requires
     cast-take-invalidation
-    take-invalidation-requires
+    take-invalidation-requires accepted-requires
     same-length
-    returns
+    returns accepted-requires-2
     returns-2)

@@ -26,9 +26,12 @@ returns c = let v = c .before .before .before .before .args in c .stopped .ensur
 again-requires : tie.Need-again-requires
 again-requires c κs = search needs
 
+accepted-requires : tie.Need-accepted-requires
+accepted-requires c κs = search needs
+
 returns-2 : tie.Need-returns-2
 unfolding moved
-returns-2 c = let v = c .before .before .before .before .before .args in rw (c .again .ensures) (goes (v .me) (v .count) (v .bytes) (v .i) (v .r) event.Resend 0 _ (c .before .before .a .given .0 .0) (λ x. resendStep (v .me) (v .i) x) (c .before .before .before .before .asks-resend .ensures) (c .before .before .a .given .1))
+returns-2 c = let v = c .before .before .before .before .before .before .args in c .accepted .ensures ∙ rw (c .before .again .ensures) (goes (v .me) (v .count) (v .bytes) (v .i) (v .r) event.Resend 0 _ (c .before .before .before .a .given .0 .0) (λ x. resendStep (v .me) (v .i) x) (c .before .before .before .before .before .asks-resend .ensures) (c .before .before .before .a .given .1))
 
 pub resend-spec : {M : Type 1} → statement M
 resend-spec =
@@ -39,5 +42,5 @@ resend-spec =
     enum-told
     stopped-requires
     returns
-    again-requires
+    again-requires accepted-requires
     returns-2)

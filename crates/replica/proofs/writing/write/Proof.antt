@@ -41,12 +41,15 @@ write-requires c κs = search needs
 send-requires : tie.Need-send-requires
 send-requires c κs = search needs
 
+accepted-requires : tie.Need-accepted-requires
+accepted-requires c κs = search needs
+
 same-length : tie.Need-same-length
 same-length c = search needs
 
 returns-2 : tie.Need-returns-2
 unfolding effect
-returns-2 c = let v = c .before .before .before .before .before .before .before .before .before .before .before .before .before .args in (rw (c .send .ensures, c .before .before .write .ensures) (goes (v .me) (v .count) (length (v .store .now)) (v .i) (v .r) event.Write (length (v .value .now)) _ (c .before .before .before .before .before .before .before .before .a .given .0 .0) (λ x. writeStep (v .me) (v .i) x (v .value .now)) (c .before .before .before .before .before .before .before .before .before .before .asks .ensures) (c .before .before .before .before .before .before .before .before .a .given .1)), c .before .before .before .before .before .place .ensures ∙ goes-store (v .me) (v .count) (length (v .store .now)) (v .i) (v .r) event.Write (length (v .value .now)) _ (c .before .before .before .before .before .before .before .before .a .given .0 .0) (v .store .now) (λ x. writeStep (v .me) (v .i) x (v .value .now)) (c .before .before .before .before .before .before .before .before .before .before .asks .ensures) (c .before .before .before .before .before .before .before .before .a .given .1))
+returns-2 c = let v = c .before .before .before .before .before .before .before .before .before .before .before .before .before .before .args in (c .accepted .ensures ∙ rw (c .before .send .ensures, c .before .before .before .write .ensures) (goes (v .me) (v .count) (length (v .store .now)) (v .i) (v .r) event.Write (length (v .value .now)) _ (c .before .before .before .before .before .before .before .before .before .a .given .0 .0) (λ x. writeStep (v .me) (v .i) x (v .value .now)) (c .before .before .before .before .before .before .before .before .before .before .before .asks .ensures) (c .before .before .before .before .before .before .before .before .before .a .given .1)), c .before .before .before .before .before .before .place .ensures ∙ goes-store (v .me) (v .count) (length (v .store .now)) (v .i) (v .r) event.Write (length (v .value .now)) _ (c .before .before .before .before .before .before .before .before .before .a .given .0 .0) (v .store .now) (λ x. writeStep (v .me) (v .i) x (v .value .now)) (c .before .before .before .before .before .before .before .before .before .before .before .asks .ensures) (c .before .before .before .before .before .before .before .before .before .a .given .1))
 
 pub write-spec : {M : Type 1} → statement M
 write-spec =
@@ -60,6 +63,6 @@ write-spec =
     place-requires
     cast-write
     write-requires
-    send-requires
+    send-requires accepted-requires
     same-length
     returns-2)
