@@ -28,6 +28,34 @@ fn the_guide_has_this_code() {
     assert_eq!(blocks, [include_str!("guide/code.rs")]);
 }
 
+/// The rows of the guide's table with this head, their cells.
+fn rows(head: &str) -> Vec<Vec<String>> {
+    let guide = fs::read_to_string("../../docs/GUIDE.md").expect("the guide");
+    let (_, rest) = guide.split_once(&format!("{head}\n")).expect("the table");
+    let rows = rest.lines().skip(1).take_while(|l| l.starts_with('|'));
+    let cells = |row: &str| -> Vec<String> {
+        let row = row.strip_prefix('|').and_then(|r| r.strip_suffix('|'));
+        let cells = row.expect("a row").split('|');
+        cells.map(|c| c.trim().to_owned()).collect()
+    };
+    rows.map(cells).collect()
+}
+
+#[test]
+fn the_guide_lists_every_refusal_with_its_meaning() {
+    let rows = rows("| no. | meaning | asked by | what to do |");
+    let listed: Vec<(String, String)> = rows
+        .iter()
+        .map(|row| (row[0].clone(), row[1].clone()))
+        .collect();
+    let all: Vec<(String, String)> = Refusal::ALL
+        .iter()
+        .map(|r| (r.number().to_string(), r.meaning().to_owned()))
+        .collect();
+    assert_eq!(listed, all);
+    assert!(rows.iter().all(|r| !r[2].is_empty() && !r[3].is_empty()));
+}
+
 /// The ring of the worked morning.
 const RING: usize = 7;
 
@@ -158,6 +186,92 @@ fn a_worked_morning() {
     one.is(State::Valid, second, 1 << 2);
     two.came(&val);
     for hut in [&one, &two] {
+        hut.shows(b"robin, wing 74");
+    }
+}
+
+/// A set as the guide has it, such as {1,5}.
+fn set(text: &str) -> Members {
+    let numbers = text.trim_matches(['{', '}']).split(',');
+    numbers
+        .map(|n| n.parse::<u8>().expect("a number"))
+        .collect()
+}
+
+/// The rows of the morning's table, event by event on the library.
+#[test]
+fn the_worked_morning_is_told_as_it_happens() {
+    let mut huts = three();
+    // All that was sent. A delivery is of the last that its row can mean.
+    let mut sent: Vec<(u8, Envelope, Vec<u8>)> = Vec::new();
+    let rows = rows("| at | event | answer | record 7 there | what leaves |");
+    assert_eq!(rows.len(), 26);
+    for row in rows {
+        let [at, event, answer, record, leaves] = &row[..] else {
+            panic!("{row:?}");
+        };
+        let (at, answer): (u8, u8) = (at.parse().unwrap(), answer.parse().unwrap());
+        let hut = huts.iter_mut().find(|h| h.laptop.number() == at).unwrap();
+        let laptop = &mut hut.laptop;
+        let event = event.split(", 8 ticks later").next().unwrap();
+        let (verb, rest) = event.split_once(' ').unwrap_or((event, ""));
+        let mut from = 0;
+        let result = match verb {
+            "write" => laptop.write(RING, rest.trim_matches('"').as_bytes()),
+            "read" => laptop.read(RING).map(|_| None),
+            "validate" => laptop.validate(RING),
+            "replay" => laptop.replay(RING),
+            "resend" => laptop.resend(RING),
+            "change_view" => {
+                let (epoch, view) = rest.split_once(", ").unwrap();
+                let view = set(view);
+                laptop
+                    .change_view(epoch.parse().unwrap(), view)
+                    .map(|()| None)
+            }
+            "deliver" => {
+                let is_meant = |(sender, e, _): &&(u8, Envelope, Vec<u8>)| {
+                    let named = e.message.to_string() == rest;
+                    let from = rest == format!("ACK from {sender}");
+                    *sender != at && (named || from && matches!(e.message, Message::Ack(_)))
+                };
+                let (sender, envelope, body) = sent.iter().rfind(is_meant).expect("was sent");
+                from = *sender;
+                laptop.deliver(envelope, body)
+            }
+            _ => panic!("no event: {event}"),
+        };
+        assert_eq!(
+            result.map_or_else(Refusal::number, |_| 0),
+            answer,
+            "{row:?}"
+        );
+        // The record: its letter, its stamp, and who has acknowledged, if that is told.
+        let r = laptop.record(RING).unwrap();
+        let now = format!("{} {}", r.state.letter(), r.timestamp);
+        match record.split_once(", acknowledged by ") {
+            Some((told, acks)) => assert_eq!((told, set(acks).bits()), (&*now, r.acks), "{row:?}"),
+            None => assert_eq!(*record, now, "{row:?}"),
+        }
+        // What leaves: the message first, and to whom, if that is told.
+        let left = result.unwrap_or(None);
+        let told = left.map_or("".to_owned(), |e| e.message.to_string());
+        let message = ["INV", "ACK", "VAL"]
+            .iter()
+            .any(|kind| leaves.starts_with(kind));
+        assert!(
+            leaves.starts_with(&told) && message == left.is_some(),
+            "{row:?}"
+        );
+        if let Some(envelope) = left {
+            if let Some(to) = leaves.strip_prefix(&format!("{told} to {{")) {
+                let to = to.split('}').next().unwrap();
+                assert_eq!(set(to), laptop.recipients(&envelope, from), "{row:?}");
+            }
+            sent.push((at, envelope, laptop.body(&envelope).to_vec()));
+        }
+    }
+    for hut in &huts[..2] {
         hut.shows(b"robin, wing 74");
     }
 }

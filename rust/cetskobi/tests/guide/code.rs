@@ -132,7 +132,8 @@ impl Hut {
     fn go_over(&mut self) {
         for ring in 0..self.clocks.len() {
             if self.laptop.record(ring).is_some_and(|r| r.timestamp.version > 0) {
-                self.help(ring, WAIT_FIRST);
+                let wait = if self.laptop.shows_valid(ring) { self.clocks[ring].1 } else { WAIT_FIRST };
+                self.help(ring, wait.max(WAIT_FIRST)); // an old VAL keeps its long wait
             }
         }
         self.send();
