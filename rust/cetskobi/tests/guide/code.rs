@@ -80,7 +80,7 @@ impl Hut {
         Ok(left.map(|envelope| envelope.message.timestamp()))
     }
 
-    /// Asked after every packet and every change of view, until it is no longer Waiting.
+    /// Asked after every packet and every change of view: while it is Waiting, and better to the end of the day.
     fn fate(&self, ring: usize, saved: Timestamp) -> Fate {
         match self.laptop.record(ring) {
             Some(r) if r.timestamp == saved && r.state == State::Valid => Fate::Finished,
