@@ -20,7 +20,7 @@ struct packet {
     size_t len;
     uint16_t to;
 };
-static struct packet air[8];
+static struct packet air[32];
 static size_t in_air;
 
 void radio_send(const uint8_t *packet, size_t len, uint16_t to) {
@@ -257,11 +257,48 @@ static void packets_are_shared(void) {
     in_air = 0;
 }
 
+/* What is in the air reaches whom it shall, of those awake, but every third copy is lost. */
+static void poor_link(size_t awake) {
+    static unsigned copies;
+    static struct packet now[sizeof air / sizeof *air];
+    struct hut *huts[] = {&one, &two, &five};
+    size_t count = in_air;
+    memcpy(now, air, sizeof air);
+    in_air = 0;
+    for (size_t n = 0; n < count; n++)
+        for (size_t k = 0; k < awake; k++)
+            if (now[n].to >> huts[k]->me.number & 1 && copies++ % 3 != 0) came(huts[k], now[n]);
+}
+
+static void ticks_alone_settle_every_record(void) {
+    fresh();
+    struct hut *huts[] = {&one, &two, &five};
+    for (int now = 0; now < 6000; now++) {
+        if (now == 2000) CHECK(view_came(&one, 1, SET_1 | SET_2) == 0);
+        if (now == 2100) CHECK(view_came(&two, 1, SET_1 | SET_2) == 0);
+        size_t awake = now < 1900 ? 3 : 2; /* 5 dies */
+        poor_link(awake);
+        for (size_t k = 0; k < awake; k++) {
+            size_t i = ((size_t)now / 12 + 5 * k) % 30, len;
+            struct stamp seen, saved;
+            if (now < 1890 && (size_t)now % 12 == 4 * k && open_ring(huts[k], i, &len, &seen) == 0)
+                CHECK(save(huts[k], i, seen, (const uint8_t *)&now, sizeof now, &saved) == 0);
+            tick(huts[k]);
+        }
+    }
+    for (size_t i = 0; i < 30; i++) {
+        const struct cetskobi_record *r = &one.table[i], *s = &two.table[i];
+        CHECK(r->version > 0 && r->state == VALID && s->state == VALID && r->version == s->version && r->tie == s->tie);
+    }
+    CHECK(memcmp(one.store, two.store, sizeof one.store) == 0);
+}
+
 int main(void) {
     a_worked_morning();
     two_saves_at_once();
     a_save_since_the_ring_was_opened();
     waits();
     packets_are_shared();
+    ticks_alone_settle_every_record();
     return failed;
 }

@@ -28,6 +28,30 @@ fn the_guide_has_this_code() {
     assert_eq!(blocks, [include_str!("guide/code.rs")]);
 }
 
+/// The name that a heading has in a link.
+fn anchor(heading: &str) -> String {
+    let heading = heading.trim_start_matches('#').trim().to_lowercase();
+    let kept = heading
+        .chars()
+        .filter(|c| c.is_alphanumeric() || " -_".contains(*c));
+    kept.map(|c| if c == ' ' { '-' } else { c }).collect()
+}
+
+#[test]
+fn the_guides_links_lead_somewhere() {
+    let guide = fs::read_to_string("../../docs/GUIDE.md").expect("the guide");
+    let headings = guide.lines().filter(|l| l.starts_with("##"));
+    let anchors: Vec<String> = headings.map(anchor).collect();
+    let links = guide.split("](").skip(1);
+    for link in links.filter_map(|rest| rest.split(')').next()) {
+        let leads = match link.strip_prefix('#') {
+            Some(name) => anchors.iter().any(|a| a == name),
+            None => fs::exists(format!("../../docs/{link}")).expect("a path"),
+        };
+        assert!(leads, "{link}");
+    }
+}
+
 /// The rows of the guide's table with this head, their cells.
 fn rows(head: &str) -> Vec<Vec<String>> {
     let guide = fs::read_to_string("../../docs/GUIDE.md").expect("the guide");
@@ -344,6 +368,65 @@ fn a_save_that_nobody_heard_dies_with_its_laptop() {
         assert!(hut.all_sent().is_empty());
         hut.shows(b"");
     }
+}
+
+/// Laptops 2 and 5 saved together, and 2 was overtaken; then 5 died.
+fn overtaken() -> (Hut, Hut, [Vec<u8>; 2]) {
+    let [one, mut two, mut five] = three();
+    two.saves(b"two's");
+    five.saves(b"five's");
+    let (of_two, of_five) = (two.sent([1, 5]), five.sent([1, 2]));
+    two.came(&of_five);
+    two.sent([5]);
+    two.is(State::InvalidWrite, stamp(1, 5), 0);
+    (one, two, [of_two, of_five])
+}
+
+/// 1 and 2 hand each other their packets until none is sent.
+fn exchange(one: &mut Hut, two: &mut Hut) {
+    loop {
+        let (from_one, from_two) = (one.all_sent(), two.all_sent());
+        if from_one.is_empty() && from_two.is_empty() {
+            return;
+        }
+        from_one.iter().for_each(|(p, _)| two.came(p));
+        from_two.iter().for_each(|(p, _)| one.came(p));
+    }
+}
+
+#[test]
+fn an_overtaken_laptop_is_freed_by_a_replay_elsewhere() {
+    let (mut one, mut two, [_, of_five]) = overtaken();
+    one.came(&of_five);
+    one.sent([5]);
+    for hut in [&mut two, &mut one] {
+        hut.view_came(1, 6).expect("accepted");
+    }
+    exchange(&mut one, &mut two);
+    one.shows(b"five's");
+    two.shows(b"five's");
+}
+
+#[test]
+fn an_overtaken_laptop_is_freed_by_a_save_elsewhere() {
+    let (mut one, mut two, [of_two, _]) = overtaken();
+    one.came(&of_two);
+    one.sent([2]);
+    for hut in [&mut one, &mut two] {
+        hut.view_came(1, 6).expect("accepted");
+        hut.ticks(3000);
+        assert!(hut.all_sent().is_empty());
+    }
+    // 1 waits for 2, and 2 cannot help itself.
+    one.is(State::Invalid, stamp(1, 2), 0);
+    two.is(State::InvalidWrite, stamp(1, 5), 0);
+    assert_eq!(one.open(RING), Err(Refusal::NotReadable));
+    let left = one.laptop.write(RING, b"one's").expect("accepted");
+    one.put_again(RING, left, WAIT_FIRST);
+    one.send();
+    exchange(&mut one, &mut two);
+    one.shows(b"one's");
+    two.shows(b"one's");
 }
 
 #[test]
