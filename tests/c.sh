@@ -1,5 +1,5 @@
 #!/bin/sh
-# The engine from C: every function of the header called and its answers checked, the guide's code compiled, and the example's output as
+# The engine from C: every function of the header called and its answers checked, the guide's code played, and the example's output as
 # stored.
 cd "$(dirname "$0")/.." || exit 2
 if ! command -v cc >/dev/null 2>&1; then
@@ -21,10 +21,10 @@ compile() { # STANDARD ARGUMENT..
 compile c11 tests/c/every_function.c -Wl,--whole-archive target/staticlib/libffi.a target/staticlib/libplaying.a -Wl,--no-whole-archive \
     -o "$dir/every_function"
 compile c99 examples/c/two_laptops.c target/staticlib/libffi.a -o "$dir/two_laptops"
-# The guide's code.
-awk '/^```c$/ { in_c = 1; next } /^```$/ { in_c = 0 } in_c' docs/GUIDE.md >"$dir/guide.c"
-[ -s "$dir/guide.c" ] || bad=1
-compile c99 -c "$dir/guide.c" -o "$dir/guide.o"
+# The guide's code, with a program that plays the guide's morning.
+awk '/^```c$/ { in_c = 1; next } /^```$/ { in_c = 0 } in_c' docs/GUIDE.md >"$dir/guide_code.c"
+[ -s "$dir/guide_code.c" ] || bad=1
+compile c99 -I"$dir" tests/c/guide.c target/staticlib/libffi.a -o "$dir/guide"
 [ $bad = 0 ] || exit 1
 
 for name in $(grep -o 'cetskobi_[a-z_]*(' include/cetskobi.h | sort -u); do
@@ -34,6 +34,7 @@ for name in $(grep -o 'cetskobi_[a-z_]*(' include/cetskobi.h | sort -u); do
     fi
 done
 "$dir/every_function" || bad=1
+"$dir/guide" || bad=1
 "$dir/two_laptops" >"$dir/out" || bad=1
 if ! cmp -s examples/c/two_laptops.out "$dir/out"; then
     echo "differs: examples/c/two_laptops"

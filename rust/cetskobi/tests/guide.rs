@@ -1,11 +1,11 @@
-//! The Rust code of docs/GUIDE.md compiles as it stands there, and plays the
-//! guide's worked morning.
+//! The Rust code of docs/GUIDE.md compiles as it stands there, plays the guide's
+//! worked morning, and does what the guide says of saves and of the clock.
+//! tests/c/guide.c does the same in C.
 
-use cetskobi::{Members, State, Timestamp};
 use std::fs;
 
 // The guide's block to the letter, as wide as it is there: the first test
-// compares the two. It brings the other names of the crate.
+// compares the two. It brings the names of the crate.
 include!("guide/code.rs");
 
 /// What the guide leaves to its reader: here packets and who shall hear them.
@@ -28,44 +28,98 @@ fn the_guide_has_this_code() {
     assert_eq!(blocks, [include_str!("guide/code.rs")]);
 }
 
+/// The name that a heading has in a link.
+fn anchor(heading: &str) -> String {
+    let heading = heading.trim_start_matches('#').trim().to_lowercase();
+    let kept = heading
+        .chars()
+        .filter(|c| c.is_alphanumeric() || " -_".contains(*c));
+    kept.map(|c| if c == ' ' { '-' } else { c }).collect()
+}
+
+#[test]
+fn the_guides_links_lead_somewhere() {
+    let guide = fs::read_to_string("../../docs/GUIDE.md").expect("the guide");
+    let headings = guide.lines().filter(|l| l.starts_with("##"));
+    let anchors: Vec<String> = headings.map(anchor).collect();
+    let links = guide.split("](").skip(1);
+    for link in links.filter_map(|rest| rest.split(')').next()) {
+        let leads = match link.strip_prefix('#') {
+            Some(name) => anchors.iter().any(|a| a == name),
+            None => fs::exists(format!("../../docs/{link}")).expect("a path"),
+        };
+        assert!(leads, "{link}");
+    }
+}
+
+/// The rows of the guide's table with this head, their cells.
+fn rows(head: &str) -> Vec<Vec<String>> {
+    let guide = fs::read_to_string("../../docs/GUIDE.md").expect("the guide");
+    let (_, rest) = guide.split_once(&format!("{head}\n")).expect("the table");
+    let rows = rest.lines().skip(1).take_while(|l| l.starts_with('|'));
+    let cells = |row: &str| -> Vec<String> {
+        let row = row.strip_prefix('|').and_then(|r| r.strip_suffix('|'));
+        let cells = row.expect("a row").split('|');
+        cells.map(|c| c.trim().to_owned()).collect()
+    };
+    rows.map(cells).collect()
+}
+
+#[test]
+fn the_guide_lists_every_refusal_with_its_meaning() {
+    let rows = rows("| no. | meaning | asked by | what to do |");
+    let listed: Vec<(String, String)> = rows
+        .iter()
+        .map(|row| (row[0].clone(), row[1].clone()))
+        .collect();
+    let all: Vec<(String, String)> = Refusal::ALL
+        .iter()
+        .map(|r| (r.number().to_string(), r.meaning().to_owned()))
+        .collect();
+    assert_eq!(listed, all);
+    assert!(rows.iter().all(|r| !r[2].is_empty() && !r[3].is_empty()));
+}
+
 /// The ring of the worked morning.
 const RING: usize = 7;
 
-/// A laptop of it, with its radio.
-struct Hut {
-    laptop: Laptop,
-    radio: Radio,
+fn stamp(version: u32, tie: u8) -> Timestamp {
+    Timestamp { version, tie }
+}
+
+/// Laptops 1, 2 and 5 with eight records each.
+fn three() -> [Hut; 3] {
+    [1, 2, 5].map(|number| {
+        Hut::begin(number, 38, 8, Radio::default()).expect("a laptop of the first view")
+    })
 }
 
 impl Hut {
-    fn new(number: u8) -> Hut {
-        Hut {
-            laptop: Laptop::start(number, 38, 8).expect("a laptop of the first view"),
-            radio: Radio::default(),
+    /// Opens the ring and saves it at once.
+    fn saves(&mut self, text: &[u8]) -> Timestamp {
+        let (_, seen) = self.open(RING).expect("shown");
+        let saved = self.save(RING, seen, text).expect("accepted");
+        saved.expect("nothing came between")
+    }
+
+    fn came(&mut self, packet: &[u8]) {
+        self.packet_came(packet).expect("a packet");
+    }
+
+    fn ticks(&mut self, count: u32) {
+        for _ in 0..count {
+            self.tick();
         }
     }
 
-    fn save(&mut self, text: &[u8]) {
-        save(&mut self.laptop, &mut self.radio, RING, text).expect("accepted");
+    /// The packets that were sent since.
+    fn all_sent(&mut self) -> Vec<(Vec<u8>, Members)> {
+        std::mem::take(&mut self.radio.sent)
     }
 
-    fn came(&mut self, bytes: &[u8]) {
-        packet_came(&mut self.laptop, &mut self.radio, bytes).expect("a packet");
-    }
-
-    fn resend(&mut self) {
-        let left = self.laptop.resend(RING).expect("accepted");
-        send_left(&self.laptop, &mut self.radio, left, 0).expect("a packet");
-    }
-
-    fn strike_off(&mut self, epoch: u32, view: u16) {
-        strike_off(&mut self.laptop, &mut self.radio, epoch, view).expect("accepted");
-    }
-
-    /// The one packet about the ring that was sent since, and to whom.
+    /// The one packet that was sent since, and to whom.
     fn sent<const N: usize>(&mut self, to: [u8; N]) -> Vec<u8> {
-        let mut sent = std::mem::take(&mut self.radio.sent);
-        sent.retain(|(bytes, _)| packet::fetch(bytes, 0).is_ok_and(|m| m.envelope.record == RING));
+        let sent = self.all_sent();
         let [(bytes, members)] = &sent[..] else {
             panic!("{} packets", sent.len());
         };
@@ -73,41 +127,45 @@ impl Hut {
         bytes.clone()
     }
 
-    /// Nothing was sent, and this is the record now.
-    fn is(&self, state: State, (version, tie): (u32, u8), acks: u16) {
+    /// Nothing was sent, and this is the ring's record now.
+    fn is(&self, state: State, timestamp: Timestamp, acks: u16) {
         assert!(self.radio.sent.is_empty());
         let r = self.laptop.record(RING).expect("the ring");
-        let timestamp = Timestamp { version, tie };
         assert_eq!((r.state, r.timestamp, r.acks), (state, timestamp, acks));
+    }
+
+    fn shows(&self, text: &[u8]) {
+        assert_eq!(self.laptop.read(RING), Ok(text));
     }
 }
 
-fn message_of(packet: &[u8]) -> Message {
-    packet::fetch(packet, 0)
-        .expect("a message")
-        .envelope
-        .message
+/// The packet's messages.
+fn messages(packet: &[u8]) -> Vec<Message> {
+    let messages = packet::messages(packet).expect("a packet");
+    messages.map(|m| m.envelope.message).collect()
 }
 
 #[test]
 fn a_worked_morning() {
-    let (mut one, mut two, mut five) = (Hut::new(1), Hut::new(2), Hut::new(5));
-    let (first, second) = ((1, 2), (2, 5));
-    let stamp = |(version, tie)| Timestamp { version, tie };
+    let [mut one, mut two, mut five] = three();
+    let (first, second) = (stamp(1, 2), stamp(2, 5));
 
     // 2 saves; 5 does not hear it.
-    two.save(b"robin, wing 73");
+    assert_eq!(two.saves(b"robin, wing 73"), first);
     let inv = two.sent([1, 5]);
     assert_eq!(inv.len(), 34);
-    assert_eq!(message_of(&inv), Message::Inv(stamp(first)));
+    assert_eq!(messages(&inv), [Message::Inv(first)]);
     one.came(&inv);
     let ack = one.sent([2]);
     one.is(State::Invalid, first, 0);
     two.came(&ack);
     two.is(State::Write, first, 1 << 1);
+    assert_eq!(two.fate(RING, first), Fate::Waiting);
 
     // Sent again, both hear it, and 2 finishes; 1 does not hear that.
-    two.resend();
+    two.ticks(7);
+    two.is(State::Write, first, 1 << 1);
+    two.tick();
     let inv = two.sent([1, 5]);
     one.came(&inv);
     two.came(&one.sent([2]));
@@ -118,39 +176,404 @@ fn a_worked_morning() {
     assert_eq!(ack, bytes);
     two.came(&ack);
     let val = two.sent([1, 5]);
-    assert_eq!(message_of(&val), Message::Val(stamp(first)));
+    assert_eq!(messages(&val), [Message::Val(first)]);
     two.is(State::Valid, first, 1 << 1 | 1 << 5);
+    assert_eq!(two.fate(RING, first), Fate::Finished);
     five.came(&val);
     five.is(State::Valid, first, 0);
-    assert_eq!(one.laptop.read(RING), Err(Refusal::NotReadable));
-    two.resend();
+    assert_eq!(one.open(RING), Err(Refusal::NotReadable));
+    two.ticks(8);
     one.came(&two.sent([1, 5]));
     one.is(State::Valid, first, 0);
-    assert_eq!(one.laptop.read(RING), Ok(&b"robin, wing 73"[..]));
+    one.shows(b"robin, wing 73");
 
     // 5 saves, only 1 hears it, and 5 dies.
-    five.save(b"robin, wing 74");
+    assert_eq!(five.saves(b"robin, wing 74"), second);
     one.came(&five.sent([1, 2]));
     one.sent([5]);
     one.is(State::Invalid, second, 0);
     assert_eq!(one.laptop.replay(RING), Err(Refusal::NotReplayable));
 
     // The warden strikes it off: 1 replays, and 2 hears of the view later.
-    one.strike_off(1, 6);
+    one.view_came(1, 6).expect("accepted");
     let inv = one.sent([2]);
-    assert_eq!(message_of(&inv), Message::Inv(stamp(second)));
+    assert_eq!(messages(&inv), [Message::Inv(second)]);
     one.is(State::Replay, second, 0);
     two.came(&inv);
     two.is(State::Valid, first, 1 << 1 | 1 << 5);
-    two.strike_off(1, 6);
-    two.sent([1]);
-    one.resend();
+    two.view_came(1, 6).expect("accepted");
+    one.came(&two.sent([1]));
+    one.ticks(8);
     two.came(&one.sent([2]));
     one.came(&two.sent([1]));
     let val = one.sent([2]);
     one.is(State::Valid, second, 1 << 2);
     two.came(&val);
     for hut in [&one, &two] {
-        assert_eq!(hut.laptop.read(RING), Ok(&b"robin, wing 74"[..]));
+        hut.shows(b"robin, wing 74");
+    }
+}
+
+/// A set as the guide has it, such as {1,5}.
+fn set(text: &str) -> Members {
+    let numbers = text.trim_matches(['{', '}']).split(',');
+    numbers
+        .map(|n| n.parse::<u8>().expect("a number"))
+        .collect()
+}
+
+/// The rows of the morning's table, event by event on the library.
+#[test]
+fn the_worked_morning_is_told_as_it_happens() {
+    let mut huts = three();
+    // All that was sent. A delivery is of the last that its row can mean.
+    let mut sent: Vec<(u8, Envelope, Vec<u8>)> = Vec::new();
+    let rows = rows("| at | event | answer | record 7 there | what leaves |");
+    assert_eq!(rows.len(), 26);
+    for row in rows {
+        let [at, event, answer, record, leaves] = &row[..] else {
+            panic!("{row:?}");
+        };
+        let (at, answer): (u8, u8) = (at.parse().unwrap(), answer.parse().unwrap());
+        let hut = huts.iter_mut().find(|h| h.laptop.number() == at).unwrap();
+        let laptop = &mut hut.laptop;
+        let event = event.split(", 8 ticks later").next().unwrap();
+        let (verb, rest) = event.split_once(' ').unwrap_or((event, ""));
+        let mut from = 0;
+        let result = match verb {
+            "write" => laptop.write(RING, rest.trim_matches('"').as_bytes()),
+            "read" => laptop.read(RING).map(|_| None),
+            "validate" => laptop.validate(RING),
+            "replay" => laptop.replay(RING),
+            "resend" => laptop.resend(RING),
+            "change_view" => {
+                let (epoch, view) = rest.split_once(", ").unwrap();
+                let view = set(view);
+                laptop
+                    .change_view(epoch.parse().unwrap(), view)
+                    .map(|()| None)
+            }
+            "deliver" => {
+                let is_meant = |(sender, e, _): &&(u8, Envelope, Vec<u8>)| {
+                    let named = e.message.to_string() == rest;
+                    let from = rest == format!("ACK from {sender}");
+                    *sender != at && (named || from && matches!(e.message, Message::Ack(_)))
+                };
+                let (sender, envelope, body) = sent.iter().rfind(is_meant).expect("was sent");
+                from = *sender;
+                laptop.deliver(envelope, body)
+            }
+            _ => panic!("no event: {event}"),
+        };
+        assert_eq!(
+            result.map_or_else(Refusal::number, |_| 0),
+            answer,
+            "{row:?}"
+        );
+        // The record: its letter, its stamp, and who has acknowledged, if that is told.
+        let r = laptop.record(RING).unwrap();
+        let now = format!("{} {}", r.state.letter(), r.timestamp);
+        match record.split_once(", acknowledged by ") {
+            Some((told, acks)) => assert_eq!((told, set(acks).bits()), (&*now, r.acks), "{row:?}"),
+            None => assert_eq!(*record, now, "{row:?}"),
+        }
+        // What leaves: the message first, and to whom, if that is told.
+        let left = result.unwrap_or(None);
+        let told = left.map_or("".to_owned(), |e| e.message.to_string());
+        let message = ["INV", "ACK", "VAL"]
+            .iter()
+            .any(|kind| leaves.starts_with(kind));
+        assert!(
+            leaves.starts_with(&told) && message == left.is_some(),
+            "{row:?}"
+        );
+        if let Some(envelope) = left {
+            if let Some(to) = leaves.strip_prefix(&format!("{told} to {{")) {
+                let to = to.split('}').next().unwrap();
+                assert_eq!(set(to), laptop.recipients(&envelope, from), "{row:?}");
+            }
+            sent.push((at, envelope, laptop.body(&envelope).to_vec()));
+        }
+    }
+    for hut in &huts[..2] {
+        hut.shows(b"robin, wing 74");
+    }
+}
+
+#[test]
+fn an_overtaken_text_is_gone_from_the_record() {
+    let [mut one, mut two, mut five] = three();
+    let (lesser, greater) = (two.saves(b"two's"), five.saves(b"five's"));
+    let (of_two, of_five) = (two.sent([1, 5]), five.sent([1, 2]));
+    two.came(&of_five);
+    assert_eq!(two.fate(RING, lesser), Fate::Replaced);
+    one.came(&of_two);
+    one.came(&of_five);
+    for hut in [&mut one, &mut two] {
+        five.came(&hut.all_sent().pop().expect("the last ACK").0);
+    }
+    let val = five.sent([1, 2]);
+    assert_eq!(five.fate(RING, greater), Fate::Finished);
+    // The winner's text stands, and the other is in nobody's store.
+    for hut in [&mut one, &mut two] {
+        hut.came(&val);
+        hut.shows(b"five's");
+        assert!(!hut.laptop.store().windows(5).any(|w| w == b"two's"));
+    }
+    assert!(!five.laptop.store().windows(5).any(|w| w == b"two's"));
+}
+
+#[test]
+fn a_finished_save_may_be_covered_by_one_that_crossed_it() {
+    let [mut one, mut two, mut five] = three();
+    let (lesser, _) = (two.saves(b"two's"), five.saves(b"five's"));
+    let (of_two, of_five) = (two.sent([1, 5]), five.sent([1, 2]));
+    // 5 acknowledges 2's save and keeps its own.
+    for hut in [&mut one, &mut five] {
+        hut.came(&of_two);
+        two.came(&hut.sent([2]));
+    }
+    assert_eq!(two.fate(RING, lesser), Fate::Finished);
+    two.came(&of_five);
+    assert_eq!(two.fate(RING, lesser), Fate::Replaced);
+}
+
+#[test]
+fn a_save_is_held_back_if_another_came_since_the_ring_was_opened() {
+    let [mut one, mut two, mut five] = three();
+    let (_, seen) = one.open(RING).expect("shown");
+    two.saves(b"two's");
+    let inv = two.sent([1, 5]);
+    one.came(&inv);
+    assert_eq!(one.save(RING, seen, b"late"), Err(Refusal::NotReadable));
+    for hut in [&mut one, &mut five] {
+        hut.came(&inv);
+        two.came(&hut.all_sent()[0].0);
+    }
+    one.came(&two.sent([1, 5]));
+    assert_eq!(one.save(RING, seen, b"late"), Ok(None));
+    one.shows(b"two's");
+    assert!(one.all_sent().is_empty());
+    // The engine itself would have taken it.
+    assert!(one.laptop.write(RING, b"late").is_ok());
+}
+
+#[test]
+fn a_save_that_nobody_heard_dies_with_its_laptop() {
+    let [mut one, mut two, mut five] = three();
+    five.saves(b"five's");
+    for hut in [&mut one, &mut two] {
+        hut.view_came(1, 6).expect("accepted");
+        hut.ticks(3000);
+        assert!(hut.all_sent().is_empty());
+        hut.shows(b"");
+    }
+}
+
+/// Laptops 2 and 5 saved together, and 2 was overtaken; then 5 died.
+fn overtaken() -> (Hut, Hut, [Vec<u8>; 2]) {
+    let [one, mut two, mut five] = three();
+    two.saves(b"two's");
+    five.saves(b"five's");
+    let (of_two, of_five) = (two.sent([1, 5]), five.sent([1, 2]));
+    two.came(&of_five);
+    two.sent([5]);
+    two.is(State::InvalidWrite, stamp(1, 5), 0);
+    (one, two, [of_two, of_five])
+}
+
+/// 1 and 2 hand each other their packets until none is sent.
+fn exchange(one: &mut Hut, two: &mut Hut) {
+    loop {
+        let (from_one, from_two) = (one.all_sent(), two.all_sent());
+        if from_one.is_empty() && from_two.is_empty() {
+            return;
+        }
+        from_one.iter().for_each(|(p, _)| two.came(p));
+        from_two.iter().for_each(|(p, _)| one.came(p));
+    }
+}
+
+#[test]
+fn an_overtaken_laptop_is_freed_by_a_replay_elsewhere() {
+    let (mut one, mut two, [_, of_five]) = overtaken();
+    one.came(&of_five);
+    one.sent([5]);
+    for hut in [&mut two, &mut one] {
+        hut.view_came(1, 6).expect("accepted");
+    }
+    exchange(&mut one, &mut two);
+    one.shows(b"five's");
+    two.shows(b"five's");
+}
+
+#[test]
+fn an_overtaken_laptop_is_freed_by_a_save_elsewhere() {
+    let (mut one, mut two, [of_two, _]) = overtaken();
+    one.came(&of_two);
+    one.sent([2]);
+    for hut in [&mut one, &mut two] {
+        hut.view_came(1, 6).expect("accepted");
+        hut.ticks(3000);
+        assert!(hut.all_sent().is_empty());
+    }
+    // 1 waits for 2, and 2 cannot help itself.
+    one.is(State::Invalid, stamp(1, 2), 0);
+    two.is(State::InvalidWrite, stamp(1, 5), 0);
+    assert_eq!(one.open(RING), Err(Refusal::NotReadable));
+    let left = one.laptop.write(RING, b"one's").expect("accepted");
+    one.put_again(RING, left, WAIT_FIRST);
+    one.send();
+    exchange(&mut one, &mut two);
+    one.shows(b"one's");
+    two.shows(b"one's");
+}
+
+#[test]
+fn waits_are_as_the_guide_has_them() {
+    let [mut one, mut two, mut five] = three();
+    two.saves(b"robin");
+    let sent_at = |hut: &mut Hut, ticks: u32| -> Vec<u32> {
+        let at = (1..=ticks).filter(|_| {
+            hut.tick();
+            !hut.all_sent().is_empty()
+        });
+        at.collect()
+    };
+    let inv = two.sent([1, 5]);
+    assert_eq!(sent_at(&mut two, 130), [8, 24, 56, 88, 120]);
+    for hut in [&mut one, &mut five] {
+        hut.came(&inv);
+        two.came(&hut.sent([2]));
+    }
+    two.sent([1, 5]);
+    let waits = [8, 24, 56, 120, 248, 504, 1016, 2040, 3064, 4088];
+    assert_eq!(sent_at(&mut two, 5000), waits);
+    // 1 has the text, and nothing of its own to send again.
+    assert_eq!(sent_at(&mut one, 5000), []);
+    // Struck off, it is silent.
+    two.view_came(1, 34).expect("accepted");
+    assert_eq!(sent_at(&mut two, 5000), []);
+}
+
+#[test]
+fn what_leaves_together_shares_packets() {
+    let start = |number| Hut::begin(number, 7, 200, Radio::default()).expect("a laptop");
+    let (mut zero, mut one, mut two) = (start(0), start(1), start(2));
+    for ring in 0..200 {
+        zero.save(ring, stamp(0, 0), b"robin").expect("accepted");
+    }
+    // 1 and 2 hear every one, and their answers come back.
+    for (packet, _) in zero.all_sent() {
+        for hut in [&mut one, &mut two] {
+            hut.came(&packet);
+            zero.came(&hut.sent([0]));
+        }
+    }
+    assert_eq!(zero.all_sent().len(), 200);
+    zero.view_came(1, 3).expect("accepted");
+    let counts = |sent: Vec<(Vec<u8>, Members)>| -> Vec<usize> {
+        sent.iter().map(|(p, _)| messages(p).len()).collect()
+    };
+    let sent = zero.all_sent();
+    assert_eq!(sent[0].0.len(), 1028);
+    assert_eq!(counts(sent), [64, 64, 64, 8]);
+    // Six full texts fill a packet.
+    let start = |number| Hut::begin(number, 3, 20, Radio::default()).expect("a laptop");
+    let mut zero = start(0);
+    for ring in 0..20 {
+        let full = [b'x'; 192];
+        zero.save(ring, stamp(0, 0), &full).expect("accepted");
+    }
+    assert_eq!(counts(zero.all_sent()), [1; 20]);
+    zero.ticks(8);
+    assert_eq!(counts(zero.all_sent()), [6, 6, 6, 2]);
+}
+
+/// Numbers without a pattern (xorshift).
+struct Dice(u64);
+
+impl Dice {
+    fn below(&mut self, n: usize) -> usize {
+        self.0 ^= self.0 << 13;
+        self.0 ^= self.0 >> 7;
+        self.0 ^= self.0 << 17;
+        (self.0 >> 33) as usize % n
+    }
+}
+
+/// Five laptops over a link that loses 30 of 100 packets to the end. One dies;
+/// one hears of that late. Nothing but packets, views and ticks reaches a hut,
+/// and every record settles.
+#[test]
+fn ticks_alone_settle_every_record() {
+    for seed in 1..=20 {
+        settles(Dice(seed));
+    }
+}
+
+fn settles(mut dice: Dice) {
+    const RINGS: usize = 60;
+    const DYING: usize = 4;
+    let hut = |n| Hut::begin(n, 0b1_1111, RINGS, Radio::default()).expect("a laptop");
+    let mut huts: Vec<Hut> = (0..5).map(hut).collect();
+    let mut air: Vec<(u32, usize, Vec<u8>)> = Vec::new();
+    let mut saves: Vec<(usize, usize, Timestamp, Vec<u8>)> = Vec::new();
+    for now in 0..20_000 {
+        let awake = if now < 600 { 5 } else { 4 };
+        // The warden strikes the dead laptop off; laptop 0 hears it late.
+        if now == 700 || now == 900 {
+            let told = if now == 700 { 1..4 } else { 0..1 };
+            for hut in &mut huts[told] {
+                hut.view_came(1, 0b0_1111).expect("accepted");
+            }
+        }
+        let (due, later) = air.into_iter().partition(|(at, _, _)| *at <= now);
+        air = later;
+        let due: Vec<(u32, usize, Vec<u8>)> = due;
+        for (_, to, packet) in due {
+            if to < awake {
+                huts[to].came(&packet);
+            }
+        }
+        // The dying laptop has rings of its own: see the guide on a record hung in invalid-write.
+        if now < 1200 && now % 3 == 0 {
+            let n = dice.below(awake);
+            let ring = match n {
+                DYING => dice.below(10),
+                _ => 10 + dice.below(RINGS - 10),
+            };
+            if let Ok((_, seen)) = huts[n].open(ring) {
+                let text = format!("{n} at {now}").into_bytes();
+                let saved = huts[n].save(ring, seen, &text).expect("accepted");
+                saves.push((n, ring, saved.expect("opened just now"), text));
+            }
+        }
+        for hut in &mut huts[..awake] {
+            hut.tick();
+            for (packet, to) in hut.all_sent() {
+                for to in to {
+                    if dice.below(100) >= 30 {
+                        let at = now + 1 + dice.below(5) as u32;
+                        air.push((at, usize::from(to), packet.clone()));
+                    }
+                }
+            }
+        }
+    }
+    assert!(saves.len() > 200);
+    for ring in 0..RINGS {
+        let (text, timestamp) = huts[0].open(ring).expect("settled");
+        for hut in &huts[1..4] {
+            assert_eq!(hut.open(ring), Ok((text, timestamp)));
+        }
+        // It is the text that was saved with that timestamp, and every fate is told.
+        for (n, _, saved, kept) in saves.iter().filter(|s| s.1 == ring && s.0 != DYING) {
+            let stands = *saved == timestamp;
+            let fate = huts[*n].fate(ring, *saved);
+            assert_eq!(fate == Fate::Finished, stands);
+            assert_eq!(fate == Fate::Replaced, !stands);
+            assert!(!stands || kept == text);
+        }
     }
 }

@@ -1,0 +1,331 @@
+//! docs/states.dot and the guide's table of the five states, tried on the
+//! library: on every record below an event is accepted exactly where it is
+//! drawn, and leads where the picture and the table say. tests/picture.sh
+//! compares docs/states.svg with the dot.
+
+use cetskobi::{Envelope, Laptop, Message, Record, Refusal, State, Timestamp};
+use std::collections::BTreeSet;
+use std::fs;
+
+/// Laptop 2 of {1,2,5}; its others, and a laptop that is not in the view.
+const ME: u8 = 2;
+const VIEW: u16 = 38;
+const OTHERS: [u8; 2] = [1, 5];
+const STRANGER: u8 = 7;
+
+/// The events as the guide's table has them in its first column, and the
+/// picture at its edges. `Other` is one that both say is refused in every state.
+#[derive(Clone, Copy, Debug, PartialEq, Eq)]
+enum Kind {
+    Read,
+    Write,
+    InvGreater,
+    InvNotGreater,
+    Ack,
+    Val,
+    Validate,
+    Replay,
+    ResendSelf,
+    Resend,
+    View,
+    Other(Refusal),
+}
+
+/// A kind with its words in the picture, and in the table.
+const WORDS: [(Kind, &str, &str); 11] = [
+    (Kind::Read, "read", "read"),
+    (Kind::Write, "write", "write"),
+    (Kind::InvGreater, "INV greater", "INV, greater stamp"),
+    (
+        Kind::InvNotGreater,
+        "INV not greater",
+        "INV, stamp not greater",
+    ),
+    (
+        Kind::Ack,
+        "ACK",
+        "ACK, of the last-write stamp, not yet counted",
+    ),
+    (Kind::Val, "VAL", "VAL, of the record's stamp"),
+    (
+        Kind::Validate,
+        "validate, all others acknowledged",
+        "validate, all others in the view acknowledged",
+    ),
+    (
+        Kind::Replay,
+        "replay, last writer not in the view",
+        "replay, last writer not in the view",
+    ),
+    (Kind::ResendSelf, "resend, last writer self", "resend"),
+    (Kind::Resend, "resend", "resend"),
+    (Kind::View, "view", "view"),
+];
+
+/// One event on one record: what it was, and what came of it.
+#[derive(Debug)]
+struct Tried {
+    kind: Kind,
+    from: State,
+    to: Result<State, Refusal>,
+    left: Option<Message>,
+}
+
+/// Sound records of every state: three last writers of note, the last-write
+/// timestamp equal to the record's or not, every set of acknowledgements.
+fn records() -> Vec<Record> {
+    let stamps = [(3, 2), (3, 5), (4, 1)].map(|(version, tie)| Timestamp { version, tie });
+    let mut records = Vec::new();
+    for state in State::ALL {
+        for timestamp in stamps {
+            for written in stamps {
+                for writer in [ME, OTHERS[0], OTHERS[1], STRANGER] {
+                    for acks in [0, 1 << 1, 1 << 5, 1 << 7, 1 << 1 | 1 << 5, 1 << 1 | 1 << 7] {
+                        records.push(Record {
+                            state,
+                            timestamp,
+                            writer,
+                            written,
+                            acks,
+                            len: 5,
+                        });
+                    }
+                }
+            }
+        }
+    }
+    records
+}
+
+/// Messages of each kind about record 0 with timestamps around those of the
+/// records, from both others.
+fn messages() -> Vec<Envelope> {
+    let stamps = [(3, 1), (3, 2), (3, 5), (4, 1), (4, 2)];
+    let stamps = stamps.map(|(version, tie)| Timestamp { version, tie });
+    let kinds = [Message::Inv, Message::Ack, Message::Val];
+    let mut messages = Vec::new();
+    for message in kinds {
+        for timestamp in stamps {
+            for sender in OTHERS {
+                messages.push(Envelope {
+                    sender,
+                    epoch: 0,
+                    record: 0,
+                    message: message(timestamp),
+                });
+            }
+        }
+    }
+    messages
+}
+
+/// What a message is to a record, by document 01's words.
+fn kind_of(r: &Record, envelope: &Envelope) -> Kind {
+    let counted = r.acks >> envelope.sender & 1 == 1;
+    match envelope.message {
+        Message::Inv(t) if t > r.timestamp => Kind::InvGreater,
+        Message::Inv(_) => Kind::InvNotGreater,
+        Message::Ack(t) if t == r.written && !counted => Kind::Ack,
+        Message::Ack(_) => Kind::Other(Refusal::StrayAck),
+        Message::Val(t) if t == r.timestamp => Kind::Val,
+        Message::Val(_) => Kind::Other(Refusal::StrayVal),
+    }
+}
+
+/// The record as the one of laptop 2.
+fn laptop(r: &Record) -> Laptop {
+    let fresh = Laptop::start(ME, VIEW, 1).expect("a laptop");
+    let (me, _, store) = fresh.into_parts();
+    Laptop::from_parts(me, r.to_bytes().to_vec(), store)
+}
+
+/// An event of a kind on a laptop with that record.
+fn attempt(
+    r: &Record,
+    kind: Kind,
+    event: impl FnOnce(&mut Laptop) -> Result<Option<Envelope>, Refusal>,
+) -> Tried {
+    let mut laptop = laptop(r);
+    let answer = event(&mut laptop);
+    let after = laptop.record(0).expect("a record");
+    if answer.is_err() {
+        assert_eq!(after, *r);
+    }
+    Tried {
+        kind,
+        from: r.state,
+        to: answer.map(|_| after.state),
+        left: answer.unwrap_or(None).map(|e| e.message),
+    }
+}
+
+/// Every event on every record.
+fn all_tried() -> Vec<Tried> {
+    let mut tried = Vec::new();
+    for r in records() {
+        let all_acknowledged = OTHERS.iter().all(|n| r.acks >> n & 1 == 1);
+        let validate = match all_acknowledged {
+            true => Kind::Validate,
+            false => Kind::Other(Refusal::NotFinished),
+        };
+        let replay = match VIEW >> r.writer & 1 {
+            0 => Kind::Replay,
+            _ => Kind::Other(Refusal::NotReplayable),
+        };
+        let resend = match r.writer {
+            ME => Kind::ResendSelf,
+            _ => Kind::Resend,
+        };
+        tried.push(attempt(&r, Kind::Read, |l| l.read(0).map(|_| None)));
+        tried.push(attempt(&r, Kind::Write, |l| l.write(0, b"robin")));
+        tried.push(attempt(&r, validate, |l| l.validate(0)));
+        tried.push(attempt(&r, replay, |l| l.replay(0)));
+        tried.push(attempt(&r, resend, |l| l.resend(0)));
+        tried.push(attempt(&r, Kind::View, |l| {
+            l.change_view(1, 6).map(|()| None)
+        }));
+        for m in messages() {
+            let body: &[u8] = match m.message {
+                Message::Inv(_) => b"wren",
+                _ => b"",
+            };
+            tried.push(attempt(&r, kind_of(&r, &m), |l| l.deliver(&m, body)));
+        }
+    }
+    tried
+}
+
+/// The event with these words in the picture.
+fn kind_named(words: &str) -> Kind {
+    let found = WORDS.iter().find(|w| w.1 == words);
+    found.unwrap_or_else(|| panic!("no event: {words}")).0
+}
+
+fn state_named(name: &str) -> State {
+    let found = State::ALL.into_iter().find(|s| s.to_string() == name);
+    found.unwrap_or_else(|| panic!("no state: {name}"))
+}
+
+/// An edge as text, so that sets of them compare.
+fn edge(from: State, to: State, kind: Kind) -> String {
+    format!("{from} -> {to}: {kind:?}")
+}
+
+/// The edges of the picture between states.
+fn drawn() -> BTreeSet<String> {
+    let dot = fs::read_to_string("../../docs/states.dot").expect("the picture");
+    let mut edges = BTreeSet::new();
+    for line in dot.lines().filter(|l| l.contains(" -> ")) {
+        let (ends, rest) = line.split_once(" [label=\"").expect("a label");
+        let (label, _) = rest.split_once('"').expect("its end");
+        let (from, to) = ends.trim().split_once(" -> ").expect("two ends");
+        if from == "start" {
+            assert_eq!((to, label.trim()), ("valid", "fresh start"));
+            continue;
+        }
+        let state = |name: &str| state_named(&name.replace('_', "-"));
+        // An event a line, but for the one that takes two.
+        let label = label.replace("writer \\n not", "writer not");
+        for words in label.split("\\n") {
+            let kind = kind_named(words.trim());
+            let new = edges.insert(edge(state(from), state(to), kind));
+            assert!(new, "drawn twice: {line}");
+        }
+    }
+    edges
+}
+
+#[test]
+fn a_fresh_start_is_valid() {
+    let fresh = Laptop::start(ME, VIEW, 1).expect("a laptop");
+    assert_eq!(fresh.record(0).map(|r| r.state), Some(State::Valid));
+}
+
+/// What is accepted is drawn, on every record where it is drawn; a view, which
+/// moves no state, is not.
+#[test]
+fn the_picture_is_what_the_library_does() {
+    let drawn = drawn();
+    let mut happened = BTreeSet::new();
+    for t in all_tried().iter().filter(|t| t.kind != Kind::View) {
+        // In write and replay a resend does not ask for the last writer.
+        let kind = match t.kind {
+            Kind::ResendSelf if t.from != State::Valid => Kind::Resend,
+            kind => kind,
+        };
+        match t.to {
+            Ok(to) => assert!(drawn.contains(&edge(t.from, to, kind)), "not drawn: {t:?}"),
+            Err(_) => {
+                let is_drawn = |to| drawn.contains(&edge(t.from, to, kind));
+                assert!(!State::ALL.into_iter().any(is_drawn), "refused: {t:?}");
+            }
+        }
+        happened.extend(t.to.ok().map(|to| edge(t.from, to, kind)));
+    }
+    assert_eq!(happened, drawn);
+}
+
+/// The guide's table: an event, what comes of it in each of the five states (a
+/// state or the number of a refusal), and what leaves.
+fn table() -> Vec<Vec<String>> {
+    let guide = fs::read_to_string("../../docs/GUIDE.md").expect("the guide");
+    let (_, rest) = guide
+        .split_once("| event | valid | invalid | invalid-write | write | replay | leaves |\n")
+        .expect("the table of the states");
+    let rows = rest.lines().skip(1).take_while(|l| l.starts_with('|'));
+    let cells = |row: &str| {
+        let cells = row.trim_matches('|').split('|');
+        cells.map(|c| c.trim().to_owned()).collect()
+    };
+    rows.map(cells).collect()
+}
+
+/// Of a cell with two parts the one that this event asks for: "valid, or 17"
+/// depends on the last writer, "INV; VAL from valid" on the state.
+fn part<'a>(cell: &'a str, t: &Tried) -> &'a str {
+    if let Some((own, others)) = cell.split_once(", or ") {
+        return if t.kind == Kind::ResendSelf {
+            own
+        } else {
+            others
+        };
+    }
+    match cell.split_once("; ") {
+        Some((_, from_valid)) if t.from == State::Valid => {
+            from_valid.strip_suffix(" from valid").expect("two parts")
+        }
+        Some((message, _)) => message,
+        None => cell,
+    }
+}
+
+#[test]
+fn the_table_is_what_the_library_does() {
+    let table = table();
+    let mut words: Vec<&str> = WORDS.iter().map(|w| w.2).collect();
+    words.dedup();
+    let events: Vec<&str> = table.iter().map(|row| row[0].as_str()).collect();
+    assert_eq!(events, words);
+    for t in all_tried() {
+        if let Kind::Other(refusal) = t.kind {
+            assert_eq!(t.to, Err(refusal), "{t:?}");
+            continue;
+        }
+        let words = WORDS.iter().find(|w| w.0 == t.kind).expect("its words");
+        let row = table.iter().find(|row| row[0] == words.2).expect("a row");
+        let (to, left) = match t.to {
+            Ok(state) => (state.to_string(), t.left),
+            Err(refusal) => (refusal.number().to_string(), None),
+        };
+        assert_eq!(part(&row[1 + t.from as usize], &t), to, "{t:?}");
+        if t.to.is_ok() {
+            let left = match left {
+                None => "nothing",
+                Some(Message::Inv(_)) => "INV",
+                Some(Message::Ack(_)) => "ACK",
+                Some(Message::Val(_)) => "VAL",
+            };
+            assert_eq!(part(&row[6], &t), left, "{t:?}");
+        }
+    }
+}

@@ -1,0 +1,304 @@
+/* Plays the guide's worked morning with the guide's C code, then what the guide says of saves, waits and packets.
+ * rust/cetskobi/tests/guide.rs does the same in Rust. Run by tests/c.sh, which takes guide_code.c out of docs/GUIDE.md. */
+#include "guide_code.c"
+#include <stdio.h>
+
+static int failed;
+
+#define CHECK(fact) check((fact), #fact, __LINE__)
+
+static void check(int holds, const char *fact, int line) {
+    if (!holds) {
+        printf("tests/c/guide.c:%d: not so: %s\n", line, fact);
+        failed = 1;
+    }
+}
+
+/* The radio: what was sent since it was last looked at. */
+struct packet {
+    uint8_t bytes[CETSKOBI_PACKET_MAX];
+    size_t len;
+    uint16_t to;
+};
+static struct packet air[32];
+static size_t in_air;
+
+void radio_send(const uint8_t *packet, size_t len, uint16_t to) {
+    if (in_air == sizeof air / sizeof *air) {
+        CHECK(!"more packets than there is room for");
+        return;
+    }
+    struct packet *p = &air[in_air++];
+    memcpy(p->bytes, packet, len);
+    p->len = len;
+    p->to = to;
+}
+
+/* The one packet in the air, which goes to this set. */
+static struct packet sent(uint16_t to) {
+    CHECK(in_air == 1 && air[0].to == to);
+    in_air = 0;
+    return air[0];
+}
+
+static void silent(void) {
+    CHECK(in_air == 0);
+    in_air = 0;
+}
+
+static void came(struct hut *h, struct packet p) {
+    packet_came(h, p.bytes, p.len);
+}
+
+static void ticks(struct hut *h, int count) {
+    for (int n = 0; n < count; n++) tick(h);
+}
+
+/* The packet is one message of this kind with this stamp. */
+static int carries(struct packet p, uint8_t kind, uint32_t version, uint8_t tie) {
+    struct cetskobi_fetched m = cetskobi_fetch(p.bytes, p.len, 0);
+    return p.bytes[1] == 1 && m.number == 0 && m.kind == kind && m.version == version && m.tie == tie;
+}
+
+/* The ring of the morning, the states of the header, and sets. */
+enum { RING = 7, INVALID = 1, INVALID_WRITE = 2, WRITE = 3, REPLAY = 4 };
+enum { SET_1 = 2, SET_2 = 4, SET_5 = 32, ALL = 38 };
+static struct hut one, two, five;
+
+static int is(const struct hut *h, uint8_t state, uint32_t version, uint8_t tie, uint16_t acks) {
+    const struct cetskobi_record *r = &h->table[RING];
+    return r->state == state && r->version == version && r->tie == tie && r->acks == acks;
+}
+
+static int shows(const struct hut *h, const char *text) {
+    struct stamp seen;
+    size_t len = 0;
+    return open_ring(h, RING, &len, &seen) == 0 && len == strlen(text) && memcmp(h->store + CETSKOBI_VALUE_MAX * RING, text, len) == 0;
+}
+
+/* Opens the ring and saves it at once. */
+static struct stamp saves(struct hut *h, const char *text) {
+    struct stamp seen = {0, 0}, saved = {0, 0};
+    size_t len;
+    CHECK(open_ring(h, RING, &len, &seen) == 0);
+    CHECK(save(h, RING, seen, (const uint8_t *)text, strlen(text), &saved) == 0);
+    return saved;
+}
+
+static void fresh(void) {
+    CHECK(begin(&one, 1, ALL) == 0 && begin(&two, 2, ALL) == 0 && begin(&five, 5, ALL) == 0);
+}
+
+static void a_worked_morning(void) {
+    fresh();
+    CHECK(is(&one, VALID, 0, 1, 0));
+
+    /* 2 saves; 5 does not hear it. */
+    struct stamp first = saves(&two, "robin, wing 73");
+    struct packet inv = sent(SET_1 | SET_5), ack, val;
+    CHECK(inv.len == 34 && carries(inv, CETSKOBI_INV, 1, 2));
+    came(&one, inv);
+    ack = sent(SET_2);
+    CHECK(carries(ack, CETSKOBI_ACK, 1, 2) && is(&one, INVALID, 1, 2, 0));
+    came(&two, ack);
+    silent();
+    CHECK(is(&two, WRITE, 1, 2, SET_1) && fate_of(&two, RING, first) == WAITING);
+    CHECK(cetskobi_validate(two.me, LENT(&two), RING).number == 15);
+
+    /* Sent again, both hear it, and 2 finishes; 1 does not hear that. */
+    ticks(&two, 7);
+    silent();
+    tick(&two);
+    inv = sent(SET_1 | SET_5);
+    came(&one, inv);
+    ack = sent(SET_2);
+    CHECK(cetskobi_deliver_packet(two.me, LENT(&two), ack.bytes, ack.len, 0).number == 13);
+    came(&five, inv);
+    ack = sent(SET_2);
+    static const uint8_t bytes[] = {1, 1, 0, 20, 2, 5, 0, 0, 0, 0, 0, 7, 0, 0, 0, 1, 2, 0, 20, 0};
+    CHECK(ack.len == sizeof bytes && memcmp(ack.bytes, bytes, sizeof bytes) == 0);
+    came(&two, ack);
+    val = sent(SET_1 | SET_5);
+    CHECK(carries(val, CETSKOBI_VAL, 1, 2) && is(&two, VALID, 1, 2, SET_1 | SET_5) && fate_of(&two, RING, first) == FINISHED);
+    came(&five, val);
+    CHECK(is(&five, VALID, 1, 2, 0));
+    CHECK(cetskobi_read(one.me, LENT(&one), RING).number == 6);
+    ticks(&two, 8);
+    val = sent(SET_1 | SET_5);
+    came(&one, val);
+    silent();
+    CHECK(is(&one, VALID, 1, 2, 0) && shows(&one, "robin, wing 73"));
+
+    /* 5 saves, only 1 hears it, and 5 dies. */
+    saves(&five, "robin, wing 74");
+    inv = sent(SET_1 | SET_2);
+    came(&one, inv);
+    CHECK(carries(sent(SET_5), CETSKOBI_ACK, 2, 5) && is(&one, INVALID, 2, 5, 0));
+    CHECK(cetskobi_replay(one.me, LENT(&one), RING).number == 16);
+
+    /* The warden strikes it off: 1 replays, and 2 hears of the view later. */
+    CHECK(view_came(&one, 1, SET_1 | SET_2) == 0);
+    inv = sent(SET_2);
+    CHECK(carries(inv, CETSKOBI_INV, 2, 5) && is(&one, REPLAY, 2, 5, 0));
+    CHECK(cetskobi_deliver_packet(two.me, LENT(&two), inv.bytes, inv.len, 0).number == 10);
+    CHECK(view_came(&two, 1, SET_1 | SET_2) == 0 && is(&two, VALID, 1, 2, SET_1 | SET_5));
+    came(&one, sent(SET_1));
+    silent();
+    ticks(&one, 8);
+    came(&two, sent(SET_2));
+    CHECK(is(&two, INVALID, 2, 5, SET_1 | SET_5));
+    came(&one, sent(SET_1));
+    val = sent(SET_2);
+    CHECK(carries(val, CETSKOBI_VAL, 2, 5) && is(&one, VALID, 2, 5, SET_2));
+    came(&two, val);
+    silent();
+    CHECK(shows(&one, "robin, wing 74") && shows(&two, "robin, wing 74"));
+
+    /* A view that is refused leaves the identity. */
+    CHECK(view_came(&one, 1, SET_1 | SET_2) == 18 && one.me.epoch == 1 && one.me.view == (SET_1 | SET_2));
+}
+
+static void two_saves_at_once(void) {
+    fresh();
+    struct stamp lesser = saves(&two, "two's");
+    struct packet of_two = sent(SET_1 | SET_5);
+    saves(&five, "five's");
+    struct packet of_five = sent(SET_1 | SET_2);
+    /* 1 and 5 acknowledge 2's save, so it is finished; 5 keeps its own, and that comes then. */
+    came(&one, of_two);
+    came(&two, sent(SET_2));
+    silent();
+    came(&five, of_two);
+    came(&two, sent(SET_2));
+    sent(SET_1 | SET_5);
+    CHECK(fate_of(&two, RING, lesser) == FINISHED);
+    came(&two, of_five);
+    sent(SET_5);
+    CHECK(fate_of(&two, RING, lesser) == REPLACED && is(&two, INVALID, 1, 5, SET_1 | SET_5));
+
+    /* Where it comes before, the save is overtaken. */
+    fresh();
+    lesser = saves(&two, "two's");
+    sent(SET_1 | SET_5);
+    came(&two, of_five);
+    sent(SET_5);
+    CHECK(fate_of(&two, RING, lesser) == REPLACED && is(&two, INVALID_WRITE, 1, 5, 0));
+    CHECK(memcmp(two.store + CETSKOBI_VALUE_MAX * RING, "five's", 7) == 0);
+}
+
+static void a_save_since_the_ring_was_opened(void) {
+    fresh();
+    struct stamp seen, saved;
+    size_t len;
+    CHECK(open_ring(&one, RING, &len, &seen) == 0 && len == 0);
+    saves(&two, "two's");
+    struct packet inv = sent(SET_1 | SET_5);
+    came(&one, inv);
+    came(&two, sent(SET_2));
+    CHECK(save(&one, RING, seen, (const uint8_t *)"late", 4, &saved) == 6);
+    came(&five, inv);
+    came(&two, sent(SET_2));
+    came(&one, sent(SET_1 | SET_5));
+    CHECK(save(&one, RING, seen, (const uint8_t *)"late", 4, &saved) == CHANGED);
+    CHECK(save(&one, COUNT, seen, (const uint8_t *)"late", 4, &saved) == 4);
+    silent();
+    CHECK(shows(&one, "two's"));
+}
+
+/* A packet leaves at these ticks and no others. */
+static void leaves_at(struct hut *h, const int *at, int last) {
+    for (int n = 1; n <= last; n++) {
+        tick(h);
+        if (in_air == 1 && *at == n) {
+            in_air = 0;
+            at++;
+        }
+        silent();
+    }
+    CHECK(*at == 0);
+}
+
+static void waits(void) {
+    fresh();
+    saves(&two, "robin");
+    struct packet inv = sent(SET_1 | SET_5);
+    leaves_at(&two, (const int[]){8, 24, 56, 88, 120, 0}, 130);
+    came(&one, inv);
+    came(&two, sent(SET_2));
+    came(&five, inv);
+    came(&two, sent(SET_2));
+    sent(SET_1 | SET_5);
+    leaves_at(&two, (const int[]){8, 24, 56, 120, 248, 504, 1016, 2040, 3064, 4088, 0}, 5000);
+    leaves_at(&one, (const int[]){0}, 100);
+}
+
+static void packets_are_shared(void) {
+    fresh();
+    static const uint8_t text[CETSKOBI_VALUE_MAX];
+    struct stamp seen = {0, 1}, saved;
+    for (size_t i = 0; i < 200; i++) {
+        CHECK(save(&one, i, seen, text, i < 20 ? sizeof text : 0, &saved) == 0);
+        struct packet inv = sent(SET_2 | SET_5);
+        if (i < 20) continue; /* stay in state write */
+        came(&two, inv);
+        came(&one, sent(SET_1));
+        came(&five, inv);
+        came(&one, sent(SET_1));
+        sent(SET_2 | SET_5);
+    }
+    /* 20 INVs with full texts, six in a packet, then 180 VALs: 2 and 61 share the fourth. */
+    static const uint8_t counts[] = {6, 6, 6, 63, 64, 55};
+    CHECK(view_came(&one, 1, SET_1 | SET_2) == 0);
+    CHECK(in_air == sizeof counts);
+    for (size_t n = 0; n < in_air && n < sizeof counts; n++) {
+        CHECK(air[n].bytes[1] == counts[n] && air[n].to == SET_2);
+        CHECK(air[n].len == air[n].bytes[2] * 256u + air[n].bytes[3]);
+    }
+    in_air = 0;
+}
+
+/* What is in the air reaches whom it shall, of those awake, but every third copy is lost. */
+static void poor_link(size_t awake) {
+    static unsigned copies;
+    static struct packet now[sizeof air / sizeof *air];
+    struct hut *huts[] = {&one, &two, &five};
+    size_t count = in_air;
+    memcpy(now, air, sizeof air);
+    in_air = 0;
+    for (size_t n = 0; n < count; n++)
+        for (size_t k = 0; k < awake; k++)
+            if (now[n].to >> huts[k]->me.number & 1 && copies++ % 3 != 0) came(huts[k], now[n]);
+}
+
+static void ticks_alone_settle_every_record(void) {
+    fresh();
+    struct hut *huts[] = {&one, &two, &five};
+    for (int now = 0; now < 6000; now++) {
+        if (now == 2000) CHECK(view_came(&one, 1, SET_1 | SET_2) == 0);
+        if (now == 2100) CHECK(view_came(&two, 1, SET_1 | SET_2) == 0);
+        size_t awake = now < 1900 ? 3 : 2; /* 5 dies */
+        poor_link(awake);
+        for (size_t k = 0; k < awake; k++) {
+            size_t i = ((size_t)now / 12 + 5 * k) % 30, len;
+            struct stamp seen, saved;
+            if (now < 1890 && (size_t)now % 12 == 4 * k && open_ring(huts[k], i, &len, &seen) == 0)
+                CHECK(save(huts[k], i, seen, (const uint8_t *)&now, sizeof now, &saved) == 0);
+            tick(huts[k]);
+        }
+    }
+    for (size_t i = 0; i < 30; i++) {
+        const struct cetskobi_record *r = &one.table[i], *s = &two.table[i];
+        CHECK(r->version > 0 && r->state == VALID && s->state == VALID && r->version == s->version && r->tie == s->tie);
+    }
+    CHECK(memcmp(one.store, two.store, sizeof one.store) == 0);
+}
+
+int main(void) {
+    a_worked_morning();
+    two_saves_at_once();
+    a_save_since_the_ring_was_opened();
+    waits();
+    packets_are_shared();
+    ticks_alone_settle_every_record();
+    return failed;
+}
