@@ -48,7 +48,7 @@ rows =
     ∷ row (fresh (save ∷ [])) (inv 1 5 5 0) (answers 0 ∷ leaves state.InvalidWrite ∷ stamps 1 5 ∷ sends (ackOf 1 5) ∷ [])
     -- same, INV (1,1): ACK leaves, record unchanged
     ∷ row (fresh (save ∷ [])) (inv 1 1 1 0) (answers 0 ∷ sends (ackOf 1 1) ∷ unchanged ∷ [])
-    -- replay at (1,5), INV (2,1): invalid
+    -- replay at (1,5), INV (2,1): invalid; only a view without 5 leads to the first
     ∷ row (fresh (inv 1 5 5 0 ∷ turns 1 6 ∷ does Replay [] ∷ [])) (inv 2 1 1 1) (answers 0 ∷ leaves state.Invalid ∷ stamps 2 1 ∷ sends (ackOf 2 1) ∷ [])
     -- the same before the INV: replay at (1,5)
     ∷ row (fresh (inv 1 5 5 0 ∷ turns 1 6 ∷ [])) (does Replay []) (answers 0 ∷ leaves state.Replay ∷ stamps 1 5 ∷ sends (Inv (record { version = 1; tie = 5 })) ∷ [])

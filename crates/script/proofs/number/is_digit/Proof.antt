@@ -1,0 +1,10 @@
+-- `script::number::is_digit` meets its contract.
+use mathlib.Core.Path.{refl}
+use Rattle.script.proofs.number.is_digit.Statement.{statement}
+use Rattle.script.proofs.number.is_digit.Tie as tie
+
+returns : tie.Need-returns
+returns c = refl
+
+pub is-digit-spec : {M : Type 1} → statement M
+is-digit-spec = tie.close (tie.spec returns)
