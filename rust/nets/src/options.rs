@@ -27,7 +27,8 @@ wrong options.
   --delay T        the most ticks a packet usually takes  (6)
   --fault F        break something and see it reported: text (the link alters
                    texts), sender (the link alters who acknowledged), epoch
-                   (huts take messages of other epochs), val (huts drop VALs)
+                   (huts take messages of other epochs), val (huts drop VALs),
+                   save (huts refuse some saves)
   --help           this page
 ";
 
