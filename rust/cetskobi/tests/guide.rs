@@ -78,6 +78,7 @@ impl Hut {
         assert!(self.radio.sent.is_empty());
         let r = self.laptop.record(RING).expect("the ring");
         let timestamp = Timestamp { version, tie };
+        let acks = Members::from(acks);
         assert_eq!((r.state, r.timestamp, r.acks), (state, timestamp, acks));
     }
 }

@@ -120,7 +120,7 @@ impl Morning {
     /// struck off.
     fn ringers(&mut self) -> Done {
         let awake = self.plan.awake(self.group.now);
-        let told = |n: &u8| !self.group.laptop(*n).members().contains(*n);
+        let told = |n: &u8| !self.group.laptop(*n).view().contains(*n);
         let usable: Members = awake.into_iter().filter(|n| !told(n)).collect();
         let (group, huts) = (&mut self.group, &mut self.huts);
         self.ringers.tick(group, huts, usable)

@@ -1,7 +1,7 @@
 //! What is measured: each case with its two sides, on equal inputs.
 
 use cetskobi::sys::{Message, Replica};
-use cetskobi::{Record, State, Timestamp};
+use cetskobi::{Members, Record, State, Timestamp};
 
 use crate::engine::{self, Engine};
 use crate::packets;
@@ -50,7 +50,7 @@ const fn record(state: State, timestamp: (u32, u8), written: (u32, u8), acks: u1
             version: written.0,
             tie: written.1,
         },
-        acks,
+        acks: Members::from_bits(acks),
         len: TEXT.len() as u8,
     }
 }
