@@ -15,8 +15,9 @@ fn agreed(settings: &Settings) -> Report {
 /// Every bird was saved, but for those whose record hangs.
 fn all_saved(settings: &Settings, report: &Report) {
     let birds = settings.rings + settings.recaptures;
-    assert_eq!(report.saved() + report.waiting(), birds);
-    assert!(report.waiting() == 0 || report.hung() > 0);
+    let (saved, waiting) = (report.saved(), report.waiting());
+    assert_eq!(saved + waiting, birds, "{settings:?}");
+    assert!(waiting == 0 || report.hung() > 0, "{settings:?}");
 }
 
 #[test]
