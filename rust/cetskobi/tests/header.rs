@@ -160,7 +160,8 @@ fn begun(prefix: &str) -> Constants {
         .collect()
 }
 
-/// The name of a Rust or Rattle variant or field as the header has it: `InvalidWrite` as `INVALID_WRITE`.
+/// The name of a variant or field as the header has it: `InvalidWrite` as
+/// `INVALID_WRITE`.
 fn upper(name: impl Debug) -> String {
     let name = format!("{name:?}");
     let mut upper = String::new();

@@ -198,7 +198,8 @@ fn write_then_a_lesser_invalidation() {
     assert_eq!(laptop.engine.store()[..2], *b"A1");
 }
 
-/// At epoch 0 no event leads to this record: its last writer would have to be outside the view.
+/// At epoch 0 no event leads to this record: a replay asks for a last writer
+/// outside the view, and question 11 lets none in.
 #[test]
 fn replay_then_a_greater_invalidation() {
     let mut laptop = Laptop::fresh();

@@ -71,7 +71,8 @@ pub struct About {
 }
 
 impl About {
-    /// A call that is not measured, on a record prepared for it: it answers as the case says, or what is measured is something else.
+    /// A call that is not measured, on a record prepared for it, answers as the
+    /// case says. Otherwise something else would be measured.
     pub fn check(&self, side: &mut impl Side, i: usize) {
         side.prepare(i);
         let told = side.call(i).told();
