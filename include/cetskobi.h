@@ -1,14 +1,17 @@
-/* The replication engine for C. Link with the archive that `rt staticlib ffi` makes: cc -O2 main.c -Iinclude target/staticlib/libffi.a
+/* The replication engine for C: that of one replica, a laptop of its group. Link with the archive that `rt staticlib ffi` makes:
+ * cc -O2 main.c -Iinclude target/staticlib/libffi.a
  * The player, cetskobi_play, has an archive of its own, which `rt staticlib playing` makes: target/staticlib/libplaying.a
  *
- * The table is 16 bytes for each record, at 16 times its number; struct cetskobi_record says what they are. A table whose length is no
- * multiple of 16 holds no records. The store is 192 bytes for each record, at 192 times its number.
+ * Table and store. The table is 16 bytes for each record, at 16 times its number: struct cetskobi_record says what they are. A table
+ * whose length is no multiple of 16 holds no records. The store is 192 bytes for each record, at 192 times its number.
  *
- * Memory is passed as a pointer and a length in elements: that many elements are there, and none needs be where the length is 0. What a
- * function writes (table, store, out) overlaps nothing else passed to the same call: copy a text out of the store before it is saved again.
- * Beyond that every function takes every input. It answers 0 or the number of the question that said no (docs/GUIDE.md, part 4, has them
- * all); then nothing lent has changed, and the other fields of the answer are 0. Only an admission that is refused has an identity: the
- * old one of a view, the one asked for of a start. */
+ * Pointers and lengths. Memory is passed as a pointer and a length in elements: that many elements are there, and none needs be where the
+ * length is 0. What a function writes (table, store, out) overlaps nothing else passed to the same call: copy a text out of the store
+ * before it is saved again. Beyond that every function takes every input.
+ *
+ * Answers. A number of 0, or that of the question that said no: CETSKOBI_REFUSED_.. below, and what to do about each in docs/GUIDE.md,
+ * part 4. After a no nothing lent has changed, and the other fields of the answer are 0. Only an admission that is refused has an
+ * identity: the old one of a view, the one asked for of a start. */
 #ifndef CETSKOBI_H
 #define CETSKOBI_H
 
@@ -19,11 +22,20 @@
 extern "C" {
 #endif
 
+/* The states of a record. */
+enum {
+    CETSKOBI_VALID = 0,         /* it may be shown */
+    CETSKOBI_INVALID = 1,       /* a newer value is known, but not that every replica has it */
+    CETSKOBI_INVALID_WRITE = 2, /* overtaken while writing: another replica's write has a later timestamp */
+    CETSKOBI_WRITE = 3,         /* this replica's write waits for acknowledgements */
+    CETSKOBI_REPLAY = 4         /* this replica's replay, for a writer that was struck off, waits for acknowledgements */
+};
+
 /* One record, as its 16 bytes lie in the table. A number of more than a byte has the least significant first, as on x86-64, the archives'
  * only machine: there an array of this struct, passed as (uint8_t *)records, is a table. A state above 4 is no record, and question 5
  * refuses it like an unsound one; every other value of the fields is a record. */
 struct cetskobi_record {
-    uint8_t state;            /* byte 0: 0 valid, 1 invalid, 2 invalid-write, 3 write, 4 replay */
+    uint8_t state;            /* byte 0: one of the five */
     uint8_t tie;              /* byte 1: the timestamp's tie-breaker */
     uint8_t writer;           /* byte 2: the last writer */
     uint8_t written_tie;      /* byte 3: the last-write timestamp's tie-breaker */
@@ -43,7 +55,38 @@ struct cetskobi_replica {
     uint32_t epoch;
 };
 
+/* The kinds of a message. */
 enum { CETSKOBI_NONE = 0, CETSKOBI_INV = 1, CETSKOBI_ACK = 2, CETSKOBI_VAL = 3 };
+
+/* The refusals: the questions of document 01 by number, and the player's own. */
+enum {
+    CETSKOBI_REFUSED_NO_GROUP = 1,         /* a laptop's number is at most 15 and its view has at least two laptops */
+    CETSKOBI_REFUSED_LENT_MEMORY = 2,      /* a laptop has 1 to 4,096 records and 192 bytes of store for each */
+    CETSKOBI_REFUSED_STRUCK_OFF = 3,       /* this laptop has been struck off its group */
+    CETSKOBI_REFUSED_STRAY_RECORD = 4,     /* there is no record of that number */
+    CETSKOBI_REFUSED_UNSOUND_RECORD = 5,   /* the record in the table is damaged */
+    CETSKOBI_REFUSED_NOT_READABLE = 6,     /* the record is not valid now, so it cannot be shown */
+    CETSKOBI_REFUSED_NOT_WRITABLE = 7,     /* an earlier write or replay of the record is still under way here */
+    CETSKOBI_REFUSED_VALUE_TOO_LONG = 8,   /* a value has at most 192 bytes */
+    CETSKOBI_REFUSED_LAST_VERSION = 9,     /* the record has used up its versions */
+    CETSKOBI_REFUSED_OTHER_EPOCH = 10,     /* the message is of another epoch than this laptop */
+    CETSKOBI_REFUSED_OTHER_SENDER = 11,    /* the message's sender is not another laptop of the view */
+    CETSKOBI_REFUSED_ILL_FORMED = 12,      /* the message's tie-breaker or length is wrong for its kind */
+    CETSKOBI_REFUSED_STRAY_ACK = 13,       /* no such acknowledgement is awaited, or it is counted already */
+    CETSKOBI_REFUSED_STRAY_VAL = 14,       /* the record is valid already, or the validation is for another timestamp */
+    CETSKOBI_REFUSED_NOT_FINISHED = 15,    /* nothing waits to be validated, or an acknowledgement is still missing */
+    CETSKOBI_REFUSED_NOT_REPLAYABLE = 16,  /* the record is not invalid, or its last writer is still in the view */
+    CETSKOBI_REFUSED_NOT_RESENDABLE = 17,  /* this laptop has nothing of its own to send again for the record */
+    CETSKOBI_REFUSED_OLD_EPOCH = 18,       /* the new epoch is not greater than this laptop's */
+    CETSKOBI_REFUSED_VIEW_NOT_WITHIN = 19, /* the new view is not within the old one, or has fewer than two laptops */
+    CETSKOBI_REFUSED_PACKET_HEAD = 20,     /* these bytes do not begin as a packet of their length */
+    CETSKOBI_REFUSED_PACKET_CONTENTS = 21, /* the packet's contents table is cut short */
+    CETSKOBI_REFUSED_PACKET_ENTRY = 22,    /* a message in the packet's contents table is broken */
+    CETSKOBI_REFUSED_PACKET_INDEX = 23,    /* the packet has no message of that number */
+    CETSKOBI_REFUSED_PACKET_MESSAGES = 24, /* a packet takes 1 to 64 messages whose numbers and bodies fit */
+    CETSKOBI_REFUSED_PACKET_ROOM = 25,     /* the packet would be longer than 1,400 bytes or than its room */
+    CETSKOBI_REFUSED_PLAYER_ROOM = 255     /* the script is longer than 65,536 bytes or lacks room to print */
+};
 
 /* 0 or the number of the question that said no; and the message that leaves, with its timestamp. */
 struct cetskobi_answer {
@@ -121,6 +164,7 @@ struct cetskobi_answer cetskobi_replay(struct cetskobi_replica me, uint8_t *tabl
                                        size_t i);
 struct cetskobi_answer cetskobi_validate(struct cetskobi_replica me, uint8_t *table, size_t table_len, const uint8_t *store,
                                          size_t store_len, size_t i);
+/* No byte of the table changes, although it is lent to be written. */
 struct cetskobi_answer cetskobi_resend(struct cetskobi_replica me, uint8_t *table, size_t table_len, const uint8_t *store, size_t store_len,
                                        size_t i);
 struct cetskobi_read cetskobi_read(struct cetskobi_replica me, const uint8_t *table, size_t table_len, const uint8_t *store,

@@ -2,10 +2,7 @@
 # The engine from C: every function of the header called and its answers checked, the guide's code played, and the example's output as
 # stored.
 cd "$(dirname "$0")/.." || exit 2
-if ! command -v cc >/dev/null 2>&1; then
-    echo "no cc: the C programs were not run"
-    exit 0
-fi
+sh tests/need cc || exit 1
 sh tests/archive || exit 1
 dir=$(mktemp -d) || exit 2
 trap 'rm -rf "$dir"' EXIT

@@ -1,12 +1,7 @@
 #!/bin/sh
-# An event's cost does not grow with the table: instructions by callgrind at 1 and at 4,096 records, for a few events.
+# No event's cost grows with the table: instructions by callgrind at 1 and at 4,096 records.
 cd "$(dirname "$0")/.." || exit 2
-for tool in cargo valgrind; do
-    if ! command -v $tool >/dev/null 2>&1; then
-        echo "no $tool: instructions were not counted"
-        exit 0
-    fi
-done
+sh tests/need cargo valgrind || exit 1
 sh tests/archive || exit 1
 CARGO_TARGET_DIR=target/rust cargo build --quiet --offline --release --manifest-path rust/Cargo.toml -p speed || exit 1
-target/rust/release/speed flat read write inv ack validate
+target/rust/release/speed flat

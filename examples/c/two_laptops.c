@@ -40,10 +40,16 @@ static void start(struct laptop *l, uint8_t number) {
 
 /* The packet of what left an event of this laptop. An ACK goes to the sender of its INV, the others to the view. */
 static struct packet send(const struct laptop *l, struct cetskobi_answer left, uint8_t inv_sender) {
-    static const char *const names[] = {"none", "INV", "ACK", "VAL"};
+    static const char *const names[] = {[CETSKOBI_INV] = "INV", [CETSKOBI_ACK] = "ACK", [CETSKOBI_VAL] = "VAL"};
     accepted(left.number);
     size_t len = cetskobi_body(MEMORY(l), RING, left.kind);
-    struct cetskobi_entry entry = {left.kind, l->me.number, l->me.epoch, RING, left.version, left.tie, (uint32_t)len};
+    struct cetskobi_entry entry = {.kind = left.kind,
+                                   .sender = l->me.number,
+                                   .epoch = l->me.epoch,
+                                   .index = RING,
+                                   .version = left.version,
+                                   .tie = left.tie,
+                                   .len = (uint32_t)len};
     struct packet p;
     struct cetskobi_written w = cetskobi_pack((const uint32_t *)&entry, CETSKOBI_ENTRY_WORDS, l->store + RING * CETSKOBI_VALUE_MAX,
                                               len, p.bytes, sizeof p.bytes);

@@ -6,7 +6,7 @@
 #include <string.h>
 
 /* A record has its fields at the bytes that the header names, so an array of them is a table. */
-#define AT(field, place) _Static_assert(offsetof(struct cetskobi_record, field) == (place), #field)
+#define AT(field, byte) _Static_assert(offsetof(struct cetskobi_record, field) == (byte), #field)
 _Static_assert(sizeof(struct cetskobi_record) == CETSKOBI_RECORD_BYTES, "a record");
 AT(state, 0);
 AT(tie, 1);
@@ -17,8 +17,16 @@ AT(written_version, 8);
 AT(acks, 12);
 AT(len, 14);
 AT(unused, 15);
-/* A message is words without gaps. */
+/* A message has its fields at the words of their order, without gaps. */
+#define WORD(field, word) _Static_assert(offsetof(struct cetskobi_entry, field) == (word) * sizeof(uint32_t), #field)
 _Static_assert(sizeof(struct cetskobi_entry) == CETSKOBI_ENTRY_WORDS * sizeof(uint32_t), "a message");
+WORD(kind, 0);
+WORD(sender, 1);
+WORD(epoch, 2);
+WORD(index, 3);
+WORD(version, 4);
+WORD(tie, 5);
+WORD(len, 6);
 
 static int failed;
 
@@ -38,6 +46,8 @@ static void check(int holds, const char *fact, int line) {
 enum { COUNT = 2, STORE = COUNT * CETSKOBI_VALUE_MAX, OLD = 9 };
 static const struct cetskobi_replica me = {.number = 2, .view = 38, .epoch = 9};
 static const struct cetskobi_record fresh = {.tie = 1, .writer = 1, .written_tie = 1, .unused = OLD};
+/* A record with these fields, the others 0. */
+#define RECORD(...) (struct cetskobi_record){.unused = OLD, __VA_ARGS__}
 static struct cetskobi_record table[COUNT];
 static uint8_t store[STORE];
 
@@ -92,14 +102,15 @@ static void membership(void) {
 
 static void writing(void) {
     const uint8_t value[CETSKOBI_VALUE_MAX + 1] = "wing";
-    lay((struct cetskobi_record){0, 5, 5, 1, VERSION - 1, 0, 0, 62, OLD});
+    lay(RECORD(.state = CETSKOBI_VALID, .tie = 5, .writer = 5, .written_tie = 1, .version = VERSION - 1, .len = 62));
     struct cetskobi_read r = cetskobi_read(LENT, 1);
     CHECK(r.number == 0 && r.len == 62);
     r = cetskobi_read(LENT, COUNT);
     CHECK(r.number == 4 && r.len == 0);
-    CHECK(answers(cetskobi_write(LENT, 1, value, sizeof value), 8, 0, 0, 0));
-    CHECK(answers(cetskobi_write(LENT, 1, value, 4), 0, 1, 2, VERSION));
-    CHECK(is((struct cetskobi_record){3, 2, 2, 2, VERSION, VERSION, 0, 4, OLD}));
+    CHECK(answers(cetskobi_write(LENT, 1, value, sizeof value), 8, CETSKOBI_NONE, 0, 0));
+    CHECK(answers(cetskobi_write(LENT, 1, value, 4), 0, CETSKOBI_INV, 2, VERSION));
+    CHECK(is(RECORD(.state = CETSKOBI_WRITE, .tie = 2, .writer = 2, .written_tie = 2, .version = VERSION,
+                    .written_version = VERSION, .len = 4)));
     CHECK(holds("wing"));
     CHECK(cetskobi_body(TABLE, store, STORE, 1, CETSKOBI_INV) == 4);
     CHECK(cetskobi_body(TABLE, store, STORE, 1, CETSKOBI_ACK) == 0);
@@ -117,7 +128,8 @@ static void delivery(void) {
     const uint8_t *value = (const uint8_t *)"weight";
     struct cetskobi_message inv = {.kind = CETSKOBI_INV, .sender = 5, .tie = 4, .epoch = 9, .version = VERSION};
     struct cetskobi_message other = inv;
-    lay((struct cetskobi_record){3, 2, 2, 2, 6, 6, 2, 62, OLD});
+    lay(RECORD(.state = CETSKOBI_WRITE, .tie = 2, .writer = 2, .written_tie = 2, .version = 6, .written_version = 6, .acks = 2,
+               .len = 62));
     other.epoch = 4;
     CHECK(cetskobi_deliver(LENT, 1, other, value, 6).number == 10);
     other = inv;
@@ -127,23 +139,33 @@ static void delivery(void) {
     other.kind = CETSKOBI_VAL;
     CHECK(cetskobi_deliver(LENT, 1, other, value, 6).number == 12);
     CHECK(cetskobi_deliver(LENT, 1, other, value, 0).number == 14);
-    CHECK(answers(cetskobi_deliver(LENT, 1, inv, value, 6), 0, 2, 4, VERSION));
-    CHECK(is((struct cetskobi_record){2, 4, 5, 2, VERSION, 6, 2, 6, OLD}));
+    other = (struct cetskobi_message){.kind = CETSKOBI_ACK, .sender = 5, .tie = 2, .epoch = 9, .version = 6};
+    CHECK(answers(cetskobi_deliver(LENT, 1, other, value, 0), 0, CETSKOBI_NONE, 0, 0));
+    CHECK(answers(cetskobi_deliver(LENT, 1, other, value, 0), CETSKOBI_REFUSED_STRAY_ACK, CETSKOBI_NONE, 0, 0));
+    CHECK(answers(cetskobi_deliver(LENT, 1, inv, value, 6), 0, CETSKOBI_ACK, 4, VERSION));
+    CHECK(is(RECORD(.state = CETSKOBI_INVALID_WRITE, .tie = 4, .writer = 5, .written_tie = 2, .version = VERSION,
+                    .written_version = 6, .acks = 34, .len = 6)));
     CHECK(holds("weight"));
 }
 
 static void ending(void) {
-    lay((struct cetskobi_record){1, 4, 4, 2, VERSION, 6, 2, 62, OLD});
-    CHECK(answers(cetskobi_replay(LENT, 0), 16, 0, 0, 0));
-    CHECK(answers(cetskobi_replay(LENT, 1), 0, 1, 4, VERSION));
-    CHECK(is((struct cetskobi_record){4, 4, 2, 4, VERSION, VERSION, 0, 62, OLD}));
-    CHECK(answers(cetskobi_resend(LENT, 1), 0, 1, 4, VERSION));
-    CHECK(is((struct cetskobi_record){4, 4, 2, 4, VERSION, VERSION, 0, 62, OLD}));
-    CHECK(answers(cetskobi_validate(LENT, 1), 15, 0, 0, 0));
+    struct cetskobi_record replayed = RECORD(.state = CETSKOBI_REPLAY, .tie = 4, .writer = 2, .written_tie = 4, .version = VERSION,
+                                             .written_version = VERSION, .len = 62);
+    lay(RECORD(.state = CETSKOBI_INVALID, .tie = 4, .writer = 4, .written_tie = 2, .version = VERSION, .written_version = 6, .acks = 2,
+               .len = 62));
+    CHECK(answers(cetskobi_replay(LENT, 0), 16, CETSKOBI_NONE, 0, 0));
+    CHECK(answers(cetskobi_replay(LENT, 1), 0, CETSKOBI_INV, 4, VERSION));
+    CHECK(is(replayed));
+    CHECK(answers(cetskobi_resend(LENT, 1), 0, CETSKOBI_INV, 4, VERSION));
+    CHECK(is(replayed));
+    CHECK(answers(cetskobi_validate(LENT, 1), 15, CETSKOBI_NONE, 0, 0));
     table[1].acks = 0x8122;
-    CHECK(answers(cetskobi_validate(LENT, 1), 0, 3, 4, VERSION));
-    CHECK(is((struct cetskobi_record){0, 4, 2, 4, VERSION, VERSION, 0x8122, 62, OLD}));
-    CHECK(answers(cetskobi_resend(LENT, 1), 0, 3, 4, VERSION));
+    CHECK(answers(cetskobi_validate(LENT, 1), 0, CETSKOBI_VAL, 4, VERSION));
+    struct cetskobi_record valid = replayed;
+    valid.state = CETSKOBI_VALID;
+    valid.acks = 0x8122;
+    CHECK(is(valid));
+    CHECK(answers(cetskobi_resend(LENT, 1), 0, CETSKOBI_VAL, 4, VERSION));
 }
 
 /* A table by its bytes, at an odd address; a byte too few and one too many; a state that is none. */
@@ -155,17 +177,17 @@ static void bytes(void) {
     CHECK(cetskobi_replay(me, record, sizeof before - 1, store, CETSKOBI_VALUE_MAX, 0).number == 2);
     CHECK(cetskobi_replay(me, record, sizeof before + 1, store, CETSKOBI_VALUE_MAX, 0).number == 2);
     CHECK(memcmp(record, before, sizeof before) == 0);
-    CHECK(answers(cetskobi_replay(me, record, sizeof before, store, CETSKOBI_VALUE_MAX, 0), 0, 1, 4, VERSION));
+    CHECK(answers(cetskobi_replay(me, record, sizeof before, store, CETSKOBI_VALUE_MAX, 0), 0, CETSKOBI_INV, 4, VERSION));
     CHECK(memcmp(record, after, sizeof after) == 0);
     record[0] = 5;
-    CHECK(answers(cetskobi_resend(me, record, sizeof before, store, CETSKOBI_VALUE_MAX, 0), 5, 0, 0, 0));
+    CHECK(answers(cetskobi_resend(me, record, sizeof before, store, CETSKOBI_VALUE_MAX, 0), 5, CETSKOBI_NONE, 0, 0));
     CHECK(record[0] == 5 && memcmp(record + 1, after + 1, sizeof after - 1) == 0);
 }
 
 static void packets(void) {
     const struct cetskobi_entry entries[2] = {
-        {CETSKOBI_INV, 5, 9, 1, VERSION, 4, 4},
-        {CETSKOBI_ACK, 5, 0, 7, 1, 2, 0},
+        {.kind = CETSKOBI_INV, .sender = 5, .epoch = 9, .index = 1, .version = VERSION, .tie = 4, .len = 4},
+        {.kind = CETSKOBI_ACK, .sender = 5, .epoch = 0, .index = 7, .version = 1, .tie = 2, .len = 0},
     };
     const uint8_t want[40] = {1, 2, 0, 40, 1, 5, 0, 0, 0, 9, 0, 1, 1, 2, 3, 4, 4, 0,   36,  4,
                               2, 5, 0, 0,  0, 0, 0, 7, 0, 0, 0, 1, 2, 0, 40, 0, 'w', 'i', 'n', 'g'};
@@ -193,8 +215,8 @@ static void packets(void) {
     lay(fresh);
     CHECK(cetskobi_deliver_packet(LENT, out, 41, 0).number == 20);
     CHECK(cetskobi_deliver_packet(LENT, out, 40, 1).number == 4);
-    CHECK(answers(cetskobi_deliver_packet(LENT, out, 40, 0), 0, 2, 4, VERSION));
-    CHECK(is((struct cetskobi_record){1, 4, 5, 1, VERSION, 0, 0, 4, OLD}));
+    CHECK(answers(cetskobi_deliver_packet(LENT, out, 40, 0), 0, CETSKOBI_ACK, 4, VERSION));
+    CHECK(is(RECORD(.state = CETSKOBI_INVALID, .tie = 4, .writer = 5, .written_tie = 1, .version = VERSION, .len = 4)));
     CHECK(holds("wing"));
 }
 

@@ -20,6 +20,10 @@ pub type Lent<'a> = Laptop<&'a mut [u8], &'a mut [u8]>;
 /// An event on record `i` gives `Ok` with the message that leaves, if one does,
 /// or `Err` with the question of document 01 that said no; then nothing has
 /// changed. Every number and every slice may be passed.
+///
+/// A clone is a copy to look at. One that is used later in the laptop's place
+/// sets the laptop back, and one that is used beside it is a second laptop of
+/// its number: the agreement of document 01's group survives neither.
 #[derive(Clone, PartialEq, Eq)]
 pub struct Laptop<T = Vec<u8>, S = Vec<u8>> {
     me: Replica,
@@ -163,13 +167,8 @@ impl<T, S> Laptop<T, S> {
         self.me.epoch
     }
 
-    /// The view: bit n for laptop n.
-    pub fn view(&self) -> u16 {
-        self.me.view
-    }
-
-    /// The view as a set.
-    pub fn members(&self) -> Members {
+    /// The view.
+    pub fn view(&self) -> Members {
         Members::from(self.me.view)
     }
 
@@ -313,7 +312,7 @@ impl<T: AsRef<[u8]>, S: AsRef<[u8]>> fmt::Debug for Laptop<T, S> {
         f.debug_struct("Laptop")
             .field("number", &self.number())
             .field("epoch", &self.epoch())
-            .field("view", &format_args!("{}", self.members()))
+            .field("view", &format_args!("{}", self.view()))
             .field("count", &self.count())
             .finish_non_exhaustive()
     }

@@ -18,6 +18,11 @@ pub struct Members {
 }
 
 impl Members {
+    /// The set of these 16 bits.
+    pub const fn from_bits(bits: u16) -> Members {
+        Members { bits }
+    }
+
     /// The set as 16 bits.
     pub const fn bits(self) -> u16 {
         self.bits
@@ -46,7 +51,7 @@ impl Members {
 
 impl From<u16> for Members {
     fn from(bits: u16) -> Members {
-        Members { bits }
+        Members::from_bits(bits)
     }
 }
 

@@ -3,6 +3,7 @@
 use std::fmt;
 
 use crate::sys::RECORD_BYTES;
+use crate::Members;
 
 /// The state of a record.
 #[derive(Clone, Copy, Debug, PartialEq, Eq, Hash)]
@@ -90,9 +91,8 @@ pub struct Record {
     pub writer: u8,
     /// The last-write timestamp: what this laptop itself last wrote or replayed.
     pub written: Timestamp,
-    /// The laptops whose acknowledgement has come: bit n for laptop n
-    /// (see [`Members`](crate::Members)).
-    pub acks: u16,
+    /// The laptops whose acknowledgement has come.
+    pub acks: Members,
     /// The length of its value in bytes.
     pub len: u8,
 }
@@ -127,7 +127,7 @@ impl Record {
                 version: u32::from_le_bytes([w0, w1, w2, w3]),
                 tie: written_tie,
             },
-            acks: u16::from_le_bytes([a0, a1]),
+            acks: Members::from_bits(u16::from_le_bytes([a0, a1])),
             len,
         })
     }
@@ -136,7 +136,7 @@ impl Record {
     pub const fn to_bytes(self) -> [u8; RECORD_BYTES] {
         let [v0, v1, v2, v3] = self.timestamp.version.to_le_bytes();
         let [w0, w1, w2, w3] = self.written.version.to_le_bytes();
-        let [a0, a1] = self.acks.to_le_bytes();
+        let [a0, a1] = self.acks.bits().to_le_bytes();
         #[rustfmt::skip]
         let bytes = [
             self.state as u8, self.timestamp.tie, self.writer, self.written.tie,

@@ -131,6 +131,7 @@ impl Hut {
     fn is(&self, state: State, timestamp: Timestamp, acks: u16) {
         assert!(self.radio.sent.is_empty());
         let r = self.laptop.record(RING).expect("the ring");
+        let acks = Members::from(acks);
         assert_eq!((r.state, r.timestamp, r.acks), (state, timestamp, acks));
     }
 
@@ -274,7 +275,7 @@ fn the_worked_morning_is_told_as_it_happens() {
         let r = laptop.record(RING).unwrap();
         let now = format!("{} {}", r.state.letter(), r.timestamp);
         match record.split_once(", acknowledged by ") {
-            Some((told, acks)) => assert_eq!((told, set(acks).bits()), (&*now, r.acks), "{row:?}"),
+            Some((told, acks)) => assert_eq!((told, set(acks)), (&*now, r.acks), "{row:?}"),
             None => assert_eq!(*record, now, "{row:?}"),
         }
         // What leaves: the message first, and to whom, if that is told.

@@ -1,21 +1,28 @@
 //! The C header and sys.rs declare the functions and structs that the engine
-//! and the player export, with the same limits.
+//! and the player export; the header's numbers are those of the wrapper and of
+//! the engine.
 
-use cetskobi::{packet, sys, Message, Record, Timestamp};
+use cetskobi::{packet, raw, sys, Message, Record, Refusal, State, Timestamp};
 use std::collections::BTreeMap;
+use std::fmt::Debug;
 use std::fs;
 
 const HEADER: &str = include_str!("../../../include/cetskobi.h");
 const DECLARED: &str = include_str!("../src/sys.rs");
 
-/// The source of a crate that exports: its modules.
+/// The source of a crate: its modules.
 fn source(name: &str) -> String {
-    let folder = fs::read_dir(format!("../../crates/{name}/src")).expect("a crate that exports");
+    let folder = fs::read_dir(format!("../../crates/{name}/src")).expect("a crate");
     let paths = folder.map(|entry| entry.expect("an entry").path());
     let modules = paths.filter(|path| path.extension().is_some_and(|e| e == "rt"));
     modules
         .map(|path| fs::read_to_string(path).expect("a module"))
         .collect()
+}
+
+/// A module of the definitions of a crate.
+fn specs(name: &str) -> String {
+    fs::read_to_string(format!("../../crates/{name}.antt")).expect("definitions")
 }
 
 /// By the name: the parameters, each as sys.rs has it, and the answer's type.
@@ -111,7 +118,7 @@ fn structs(text: &str) -> Structs {
     structs.collect()
 }
 
-/// The structs of the header, but those that are bytes or words.
+/// The structs of the header.
 fn structs_of_c(text: &str) -> Structs {
     let field = |line: &str| {
         let (kind, name) = line.trim().split_once(';')?.0.rsplit_once(' ')?;
@@ -123,18 +130,48 @@ fn structs_of_c(text: &str) -> Structs {
         let name = type_of_c(&format!("struct cetskobi_{name}"));
         Some((name, fields.lines().filter_map(field).collect()))
     });
-    let mut structs: Structs = structs.collect();
-    assert!(structs.remove("Record").is_some() && structs.remove("Entry").is_some());
-    structs
+    structs.collect()
 }
 
-/// The number of a constant of the header.
-fn constant(name: &str) -> usize {
-    let (_, rest) = HEADER
-        .split_once(&format!("{name} = "))
-        .expect("the header has it");
-    let digits = rest.split(|c: char| !c.is_ascii_digit()).next();
-    digits.and_then(|d| d.parse().ok()).expect("a number")
+/// By the name: the number of a constant of the header, and the comment behind it.
+type Constants = BTreeMap<String, (usize, String)>;
+
+/// The constants of the header.
+fn constants(text: &str) -> Constants {
+    let enums = text.split("\nenum {").skip(1);
+    let lines = enums.flat_map(|rest| rest.split("};").next().expect("its end").lines());
+    let constants = lines.flat_map(|line| {
+        let (code, comment) = line.split_once("/*").unwrap_or((line, ""));
+        let comment = comment.trim_end_matches("*/").trim();
+        let each = code.split(',').filter(|one| !one.trim().is_empty());
+        each.map(move |one| {
+            let (name, number) = one.trim().split_once(" = ").expect("a number");
+            let number = number.parse().expect("a plain number");
+            (name.to_owned(), (number, comment.to_owned()))
+        })
+    });
+    constants.collect()
+}
+
+/// The constants whose names begin so, without that beginning.
+fn begun(prefix: &str) -> Constants {
+    let all = constants(HEADER).into_iter();
+    all.filter_map(|(name, constant)| Some((name.strip_prefix(prefix)?.to_owned(), constant)))
+        .collect()
+}
+
+/// The name of a variant or field as the header has it: `InvalidWrite` as
+/// `INVALID_WRITE`.
+fn upper(name: impl Debug) -> String {
+    let name = format!("{name:?}");
+    let mut upper = String::new();
+    for c in name.trim_matches('"').chars() {
+        if c.is_uppercase() && !upper.is_empty() {
+            upper.push('_');
+        }
+        upper.extend(c.to_uppercase());
+    }
+    upper
 }
 
 #[test]
@@ -143,7 +180,10 @@ fn header_and_declarations_are_the_same() {
     assert_eq!(declared.len(), 14);
     assert_eq!(declared, functions_of_c(HEADER));
     let declared = structs(DECLARED);
-    assert_eq!(declared, structs_of_c(HEADER));
+    let mut header = structs_of_c(HEADER);
+    // These two are bytes and words elsewhere.
+    assert!(header.remove("Record").is_some() && header.remove("Entry").is_some());
+    assert_eq!(declared, header);
     let fields: Vec<usize> = declared.values().map(Vec::len).collect();
     // Admission, Answer, Fetched, Message, Played, Read, Replica, Written.
     assert_eq!(fields, [2, 4, 9, 5, 2, 2, 3, 2]);
@@ -162,21 +202,102 @@ fn the_player_alone_is_in_the_second_archive() {
     assert_eq!(Vec::from_iter(second.keys()), ["cetskobi_play"]);
 }
 
+/// The fields of a struct of the header, in their order.
+fn fields(name: &str) -> Vec<(String, String)> {
+    structs_of_c(HEADER)
+        .remove(name)
+        .expect("the header has it")
+}
+
+/// tests/c has the place of each field.
 #[test]
-fn limits_are_the_same() {
-    assert_eq!(constant("CETSKOBI_RECORD_BYTES"), sys::RECORD_BYTES);
-    assert_eq!(constant("CETSKOBI_ENTRY_WORDS"), sys::MESSAGE_WORDS);
-    assert_eq!(constant("CETSKOBI_VALUE_MAX"), Record::VALUE_MAX);
-    assert_eq!(constant("CETSKOBI_COUNT_MAX"), Record::COUNT_MAX);
-    assert_eq!(constant("CETSKOBI_MESSAGES_MAX"), packet::MESSAGES_MAX);
-    assert_eq!(constant("CETSKOBI_PACKET_MAX"), packet::PACKET_MAX);
+fn a_record_has_the_fields_of_its_bytes() {
+    let layout = specs("record_bytes/specs/Layout");
+    let line = layout.lines().find(|line| line.starts_with("decode "));
+    let line = line.and_then(|line| line.strip_suffix(" ="));
+    let names = line.expect("the definition").split(' ').skip(1);
+    let names = names.map(|name| upper(name).to_lowercase());
+    let names: Vec<String> = names.chain(["unused".to_owned()]).collect();
+    let header: Vec<String> = fields("Record").into_iter().map(|f| f.0).collect();
+    assert_eq!(header, names);
 }
 
 #[test]
-fn kinds_are_the_same() {
-    let kind =
-        |message: fn(Timestamp) -> Message| usize::from(message(Timestamp::default()).kind());
-    assert_eq!(constant("CETSKOBI_INV"), kind(Message::Inv));
-    assert_eq!(constant("CETSKOBI_ACK"), kind(Message::Ack));
-    assert_eq!(constant("CETSKOBI_VAL"), kind(Message::Val));
+fn a_message_has_the_fields_of_its_words() {
+    let words = specs("entries/specs/Words");
+    let named = words.lines().filter_map(|line| {
+        let (name, place) = line.trim().split_once(" = getD words ")?;
+        let place = place.strip_suffix(" 0;")?.trim_start_matches("(at + ");
+        let place = place.trim_end_matches(')').replace("at", "0");
+        Some((place.parse().expect("a word's place"), name))
+    });
+    let named: BTreeMap<usize, &str> = named.collect();
+    assert!(named.keys().copied().eq(0..sys::MESSAGE_WORDS), "{named:?}");
+    let word = |name: &str| (name.to_owned(), "u32".to_owned());
+    let named: Vec<_> = named.into_values().map(word).collect();
+    assert_eq!(fields("Entry"), named);
+}
+
+/// The kind of an answer that is accepted and sends nothing: to an ACK.
+fn none() -> u8 {
+    let (mut table, mut store) = ([0; sys::RECORD_BYTES], [0; Record::VALUE_MAX]);
+    let me = raw::start(0, 0b11, &mut table, &mut store).replica;
+    let inv = raw::write(me, &mut table, &mut store, 0, b"");
+    let ack = raw::Message {
+        kind: 2,
+        sender: 1,
+        tie: inv.tie,
+        epoch: me.epoch,
+        version: inv.version,
+    };
+    let answer = raw::deliver(me, &mut table, &mut store, 0, ack, b"");
+    assert_eq!(answer.number, 0);
+    answer.kind
+}
+
+/// Every number of the header, so that none is left unlooked at.
+#[test]
+fn numbers_are_the_same() {
+    let kind = |message: fn(Timestamp) -> Message| message(Timestamp::default()).kind().into();
+    let limits_and_kinds = [
+        ("RECORD_BYTES", sys::RECORD_BYTES),
+        ("ENTRY_WORDS", sys::MESSAGE_WORDS),
+        ("VALUE_MAX", Record::VALUE_MAX),
+        ("COUNT_MAX", Record::COUNT_MAX),
+        ("MESSAGES_MAX", packet::MESSAGES_MAX),
+        ("PACKET_MAX", packet::PACKET_MAX),
+        ("NONE", none().into()),
+        ("INV", kind(Message::Inv)),
+        ("ACK", kind(Message::Ack)),
+        ("VAL", kind(Message::Val)),
+    ];
+    let named = limits_and_kinds.map(|(name, number)| (name.to_owned(), number));
+    let states = State::ALL.map(|state| (upper(state), state as usize));
+    let refusals = Refusal::ALL.map(|r| (format!("REFUSED_{}", upper(r)), r.number().into()));
+    let all: BTreeMap<String, usize> = named.into_iter().chain(states).chain(refusals).collect();
+    let header = begun("CETSKOBI_").into_iter();
+    let header: BTreeMap<String, usize> = header.map(|(name, c)| (name, c.0)).collect();
+    assert_eq!(header, all);
+}
+
+/// The numbers that the engine puts into a record's byte 0.
+#[test]
+fn states_are_the_engines() {
+    let source = source("record_bytes");
+    let codes = source.lines().filter_map(|line| {
+        let (state, code) = line.trim().strip_prefix("State::")?.split_once(" => ")?;
+        let code = code.strip_suffix(',')?.parse().ok()?;
+        Some((upper(state), code))
+    });
+    let codes: BTreeMap<String, usize> = codes.collect();
+    let states = State::ALL.map(|state| (upper(state), state as usize));
+    assert_eq!(codes, BTreeMap::from(states));
+}
+
+#[test]
+fn refusals_mean_the_same() {
+    let header = begun("CETSKOBI_REFUSED_");
+    for refusal in Refusal::ALL {
+        assert_eq!(header[&upper(refusal)].1, refusal.meaning());
+    }
 }

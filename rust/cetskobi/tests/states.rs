@@ -3,7 +3,7 @@
 //! drawn, and leads where the picture and the table say. tests/picture.sh
 //! compares docs/states.svg with the dot.
 
-use cetskobi::{Envelope, Laptop, Message, Record, Refusal, State, Timestamp};
+use cetskobi::{Envelope, Laptop, Members, Message, Record, Refusal, State, Timestamp};
 use std::collections::BTreeSet;
 use std::fs;
 
@@ -80,7 +80,9 @@ fn records() -> Vec<Record> {
         for timestamp in stamps {
             for written in stamps {
                 for writer in [ME, OTHERS[0], OTHERS[1], STRANGER] {
-                    for acks in [0, 1 << 1, 1 << 5, 1 << 7, 1 << 1 | 1 << 5, 1 << 1 | 1 << 7] {
+                    for acks in [0, 1 << 1, 1 << 5, 1 << 7, 1 << 1 | 1 << 5, 1 << 1 | 1 << 7]
+                        .map(Members::from_bits)
+                    {
                         records.push(Record {
                             state,
                             timestamp,
@@ -121,7 +123,7 @@ fn messages() -> Vec<Envelope> {
 
 /// What a message is to a record, by document 01's words.
 fn kind_of(r: &Record, envelope: &Envelope) -> Kind {
-    let counted = r.acks >> envelope.sender & 1 == 1;
+    let counted = r.acks.contains(envelope.sender);
     match envelope.message {
         Message::Inv(t) if t > r.timestamp => Kind::InvGreater,
         Message::Inv(_) => Kind::InvNotGreater,
@@ -163,7 +165,7 @@ fn attempt(
 fn all_tried() -> Vec<Tried> {
     let mut tried = Vec::new();
     for r in records() {
-        let all_acknowledged = OTHERS.iter().all(|n| r.acks >> n & 1 == 1);
+        let all_acknowledged = OTHERS.iter().all(|&n| r.acks.contains(n));
         let validate = match all_acknowledged {
             true => Kind::Validate,
             false => Kind::Other(Refusal::NotFinished),

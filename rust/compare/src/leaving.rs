@@ -1,6 +1,6 @@
 //! What leaves: who gets a message, and the bytes that it takes along.
 
-use cetskobi::raw::{self, Replica};
+use cetskobi::raw::{self, Replica, RECORD_BYTES};
 use model::engine::body;
 use model::rng::Rng;
 
@@ -40,6 +40,21 @@ pub fn by_model(me: Replica, memory: &Memory, i: usize, kind: u8, sender: u8) ->
     (replica_of(me).recipients(message, sender), part.len())
 }
 
+/// How many bytes an INV takes along, of any memory (include/cetskobi.h, and
+/// docs/DECISIONS.md, 9 and 48): as many as byte 14 of the record says, or 255
+/// of bytes that are no record, cut where the store ends; none where no record
+/// stands. Other messages take none.
+fn length(memory: &Memory, i: usize, kind: u8) -> usize {
+    let (records, over) = memory.table().as_chunks::<RECORD_BYTES>();
+    let said = match records.get(i).filter(|_| kind == 1 && over.is_empty()) {
+        None => 0,
+        Some(record) if record[0] > 4 => 255,
+        Some(record) => usize::from(record[14]),
+    };
+    let begin = i.saturating_mul(192);
+    said.min(memory.store().len().saturating_sub(begin))
+}
+
 #[derive(Clone, Debug, Default)]
 pub struct Tally {
     /// Compared, by the kind.
@@ -48,6 +63,8 @@ pub struct Tally {
     pub sent: [u64; 4],
     /// Bodies that were not empty.
     pub bodies: u64,
+    /// Of these longer than a value can be: no event leaves such a record.
+    pub too_long: u64,
 }
 
 /// Random events of the usual count.
@@ -66,6 +83,7 @@ pub fn compare(settings: &Settings, other: Leaving) -> Result<Tally, Box<Found<C
                 tally.kinds[kind] += 1;
                 tally.sent[kind] += u64::from(kind > 0 && outcome.sent.0 == case.kind);
                 tally.bodies += u64::from(len > 0);
+                tally.too_long += u64::from(len > 192);
             }
             Err(what) => return Err(Box::new(shrink(case, what, |case| difference(case).err()))),
         }
@@ -73,8 +91,8 @@ pub fn compare(settings: &Settings, other: Leaving) -> Result<Tally, Box<Found<C
     Ok(tally)
 }
 
-/// Plays the event, then asks. Where the papers leave the length free, since
-/// the record could have sent nothing, it stays within the store.
+/// Plays the event, then asks. Where the record could have sent nothing the
+/// papers leave the length free, so the model is not asked for it.
 fn difference(
     bench: &mut single::Bench,
     case: &Case,
@@ -93,11 +111,11 @@ fn difference(
     let record = table_of(memory.table()).get(i).copied();
     let sound = record.is_some_and(|record| record.is_sound(me.number))
         && memory.store().len() == 12 * memory.table().len();
-    let within = a.1 == 0
-        || i.checked_mul(192)
-            .is_some_and(|at| memory.store().len().saturating_sub(at) >= a.1);
-    if a.0 != b.0 || (sound && a.1 != b.1) || !within {
-        return Err(format!("engine {a:?}, other {b:?}, after {outcome:?}"));
+    let len = length(memory, i, *kind);
+    if a.0 != b.0 || (sound && a.1 != b.1) || a.1 != len {
+        return Err(format!(
+            "engine {a:?}, other {b:?}, {len} bytes by the header, after {outcome:?}"
+        ));
     }
     Ok((outcome, a.1))
 }

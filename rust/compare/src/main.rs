@@ -95,7 +95,7 @@ fn answers(counts: &[u64]) -> String {
 
 fn main() -> ExitCode {
     let Some((settings, chosen)) = arguments() else {
-        eprintln!("compare [--seed S] [--times N] [PART..]; the parts are:");
+        eprintln!("compare [--seed S] [--times N] [PART..], N at least 1; the parts are:");
         for (name, _) in PARTS {
             eprintln!("  {name}");
         }
@@ -130,7 +130,7 @@ fn arguments() -> Option<(Settings, Vec<String>)> {
     while let Some(word) = words.next() {
         match &word[..] {
             "--seed" => settings.seed = words.next()?.parse().ok()?,
-            "--times" => settings.times = words.next()?.parse().ok()?,
+            "--times" => settings.times = words.next()?.parse().ok().filter(|&n| n > 0)?,
             name if PARTS.iter().any(|part| part.0 == name) => chosen.push(word),
             _ => return None,
         }

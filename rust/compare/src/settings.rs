@@ -18,10 +18,16 @@ impl Settings {
     };
 
     /// The usual ones, unless CETSKOBI_SEED and CETSKOBI_TIMES say otherwise.
+    ///
+    /// # Panics
+    ///
+    /// If one is no number, or there would be no cases.
     pub fn from_env() -> Settings {
+        let times = env("CETSKOBI_TIMES").unwrap_or(Settings::USUAL.times as u64) as usize;
+        assert!(times > 0, "CETSKOBI_TIMES=0: no case would be compared");
         Settings {
             seed: env("CETSKOBI_SEED").unwrap_or(Settings::USUAL.seed),
-            times: env("CETSKOBI_TIMES").unwrap_or(Settings::USUAL.times as u64) as usize,
+            times,
         }
     }
 

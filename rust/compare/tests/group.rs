@@ -111,7 +111,7 @@ fn station() -> Group {
         records: 1,
         entries: vec![],
     };
-    let mut group = Group::start(&run, by_hand, on_table);
+    let mut group = Group::start(&run, by_hand, on_table).expect("a fresh start");
     let own = |event| What::Own { i: 0, event };
     let value = Bytes(b"old ring".to_vec());
     let entries = [
@@ -157,7 +157,7 @@ fn the_check_of_validations_can_fail() {
         records: 1,
         entries: vec![],
     };
-    let mut group = Group::start(&run, by_hand, on_table);
+    let mut group = Group::start(&run, by_hand, on_table).expect("a fresh start");
     let own = |event| What::Own { i: 0, event };
     let value = Bytes(b"new".to_vec());
     assert_eq!(

@@ -38,6 +38,20 @@ fn the_papers_packet() {
     }
 }
 
+/// Seven texts, the last of 132 bytes and of 133, into an output with room for both.
+#[test]
+fn packets_of_1400_and_1401() {
+    for (last, number, len) in [(132, 0, 1400), (133, 25, 0)] {
+        let lens = [192, 192, 192, 192, 192, 192, last];
+        let words = lens.map(|len| [1, 5, 0, 7, 1, 2, len]);
+        let bodies = vec![7; lens.iter().sum::<u32>() as usize];
+        for pack in [by_engine, by_model] {
+            let written = pack(words.as_flattened(), &bodies, &mut [9; 1500]);
+            assert_eq!((written.number, written.len), (number, len));
+        }
+    }
+}
+
 /// Wrong writers are found, by small lists.
 #[test]
 fn wrong_writers() {

@@ -153,6 +153,12 @@ impl Laptop {
     fn record(&self) -> Fields {
         self.engine.record(0).expect("there is one")
     }
+
+    /// Both have this as record 0.
+    fn lay(&mut self, record: &Fields) {
+        self.engine.put_record(0, record);
+        self.model.put_record(0, record);
+    }
 }
 
 const WRITTEN: Fields = record(WRITE, (1, 2), 2, (1, 2), 0, 2);
@@ -192,8 +198,21 @@ fn write_then_a_lesser_invalidation() {
     assert_eq!(laptop.engine.store()[..2], *b"A1");
 }
 
+/// At epoch 0 no event leads to this record: a replay asks for a last writer
+/// outside the view, and question 11 lets none in.
 #[test]
 fn replay_then_a_greater_invalidation() {
+    let mut laptop = Laptop::fresh();
+    laptop.lay(&record(REPLAY, (1, 5), 2, (1, 5), 0, 1));
+    assert_eq!(laptop.deliver(1, (INV, 2, 1), b""), sent(ACK, 2, 1));
+    assert_eq!(laptop.record(), record(INVALID, (2, 1), 1, (1, 5), 0, 0));
+    assert_eq!(laptop.engine.store(), [0; 192]);
+    assert_eq!((laptop.me.epoch, laptop.me.view), (0, set(&[1, 2, 5])));
+}
+
+/// The same by events alone, after a view.
+#[test]
+fn a_replay_after_a_view() {
     let mut laptop = Laptop::fresh();
     assert_eq!(laptop.deliver(5, (INV, 1, 5), b"B"), sent(ACK, 1, 5));
     assert_eq!(laptop.record(), record(INVALID, (1, 5), 5, (0, 1), 0, 1));
@@ -242,14 +261,10 @@ fn validate_after_a_view() {
 #[test]
 fn the_last_versions() {
     let mut laptop = Laptop::fresh();
-    for memory in [&mut laptop.engine, &mut laptop.model] {
-        memory.put_record(0, &record(VALID, (4_294_967_294, 1), 1, (0, 1), 0, 0));
-    }
+    laptop.lay(&record(VALID, (4_294_967_294, 1), 1, (0, 1), 0, 0));
     assert_eq!(laptop.write(0, b""), sent(INV, 4_294_967_295, 2));
     let last = record(VALID, (4_294_967_295, 2), 2, (4_294_967_295, 2), 0, 0);
-    for memory in [&mut laptop.engine, &mut laptop.model] {
-        memory.put_record(0, &last);
-    }
+    laptop.lay(&last);
     assert_eq!(laptop.write(0, b""), refused(9));
     assert_eq!(laptop.record(), last);
 }

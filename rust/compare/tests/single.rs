@@ -4,6 +4,7 @@ use cetskobi::raw::{Message, Replica, RECORD_BYTES};
 use compare::bytes::Bytes;
 use compare::crossing::Fields;
 use compare::settings::Settings;
+use compare::shrink::shrink;
 use compare::single::{by_model, compare, Bench, Case, Event};
 
 #[test]
@@ -70,7 +71,8 @@ fn events() -> Vec<Event> {
 /// Every byte of a record with every value, at every state, for every event.
 #[test]
 fn every_byte_of_a_record() {
-    let mut bench = Bench::new(&mut Settings::USUAL.rng("every byte"));
+    let settings = Settings::from_env();
+    let mut bench = Bench::new(&mut settings.rng("every byte"));
     let mut accepted = 0;
     for event in events() {
         for (state, place) in (0..5).flat_map(|s| (0..RECORD_BYTES).map(move |k| (s, k))) {
@@ -82,9 +84,13 @@ fn every_byte_of_a_record() {
                 case.part = 1 + usize::from(value) % 100;
                 case.record = Fields::of(&bytes);
                 assert_eq!(case.record.bytes(), bytes);
-                match bench.difference(&case, by_model) {
+                let mut difference = |case: &Case| bench.difference(case, by_model);
+                match difference(&case) {
                     Ok(outcome) => accepted += u64::from(outcome.number == 0),
-                    Err(what) => panic!("{what}: {case:?}"),
+                    Err(what) => {
+                        let found = shrink(case, what, |case| difference(case).err());
+                        panic!("{settings}\n{found}");
+                    }
                 }
             }
         }

@@ -3,7 +3,7 @@
 
 use std::fmt;
 
-use cetskobi::{Laptop, Record, State, Timestamp};
+use cetskobi::{Laptop, Members, Record, State, Timestamp};
 
 /// Two halves, two ways to fail.
 #[derive(Clone, Copy, Debug, PartialEq, Eq)]
@@ -70,7 +70,7 @@ pub(crate) struct Agreement {
 /// A record that a laptop shows valid.
 struct Screen<'a> {
     number: u8,
-    view: u16,
+    view: Members,
     timestamp: Timestamp,
     len: u8,
     bytes: &'a [u8],
@@ -89,7 +89,7 @@ impl Agreement {
         let (Some(r), Some(row)) = (finisher.record(record), self.validated.get_mut(record)) else {
             return;
         };
-        for laptop in finisher.members() {
+        for laptop in finisher.view() {
             let least = &mut row[usize::from(laptop)];
             *least = r.timestamp.max(*least);
         }
@@ -128,7 +128,7 @@ fn two_screens(screens: &[Screen], record: usize) -> Result<(), Disagreement> {
     }
     for (n, a) in screens.iter().enumerate() {
         for b in &screens[n + 1..] {
-            let face_to_face = a.view >> b.number & 1 == 1 && b.view >> a.number & 1 == 1;
+            let face_to_face = a.view.contains(b.number) && b.view.contains(a.number);
             if face_to_face && !a.same(b) {
                 let laptops = (a.number, b.number);
                 return Err(Disagreement::TwoScreens { record, laptops });
@@ -172,7 +172,7 @@ mod tests {
             timestamp,
             writer: 0,
             written: timestamp,
-            acks: 0,
+            acks: Members::default(),
             len: 1,
         };
         let mut store = vec![0; Record::VALUE_MAX];

@@ -20,6 +20,11 @@ pub enum Cause {
         /// The record.
         record: usize,
     },
+    /// All is settled, and a bird still waits to be saved though its record does not hang.
+    Unsaved {
+        /// The record.
+        record: usize,
+    },
 }
 
 impl Cause {
@@ -27,7 +32,9 @@ impl Cause {
     pub fn record(&self) -> usize {
         match self {
             Cause::Disagreement(d) => d.record(),
-            Cause::Unsettled { record } | Cause::OtherText { record } => *record,
+            Cause::Unsettled { record }
+            | Cause::OtherText { record }
+            | Cause::Unsaved { record } => *record,
         }
     }
 }
@@ -43,6 +50,12 @@ impl fmt::Display for Cause {
                 f,
                 "record {record} has settled with another text than was saved"
             ),
+            Cause::Unsaved { record } => {
+                write!(
+                    f,
+                    "record {record} has settled, and a bird still waits for it"
+                )
+            }
         }
     }
 }

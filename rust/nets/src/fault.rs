@@ -16,6 +16,8 @@ pub enum Fault {
     Sender,
     /// Hut software drops validations.
     Val,
+    /// Hut software refuses the saves of one record in seven.
+    Save,
 }
 
 impl Fault {
@@ -30,7 +32,8 @@ impl Fault {
             "epoch" => Ok(Fault::Epoch),
             "sender" => Ok(Fault::Sender),
             "val" => Ok(Fault::Val),
-            _ => Err("--fault: text, epoch, sender or val".to_owned()),
+            "save" => Ok(Fault::Save),
+            _ => Err("--fault: text, epoch, sender, val or save".to_owned()),
         }
     }
 }

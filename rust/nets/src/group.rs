@@ -162,7 +162,7 @@ impl Group {
         answer: Answer,
         after: Option<Record>,
     ) -> Event {
-        let (epoch, view) = (self.laptop(laptop).epoch(), self.laptop(laptop).members());
+        let (epoch, view) = (self.laptop(laptop).epoch(), self.laptop(laptop).view());
         Event {
             tick: self.now,
             laptop,

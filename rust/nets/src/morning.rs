@@ -14,7 +14,8 @@ use crate::settled::{self, Settled};
 use crate::Tick;
 
 /// Once the link has healed, and the last view and the last save are made, all
-/// must be settled within so many ticks and so many times the link's delay.
+/// must be settled, and no bird still wait for a record that does not hang,
+/// within so many ticks and so many times the link's delay.
 const GRACE: Tick = 1000;
 const GRACE_DELAYS: Tick = 50;
 /// So often it is looked whether all is settled.
@@ -119,7 +120,7 @@ impl Morning {
     /// struck off.
     fn ringers(&mut self) -> Done {
         let awake = self.plan.awake(self.group.now);
-        let told = |n: &u8| !self.group.laptop(*n).members().contains(*n);
+        let told = |n: &u8| !self.group.laptop(*n).view().contains(*n);
         let usable: Members = awake.into_iter().filter(|n| !told(n)).collect();
         let (group, huts) = (&mut self.group, &mut self.huts);
         self.ringers.tick(group, huts, usable)
@@ -160,9 +161,15 @@ impl Morning {
         match settled::look(&self.group, &members) {
             Err(Cause::Unsettled { .. }) if !over => Ok(None),
             Err(cause) => Err(cause),
-            // A bird waits for a record that can be opened: it will be saved.
-            Ok(s) if !self.ringers.waiting().iter().all(|r| s.hung.contains(r)) => Ok(None),
-            Ok(s) => Ok(Some(s)),
+            Ok(s) => {
+                let waiting = self.ringers.waiting().into_iter();
+                match waiting.filter(|r| !s.hung.contains(r)).min() {
+                    None => Ok(Some(s)),
+                    // Its record is valid everywhere, so it can be saved.
+                    Some(record) if over => Err(Cause::Unsaved { record }),
+                    Some(_) => Ok(None),
+                }
+            }
         }
     }
 

@@ -11,7 +11,7 @@ A morning at the nets: laptops on the proved engine over a poor radio link.
 Agreement is checked after every event; exit status 1 if it ever fails, 2 for
 wrong options.
 
-  --seed S         the beginning of all random numbers    (10)
+  --seed S         the beginning of all random numbers    (10, or CETSKOBI_SEED)
   --seeds N        N mornings, from the seed on, one line each
   --laptops N      2 to 16                                (11)
   --records N      1 to 4096                              (4096)
@@ -27,7 +27,8 @@ wrong options.
   --delay T        the most ticks a packet usually takes  (6)
   --fault F        break something and see it reported: text (the link alters
                    texts), sender (the link alters who acknowledged), epoch
-                   (huts take messages of other epochs), val (huts drop VALs)
+                   (huts take messages of other epochs), val (huts drop VALs),
+                   save (huts refuse some saves)
   --help           this page
 ";
 
@@ -52,7 +53,7 @@ impl Command {
     ///
     /// What is wrong with them, in plain words.
     pub fn parse<I: IntoIterator<Item = String>>(words: I) -> Result<Command, String> {
-        let mut settings = Settings::default();
+        let mut settings = Settings::from_env()?;
         let mut seeds = None;
         let mut words = words.into_iter();
         while let Some(word) = words.next() {

@@ -70,6 +70,20 @@ pub(crate) enum Part {
 }
 
 impl Settings {
+    /// The usual ones, with the seed of CETSKOBI_SEED if that is set.
+    ///
+    /// # Errors
+    ///
+    /// That it is no number.
+    pub fn from_env() -> Result<Settings, String> {
+        let mut settings = Settings::default();
+        if let Ok(seed) = std::env::var("CETSKOBI_SEED") {
+            let wrong = |_| format!("CETSKOBI_SEED is no number: {seed}");
+            settings.seed = seed.parse().map_err(wrong)?;
+        }
+        Ok(settings)
+    }
+
     /// The random numbers of one part: how many one takes does not change
     /// another's.
     pub(crate) fn rng(&self, part: Part) -> Rng {

@@ -75,7 +75,7 @@ fn hangs(members: &[&Laptop], records: &[Record]) -> bool {
 
 /// In invalid-write, and the last writer was struck off.
 fn is_hung(laptop: &Laptop, r: &Record) -> bool {
-    r.state == State::InvalidWrite && !laptop.members().contains(r.writer)
+    r.state == State::InvalidWrite && !laptop.view().contains(r.writer)
 }
 
 fn lost(group: &Group, members: &[&Laptop]) -> usize {
@@ -155,7 +155,7 @@ mod tests {
                 timestamp: SAVED,
                 writer,
                 written: SAVED,
-                acks: 0,
+                acks: Members::default(),
                 len: 0,
             };
             let me = Replica {

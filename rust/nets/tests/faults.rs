@@ -52,6 +52,13 @@ fn an_acknowledgement_in_anothers_name() {
     assert!(matches!(failure.cause, Cause::Disagreement(_)), "{failure}");
 }
 
+/// The morning ends although the bird's save never comes.
+#[test]
+fn saves_that_are_refused() {
+    let failure = failure(Fault::Save);
+    assert!(matches!(failure.cause, Cause::Unsaved { .. }), "{failure}");
+}
+
 #[test]
 fn validations_that_nobody_takes() {
     let failure = failure(Fault::Val);

@@ -1,13 +1,13 @@
 //! What is measured: each case with its two sides, on equal inputs.
 
 use cetskobi::sys::{Message, Replica};
-use cetskobi::{Record, State, Timestamp};
+use cetskobi::{Members, Record, State, Timestamp};
 
 use crate::engine::{self, Engine};
 use crate::packets;
 use crate::plain::{self, Plain};
 use crate::scripts;
-use crate::side::{About, On, Side};
+use crate::side::{About, On, Side, Told};
 
 /// What is done with each case.
 pub trait Visit {
@@ -50,7 +50,7 @@ const fn record(state: State, timestamp: (u32, u8), written: (u32, u8), acks: u1
             version: written.0,
             tie: written.1,
         },
-        acks,
+        acks: Members::from_bits(acks),
         len: TEXT.len() as u8,
     }
 }
@@ -67,22 +67,48 @@ const fn message(kind: u8, version: u32, tie: u8) -> Message {
 }
 
 /// An event on one record, whose cost does not grow with the table.
-pub fn event(name: &'static str, title: &'static str, records: usize) -> About {
+pub fn event(name: &'static str, title: &'static str, records: usize, answer: Told) -> About {
     About {
         name,
         title,
         records,
         from: records.saturating_sub(64),
         flat: true,
+        answer,
     }
 }
 
 /// A call that is no event on a record.
-pub fn other(name: &'static str, title: &'static str, calls: usize) -> About {
+pub fn other(name: &'static str, title: &'static str, calls: usize, answer: Told) -> About {
     About {
         flat: false,
-        ..event(name, title, calls)
+        ..event(name, title, calls, answer)
     }
+}
+
+// What the calls answer.
+
+/// Accepted, and nothing leaves.
+const NOTHING: Told = (0, [0; 3]);
+
+/// Accepted, and this leaves.
+pub const fn sent(kind: usize, version: usize, tie: usize) -> Told {
+    (0, [kind, tie, version])
+}
+
+/// A number, such as a length.
+pub const fn number(n: usize) -> Told {
+    (0, [n, 0, 0])
+}
+
+/// Refused by this question.
+const fn refused(question: u8) -> Told {
+    (question, [0; 3])
+}
+
+/// Accepted: this identity.
+const fn admitted(number: usize, view: usize, epoch: usize) -> Told {
+    (0, [number, view, epoch])
 }
 
 /// Every case, with a table of this many records.
@@ -96,7 +122,7 @@ pub fn all(records: usize, visit: &mut impl Visit) {
 
 fn events(n: usize, visit: &mut impl Visit) {
     visit.case(
-        event("read", "read", n),
+        event("read", "read", n, number(TEXT.len())),
         || On {
             lent: Engine::new(ME, n, VALID, ()),
             prepare: |_: &mut _, _| (),
@@ -109,25 +135,25 @@ fn events(n: usize, visit: &mut impl Visit) {
         },
     );
     write(
-        event("write", "write, 32 bytes", n),
+        event("write", "write, 32 bytes", n, sent(1, 8, 2)),
         VALID,
         TEXT.to_vec(),
         visit,
     );
     write(
-        event("write-192", "write, 192 bytes", n),
+        event("write-192", "write, 192 bytes", n, sent(1, 8, 2)),
         VALID,
         TEXT.repeat(6),
         visit,
     );
     write(
-        event("write-7", "write, refused by question 7", n),
+        event("write-7", "write, refused by question 7", n, refused(7)),
         WRITING,
         TEXT.to_vec(),
         visit,
     );
     visit.case(
-        event("validate", "validate", n),
+        event("validate", "validate", n, sent(3, 8, 2)),
         || On {
             lent: Engine::new(ME, n, VALID, ()),
             prepare: |e: &mut Engine<()>, i| e.set(i, ACKNOWLEDGED),
@@ -140,7 +166,7 @@ fn events(n: usize, visit: &mut impl Visit) {
         },
     );
     visit.case(
-        event("replay", "replay", n),
+        event("replay", "replay", n, sent(1, 8, 4)),
         || On {
             lent: Engine::new(ME, n, VALID, ()),
             prepare: |e: &mut Engine<()>, i| e.set(i, ORPHAN),
@@ -153,7 +179,7 @@ fn events(n: usize, visit: &mut impl Visit) {
         },
     );
     visit.case(
-        event("resend", "resend", n),
+        event("resend", "resend", n, sent(1, 8, 2)),
         || On {
             lent: Engine::new(ME, n, WRITING, ()),
             prepare: |_: &mut _, _| (),
@@ -190,13 +216,18 @@ fn write(about: About, record: Record, value: Vec<u8>, visit: &mut impl Visit) {
 }
 
 fn deliveries(n: usize, visit: &mut impl Visit) {
-    let inv = event("inv", "deliver INV, 32 bytes", n);
+    let inv = event("inv", "deliver INV, 32 bytes", n, sent(2, 8, 5));
     deliver(inv, VALID, message(1, 8, 5), TEXT.to_vec(), visit);
-    let older = event("inv-older", "deliver INV of an older stamp", n);
+    let older = event(
+        "inv-older",
+        "deliver INV of an older stamp",
+        n,
+        sent(2, 6, 5),
+    );
     deliver(older, VALID, message(1, 6, 5), TEXT.to_vec(), visit);
-    let ack = event("ack", "deliver ACK", n);
+    let ack = event("ack", "deliver ACK", n, NOTHING);
     deliver(ack, WRITING, message(2, 8, 2), vec![], visit);
-    let val = event("val", "deliver VAL", n);
+    let val = event("val", "deliver VAL", n, NOTHING);
     deliver(val, INVALID, message(3, 8, 5), vec![], visit);
 }
 
@@ -228,7 +259,12 @@ fn deliver(about: About, record: Record, m: Message, body: Vec<u8>, visit: &mut 
 fn leaving(n: usize, visit: &mut impl Visit) {
     let sent = plain::envelope(message(1, 8, 2), 0).message;
     visit.case(
-        event("body", "bytes that an INV takes along", n),
+        event(
+            "body",
+            "bytes that an INV takes along",
+            n,
+            number(TEXT.len()),
+        ),
         || On {
             lent: Engine::new(ME, n, WRITING, 1),
             prepare: |_: &mut _, _| (),
@@ -243,7 +279,7 @@ fn leaving(n: usize, visit: &mut impl Visit) {
         },
     );
     visit.case(
-        other("recipients", "who gets an INV", n),
+        other("recipients", "who gets an INV", n, number(0b10_0010)),
         || On {
             lent: (ME, 1u8, 5u8),
             prepare: |_: &mut _, _| (),
@@ -261,7 +297,7 @@ fn leaving(n: usize, visit: &mut impl Visit) {
 
 fn membership(n: usize, visit: &mut impl Visit) {
     visit.case(
-        other("view", "view", n),
+        other("view", "view", n, admitted(2, 0b110, 10)),
         || On {
             lent: (ME, 10u32, 0b110u16),
             prepare: |_: &mut _, _| (),
@@ -276,12 +312,11 @@ fn membership(n: usize, visit: &mut impl Visit) {
             },
         },
     );
-    start(other("start", "fresh start, 1 record", n), 1, visit);
-    start(
-        other("start-4096", "fresh start, 4,096 records", n),
-        4096,
-        visit,
-    );
+    let started = admitted(2, ME.view as usize, 0);
+    let one = other("start", "fresh start, 1 record", n, started);
+    start(one, 1, visit);
+    let most = other("start-4096", "fresh start, 4,096 records", n, started);
+    start(most, 4096, visit);
 }
 
 fn start(about: About, n: usize, visit: &mut impl Visit) {

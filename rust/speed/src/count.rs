@@ -32,8 +32,7 @@ impl Which {
 /// So many calls on the last record of the table, each freshly prepared.
 pub fn calls(about: &About, side: &mut impl Side, calls: u64) {
     let last = about.records - 1;
-    side.prepare(last);
-    side.call(last);
+    about.check(side, last);
     for _ in 0..calls {
         side.prepare(last);
         measured_calls(side, last, last + 1);
@@ -45,14 +44,13 @@ pub fn calls(about: &About, side: &mut impl Side, calls: u64) {
 pub fn instructions(name: &str, which: Which, calls: u64, records: usize) -> io::Result<u64> {
     let out = temp_dir().join(format!("speed-{}-{name}-{}-{records}", id(), which.name()));
     let status = Command::new("valgrind")
-        .arg("--tool=callgrind")
+        .args(["--quiet", "--tool=callgrind"])
         .arg(format!("--callgrind-out-file={}", out.display()))
         .arg("--toggle-collect=*measured_calls*")
         .arg(current_exe()?)
         .args(["calls", name, which.name()])
         .args([calls.to_string(), records.to_string()])
         .stdout(Stdio::null())
-        .stderr(Stdio::null())
         .status()?;
     let file = fs::read_to_string(&out);
     let _ = fs::remove_file(&out);
@@ -63,14 +61,4 @@ pub fn instructions(name: &str, which: Which, calls: u64, records: usize) -> io:
     total
         .map(|sum| sum / calls)
         .ok_or_else(|| io::Error::other(format!("callgrind counted nothing of {name}")))
-}
-
-/// Is valgrind there?
-pub fn valgrind() -> bool {
-    let mut asked = Command::new("valgrind");
-    let asked = asked
-        .arg("--version")
-        .stdout(Stdio::null())
-        .stderr(Stdio::null());
-    asked.status().is_ok_and(|status| status.success())
 }

@@ -1,7 +1,7 @@
 //! The engine's speed beside the model's.
 //!
 //!     speed                              the table, in Markdown
-//!     speed flat NAME..                  an event's cost does not grow with the table
+//!     speed flat                         no event's cost grows with the table
 //!     speed calls NAME SIDE CALLS RECORDS     so many calls, for callgrind
 
 mod cases;
@@ -26,9 +26,9 @@ fn main() -> ExitCode {
     let args: Vec<&str> = args.iter().map(String::as_str).collect();
     let done = match args[..] {
         [] => table::print(),
-        ["flat", ref names @ ..] => table::flat(names),
+        ["flat"] => table::flat(),
         ["calls", name, side, calls, records] => run(name, side, calls, records),
-        _ => Err("speed, speed flat NAME.. or speed calls NAME SIDE CALLS RECORDS".into()),
+        _ => Err("speed, speed flat or speed calls NAME SIDE CALLS RECORDS".into()),
     };
     match done {
         Ok(()) => ExitCode::SUCCESS,

@@ -5,7 +5,7 @@ use std::hint::black_box;
 use cetskobi::sys::Message;
 use model::packet::Entry;
 
-use crate::cases::{event, other, Visit, ME, TEXT, VALID};
+use crate::cases::{event, number, other, sent, Visit, ME, TEXT, VALID};
 use crate::engine::{self, Engine};
 use crate::plain::{self, Plain};
 use crate::side::{About, On};
@@ -66,6 +66,7 @@ pub fn all(n: usize, visit: &mut impl Visit) {
             "fetch-64",
             "fetch of each of the 64 messages of a full packet",
             n,
+            number(64),
         ),
         || On {
             lent: packet.clone(),
@@ -87,22 +88,36 @@ pub fn all(n: usize, visit: &mut impl Visit) {
         },
     );
     pack(
-        other("pack-64", "packet of 64 messages, 1,400 bytes", n),
+        other(
+            "pack-64",
+            "packet of 64 messages, 1,400 bytes",
+            n,
+            number(1400),
+        ),
         full(64),
         visit,
     );
     let texts = Parcel::new(64, &[192; 6]);
     pack(
-        other("pack-texts", "packet of six full texts, 1,252 bytes", n),
+        other(
+            "pack-texts",
+            "packet of six full texts, 1,252 bytes",
+            n,
+            number(1252),
+        ),
         texts,
         visit,
     );
     let title = "delivery of the last message of a full packet";
-    deliver(event("packet-64", title, n), &[full(n)], visit);
+    deliver(
+        event("packet-64", title, n, sent(2, 8, 5)),
+        &[full(n)],
+        visit,
+    );
     let title = "delivery from a packet of one message, 32 bytes";
     let single = |k: usize| Parcel::new((n + k + 1).saturating_sub(64).max(1), &[TEXT.len()]);
     let singles: Vec<Parcel> = (0..64).map(single).collect();
-    deliver(event("packet-1", title, n), &singles, visit);
+    deliver(event("packet-1", title, n, sent(2, 8, 5)), &singles, visit);
 }
 
 fn pack(about: About, parcel: Parcel, visit: &mut impl Visit) {

@@ -43,7 +43,7 @@ pub fn record(r: cetskobi::Record) -> Record {
         timestamp: stamp(r.timestamp),
         last_writer: r.writer,
         last_write: stamp(r.written),
-        acks: r.acks,
+        acks: r.acks.bits(),
         len: r.len,
     }
 }

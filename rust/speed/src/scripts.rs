@@ -1,6 +1,6 @@
 //! The cases of the playing program.
 
-use crate::cases::{other, Visit};
+use crate::cases::{number, other, Visit};
 use crate::engine;
 use crate::side::{About, On};
 
@@ -44,12 +44,17 @@ fn long() -> String {
 
 pub fn all(visit: &mut impl Visit) {
     play(
-        other("play", "player, document 01's example", 1),
+        other("play", "player, document 01's example", 1, number(90)),
         EXAMPLE,
         visit,
     );
     play(
-        other("play-long", "player, 65,536 bytes of script", 1),
+        other(
+            "play-long",
+            "player, 65,536 bytes of script",
+            1,
+            number(60_006),
+        ),
         &long(),
         visit,
     );

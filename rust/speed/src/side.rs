@@ -54,16 +54,7 @@ pub fn measured_calls<S: Side>(side: &mut S, from: usize, to: usize) {
     }
 }
 
-/// Both sides answer this call alike, and as the case expects.
-pub fn agree(name: &str, i: usize, engine: &mut impl Side, model: &mut impl Side) -> Told {
-    engine.prepare(i);
-    model.prepare(i);
-    let told = engine.call(i).told();
-    assert_eq!(told, model.call(i).told(), "{name}: the sides differ");
-    told
-}
-
-/// A case that visits get: its name, and how many calls there are in a round.
+/// A case that visits get: its name, its answer, and how many calls there are in a round.
 #[derive(Clone, Copy, Debug)]
 pub struct About {
     pub name: &'static str,
@@ -75,4 +66,23 @@ pub struct About {
     pub from: usize,
     /// Its cost does not grow with the table.
     pub flat: bool,
+    /// What every call answers.
+    pub answer: Told,
+}
+
+impl About {
+    /// A call that is not measured, on a record prepared for it, answers as the
+    /// case says. Otherwise something else would be measured.
+    pub fn check(&self, side: &mut impl Side, i: usize) {
+        side.prepare(i);
+        let told = side.call(i).told();
+        assert_eq!(told, self.answer, "{}: number, and what came", self.name);
+    }
+
+    /// Each of its calls.
+    pub fn check_all(&self, side: &mut impl Side) {
+        for i in self.from..self.records {
+            self.check(side, i);
+        }
+    }
 }

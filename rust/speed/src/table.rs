@@ -1,9 +1,9 @@
 //! The table of both, and the rule that an event's cost does not grow.
 
 use crate::cases::{self, Visit};
-use crate::count::{self, instructions, Which};
+use crate::count::{instructions, Which};
 use crate::measure::{ratio, Ratio};
-use crate::side::{agree, About, Side};
+use crate::side::{About, Side};
 
 /// The records of the table that times are taken on.
 const RECORDS: usize = 64;
@@ -26,7 +26,8 @@ impl Visit for Times {
         model: impl FnOnce() -> M,
     ) {
         let (mut engine, mut model) = (engine(), model());
-        agree(about.name, about.records - 1, &mut engine, &mut model);
+        about.check_all(&mut engine);
+        about.check_all(&mut model);
         let ratio = ratio(&about, &mut engine, &mut model);
         self.0.push((about, ratio));
     }
@@ -35,18 +36,13 @@ impl Visit for Times {
 pub fn print() -> Result<(), String> {
     let mut times = Times::default();
     cases::all(RECORDS, &mut times);
-    let counted = count::valgrind();
-    if !counted {
-        eprintln!("no valgrind: instructions were not counted");
-    }
 
     println!("| case | engine, instructions | at 4,096 records | model, instructions | engine : model | time, best | time, median |");
     println!("|---|--:|--:|--:|--:|--:|--:|");
     let mut grown = vec![];
     for (about, time) in &times.0 {
-        let count = |which, records| match counted {
-            true => instructions(about.name, which, CALLS, records).map_err(|e| e.to_string()),
-            false => Ok(0),
+        let count = |which, records| {
+            instructions(about.name, which, CALLS, records).map_err(|e| e.to_string())
         };
         let engine = count(Which::Engine, FEW)?;
         let model = count(Which::Model, FEW)?;
@@ -71,16 +67,37 @@ pub fn print() -> Result<(), String> {
     verdict(&grown)
 }
 
-/// The rule for some events alone.
-pub fn flat(names: &[&str]) -> Result<(), String> {
+/// The names of the events under the rule, each call checked on both sides.
+#[derive(Default)]
+struct Flat(Vec<&'static str>);
+
+impl Visit for Flat {
+    fn case<E: Side, M: Side>(
+        &mut self,
+        about: About,
+        engine: impl FnOnce() -> E,
+        model: impl FnOnce() -> M,
+    ) {
+        if about.flat {
+            about.check_all(&mut engine());
+            about.check_all(&mut model());
+            self.0.push(about.name);
+        }
+    }
+}
+
+/// The rule alone, for every event.
+pub fn flat() -> Result<(), String> {
+    let mut events = Flat::default();
+    cases::all(MANY, &mut events);
     let mut grown = vec![];
-    for name in names {
+    for name in events.0 {
         let count =
             |records| instructions(name, Which::Engine, CALLS, records).map_err(|e| e.to_string());
         let (few, many) = (count(FEW)?, count(MANY)?);
         println!("{name}: {few} instructions in a table of {FEW}, {many} in one of {MANY}");
         if grows(few, many) {
-            grown.push(*name);
+            grown.push(name);
         }
     }
     verdict(&grown)

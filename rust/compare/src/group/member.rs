@@ -31,8 +31,8 @@ pub struct Member {
 }
 
 impl Member {
-    /// Started fresh, in memory that was not clean.
-    pub(super) fn start(number: u8, run: &Run) -> Member {
+    /// Started fresh, in memory that was not clean. Both sides accept.
+    pub(super) fn start(number: u8, run: &Run) -> Result<Member, String> {
         let mut memory = Memory::default();
         memory.lay(
             &vec![OLD; RECORD_BYTES * run.records],
@@ -47,16 +47,20 @@ impl Member {
         let mut table = vec![Record::fresh(9); run.records];
         let mut store = memory.store().to_vec();
         let outcome = by_engine(&case, &mut memory);
-        assert_eq!(outcome, on_table(&case, &mut table, &mut store));
-        assert_eq!(outcome.number, 0, "a fresh start");
-        Member {
+        let expected = on_table(&case, &mut table, &mut store);
+        if outcome != expected || outcome.number != 0 {
+            return Err(format!(
+                "start of {number}: engine {outcome:?}, other {expected:?}"
+            ));
+        }
+        Ok(Member {
             me: outcome.me,
             copy: memory.clone(),
             memory,
             table,
             store,
             floor: vec![(0, 0); run.records],
-        }
+        })
     }
 
     /// The engine's memory as the model's table and store would have it.

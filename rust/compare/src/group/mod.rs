@@ -39,8 +39,8 @@ pub fn compare(
     for (records, entries, runs) in SIZES {
         for _ in 0..runs * settings.times {
             let (mut run, mut schedule) = Schedule::start(&mut rng, records);
-            let mut group = Group::start(&run, carry, other);
             let mut play = |run: &mut Run| {
+                let mut group = Group::start(run, carry, other)?;
                 for id in 0..entries {
                     let (at, what) = schedule.next(&mut rng, &group);
                     run.entries.push(Entry { id, at, what });

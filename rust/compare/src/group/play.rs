@@ -39,8 +39,8 @@ pub fn by_packet(post: &Post, me: Replica, table: &mut [u8], store: &mut [u8]) -
         post.value.len() as u32,
     ];
     let mut packet = [0; 1400];
+    // Were it refused, no packet would be delivered: the answers would differ.
     let written = raw::pack(&[ack, entry].concat(), &post.value, &mut packet);
-    assert_eq!(written.number, 0);
     raw::deliver_packet(me, table, store, &packet[..written.len], 1)
 }
 
@@ -58,15 +58,15 @@ pub struct Group {
 
 impl Group {
     /// All members have just started fresh, in memory that was not clean.
-    pub fn start(run: &Run, carry: Carry, other: OnTable) -> Group {
+    pub fn start(run: &Run, carry: Carry, other: OnTable) -> Result<Group, String> {
         let member = |&number: &u8| Member::start(number, run);
-        Group {
-            members: run.numbers.iter().map(member).collect(),
+        Ok(Group {
+            members: run.numbers.iter().map(member).collect::<Result<_, _>>()?,
             posts: BTreeMap::new(),
             carry,
             other,
             since: 0,
-        }
+        })
     }
 
     pub fn records(&self) -> usize {

@@ -32,7 +32,7 @@ pub struct Run {
 impl Run {
     /// Plays the whole list.
     pub fn play(&self, carry: Carry, other: OnTable) -> Result<Tally, String> {
-        let mut group = Group::start(self, carry, other);
+        let mut group = Group::start(self, carry, other)?;
         let mut tally = Tally::new();
         for entry in &self.entries {
             group.play(entry, &mut tally)?;
