@@ -1,5 +1,4 @@
--- Laws of the printer, the log and the cluster.
-pub mod Printing
+-- Laws of the log and the cluster.
 pub mod Logs
 pub mod Clusters
 pub mod Turns

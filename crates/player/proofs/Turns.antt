@@ -39,8 +39,8 @@ use Rattle.player.specs.declared.cluster.Member.{Member}
 use Rattle.player.specs.declared.log.Envelope.{Envelope}
 use Rattle.player.specs.declared.turn.Judged.{Judged}
 use Rattle.player.specs.declared.turn.Done.{Done}
-use Rattle.player.specs.declared.print.Left.the-variants as left
-use Rattle.player.specs.Print.{Put, answerLine, unknownLine}
+use Rattle.printer.specs.declared.print.Left.the-variants as left
+use Rattle.printer.specs.Print.{Put, answerLine, unknownLine}
 use Rattle.player.specs.Play.{Turn, unknown, hasRoom, logNumber, played, reply, actionOf, entryTurn, turnOf}
 use Rattle.player.specs.Log.{encode, envelopeOf, Fits, kept, envelopeAt, logOf, Stored}
 use Rattle.player.specs.Cluster.{nodeOf, resultOf, whoOf, lineResult, commit, DoneIs}

@@ -2,7 +2,6 @@
 mod cluster;
 mod game;
 mod log;
-mod print;
 mod turn;
 
 pub use game::Played;

@@ -8,15 +8,13 @@ ghost use Rattle.hermes.specs.Event.{numberOf, sentBy, leavingBody};
 ghost use Rattle.hermes.specs.Node.{indexOf, apply, viewed};
 ghost use Rattle.hermes.specs.Run.{event, find, delivery, perform};
 ghost use Rattle.script.specs.Command.{textOf};
-ghost use Rattle.player.specs.Print.{Put, answerLine, unknownLine};
+ghost use Rattle.printer.specs.Print.{Put, answerLine, unknownLine};
 ghost use Rattle.player.specs.Play.{actionOf};
 ghost use Rattle.player.specs.Log.{logOf, kept, encode, envelopeOf, Fits, Stored};
 ghost use Rattle.player.specs.Cluster.{nodeOf, whoOf, lineResult, resultOf, DoneIs};
 use crate::cluster::Member;
 use crate::log;
 use crate::log::Envelope;
-use crate::print;
-use crate::print::Left;
 use hermes::Admission;
 use hermes::Answer;
 use hermes::Event;
@@ -25,6 +23,7 @@ use hermes::Message;
 use hermes::Outgoing;
 use hermes::Received;
 use hermes::Record;
+use printer::Left;
 use script::Command;
 use script::Line;
 
@@ -187,7 +186,7 @@ fn skip(m: Member, sent: usize, out: &mut [u8], at: usize) -> Done
     requires { ⌜ at + 25 ≤ length (now out) ⌝ }
     ensures { λ d. ⌜ (d .member ≡ m) × (d .sent ≡ sent) × (Put unknownLine at (now (out .entry)) (d .at) (now (out .exit))) ⌝ }
 {
-    let to = print::put_unknown(out, at);
+    let to = printer::put_unknown(out, at);
     Done {
         member: m,
         sent: sent,
@@ -205,7 +204,7 @@ fn settle(j: Judged, sent: usize, out: &mut [u8], at: usize) -> Done
     let answer = j.answer;
     let member = j.member;
     let held = member.held;
-    let to = print::put_answer(number_of(answer), held, Left::Nothing, out, at);
+    let to = printer::put_answer(number_of(answer), held, Left::Nothing, out, at);
     Done {
         member: member,
         sent: sent,
@@ -244,7 +243,7 @@ fn log_message(
         len: len as u32,
     };
     log::put_envelope(heads, n, e);
-    let to = print::put_answer(number_of(answer), held, Left::Message(n as u32), out, at);
+    let to = printer::put_answer(number_of(answer), held, Left::Message(n as u32), out, at);
     Done {
         member: member,
         sent: n + 1,

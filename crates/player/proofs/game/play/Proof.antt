@@ -2,7 +2,7 @@
 use Prim.Native.Nat.{_+_}
 use Rattle.player.proofs.Games.{all-played, first-line, too-long, too-short}
 use Rattle.player.specs.Play.{begun}
-use Rattle.player.specs.Print.{unknownLine}
+use Rattle.printer.specs.Print.{unknownLine}
 use Rattle.script.proofs.Words.{size-few}
 use Rattle.script.specs.Text.{lines}
 use Rattle.script.specs.declared.line.Size.{Size}

@@ -4,7 +4,7 @@ ghost use Prim.Native.Nat.{_+_, _≤_};
 ghost use mathlib.Core.List.{[], _∷_, _++_};
 ghost use lib.ListN.{length};
 ghost use Rattle.script.specs.Text.{decimal};
-ghost use Rattle.player.specs.Print.{Put, Low, letterOf, leftOf, answerLine, unknownLine};
+ghost use Rattle.printer.specs.Print.{Put, Low, letterOf, leftOf, answerLine, unknownLine};
 use hermes::Record;
 use hermes::State;
 
@@ -84,7 +84,7 @@ fn put_left(left: Left, out: &mut [u8], at: usize) -> usize
 }
 
 // An answer line.
-pub(crate) fn put_answer(number: u8, r: Record, left: Left, out: &mut [u8], at: usize) -> usize
+pub fn put_answer(number: u8, r: Record, left: Left, out: &mut [u8], at: usize) -> usize
     requires { ⌜ (at + 25 ≤ length (now out)) × (Low left) ⌝ }
     ensures { λ to. ⌜ (Put (answerLine number r left) at (now (out .entry)) to (now (out .exit))) × (length (answerLine number r left) ≤ 25) ⌝ }
 {
@@ -97,7 +97,7 @@ pub(crate) fn put_answer(number: u8, r: Record, left: Left, out: &mut [u8], at: 
 }
 
 // The line `?`.
-pub(crate) fn put_unknown(out: &mut [u8], at: usize) -> usize
+pub fn put_unknown(out: &mut [u8], at: usize) -> usize
     requires { ⌜ at + length unknownLine ≤ length (now out) ⌝ }
     ensures { λ r. ⌜ Put unknownLine at (now (out .entry)) r (now (out .exit)) ⌝ }
 {

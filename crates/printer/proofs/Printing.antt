@@ -12,9 +12,9 @@ use lib.Seq.{sets, length-sets}
 use Rattle.script.specs.Text.{decimal}
 use Rattle.script.proofs.Numbers.{decimal-small, decimal-large, length-small, length-large, length-decimal}
 use Rattle.hermes.specs.declared.record.Record.{Record}
-use Rattle.player.specs.declared.print.Left.{Left}
-use Rattle.player.specs.declared.print.Left.the-variants.{Message, Nothing}
-use Rattle.player.specs.Print.{Put, Low, letterOf, leftOf, answerLine}
+use Rattle.printer.specs.declared.print.Left.{Left}
+use Rattle.printer.specs.declared.print.Left.the-variants.{Message, Nothing}
+use Rattle.printer.specs.Print.{Put, Low, letterOf, leftOf, answerLine}
 
 pub sets-append-at : (d : List ℕ) (at n : ℕ) (a b : List ℕ) → n ≡ at + length a → sets (sets d at a) n b ≡ sets d at (a ++ b)
 sets-append-at d at n [] b e = ap (λ (n : ℕ). sets d n b) (e ∙ add-zero at)

@@ -1,12 +1,12 @@
--- `player::print::put_number` meets its contract.
-use Rattle.player.proofs.Printing.{put-then}
+-- `printer::print::put_number` meets its contract.
+use Rattle.printer.proofs.Printing.{put-then}
 use Rattle.script.specs.Text.{decimal}
 use borrow.Author.Needs.{needs}
 use lib.ListN.{length-append}
 use mathlib.Core.List.{[], _∷_}
 use native.Mathlib.Omega.{arith}
-use Rattle.player.proofs.print.put_number.Statement.{statement}
-use Rattle.player.proofs.print.put_number.Tie as tie
+use Rattle.printer.proofs.print.put_number.Statement.{statement}
+use Rattle.printer.proofs.print.put_number.Tie as tie
 
 put-decimal-requires : tie.Need-put-decimal-requires
 put-decimal-requires c κs = omega (arith, length-append (decimal (c .before .before .args .n)) (32 ∷ []))

@@ -1,6 +1,6 @@
--- `player::print::put_decimal` meets its contract. The digits but the last are printed by the call on a tenth of the number, which is smaller.
+-- `printer::print::put_decimal` meets its contract. The digits but the last are printed by the call on a tenth of the number, which is smaller.
 use Prim.Native.Nat.{_<_, ℕ}
-use Rattle.player.proofs.Printing.{put-digit, put-small}
+use Rattle.printer.proofs.Printing.{put-digit, put-small}
 use Rattle.script.proofs.Numbers.{length-large, length-small}
 use borrow.Author.Needs.{needs}
 use lib.ListN.{length-set}
@@ -8,11 +8,11 @@ use mathlib.Core.Path.{_∙_}
 use native.Mathlib.Omega.{arith}
 use borrow.Fn.Kinds.{In}
 use borrow.Fn.PlainCycle.{Measures, is, falls, and}
-use Rattle.player.proofs.print.put_decimal.Reads as put-decimal
-use Rattle.player.proofs.print.put_decimal.Kinds as put-decimal-kinds
-use Rattle.player.proofs.print.+put_decimal.Lts-put_decimal as put-decimal-lts
-use Rattle.player.proofs.print.+put_decimal.{statement}
-use Rattle.player.proofs.print.+put_decimal.Tie.{close}
+use Rattle.printer.proofs.print.put_decimal.Reads as put-decimal
+use Rattle.printer.proofs.print.put_decimal.Kinds as put-decimal-kinds
+use Rattle.printer.proofs.print.+put_decimal.Lts-put_decimal as put-decimal-lts
+use Rattle.printer.proofs.print.+put_decimal.{statement}
+use Rattle.printer.proofs.print.+put_decimal.Tie.{close}
 
 abbrev μ-put-decimal : Measures 1 put-decimal-kinds.ps ℕ
 μ-put-decimal κs a = a .0

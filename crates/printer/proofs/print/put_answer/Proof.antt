@@ -1,9 +1,9 @@
--- `player::print::put_answer` meets its contract. The words one after another, each with room left for the rest.
-use Rattle.player.proofs.Printing.{answer-room, answer-short, put-whole, room-1, room-2, room-3, room-4, room-5}
+-- `printer::print::put_answer` meets its contract. The words one after another, each with room left for the rest.
+use Rattle.printer.proofs.Printing.{answer-room, answer-short, put-whole, room-1, room-2, room-3, room-4, room-5}
 use borrow.Author.Needs.{needs}
 use lib.ListN.{length}
-use Rattle.player.proofs.print.put_answer.Statement.{statement}
-use Rattle.player.proofs.print.put_answer.Tie as tie
+use Rattle.printer.proofs.print.put_answer.Statement.{statement}
+use Rattle.printer.proofs.print.put_answer.Tie as tie
 
 put-number-requires : tie.Need-put-number-requires
 put-number-requires c κs = room-1 (c .before .before .args .number) (c .before .before .args .r) (c .before .before .args .left) (c .before .before .args .at) (c .before .before .args .out .now) (answer-room (c .before .before .args .number) (c .before .before .args .r) (c .before .before .args .left) (c .before .before .args .at) (length (c .before .before .args .out .now)) (c .before .before .pre .0) (answer-short (c .before .before .args .number) (c .before .before .args .r) (c .before .before .args .left) (search needs) (search needs) (c .before .before .pre .1)))

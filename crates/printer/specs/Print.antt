@@ -8,8 +8,8 @@ use Rattle.script.specs.Text.{decimal}
 use Rattle.hermes.specs.declared.record.Record.{Record}
 use Rattle.hermes.specs.declared.record.State.{State}
 use Rattle.hermes.specs.declared.record.State.the-variants.{Valid, Invalid, InvalidWrite, Write, Replay}
-use Rattle.player.specs.declared.print.Left.{Left}
-use Rattle.player.specs.declared.print.Left.the-variants.{Message, Nothing}
+use Rattle.printer.specs.declared.print.Left.{Left}
+use Rattle.printer.specs.declared.print.Left.the-variants.{Message, Nothing}
 
 -- 01, "state letter (V, I, X for invalid-write, W, R for replay)"
 abbrev pub letterOf : State → ℕ

@@ -1,9 +1,9 @@
--- `player::print::put_left` meets its contract.
-use Rattle.player.proofs.Printing.{left-nothing, left-number, put-then}
+-- `printer::print::put_left` meets its contract.
+use Rattle.printer.proofs.Printing.{left-nothing, left-number, put-then}
 use borrow.Author.Needs.{needs}
 use native.Mathlib.Omega.{arith}
-use Rattle.player.proofs.print.put_left.Statement.{statement}
-use Rattle.player.proofs.print.put_left.Tie as tie
+use Rattle.printer.proofs.print.put_left.Statement.{statement}
+use Rattle.printer.proofs.print.put_left.Tie as tie
 
 enum-known-left : tie.Need-enum-known-left
 enum-known-left c = search needs

@@ -1,8 +1,8 @@
--- `player::print::put_unknown` meets its contract.
-use Rattle.player.proofs.Printing.{put-then}
+-- `printer::print::put_unknown` meets its contract.
+use Rattle.printer.proofs.Printing.{put-then}
 use borrow.Author.Needs.{needs}
-use Rattle.player.proofs.print.put_unknown.Statement.{statement}
-use Rattle.player.proofs.print.put_unknown.Tie as tie
+use Rattle.printer.proofs.print.put_unknown.Statement.{statement}
+use Rattle.printer.proofs.print.put_unknown.Tie as tie
 
 put-byte-requires : tie.Need-put-byte-requires
 put-byte-requires c κs = search needs

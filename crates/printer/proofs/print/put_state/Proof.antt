@@ -1,8 +1,8 @@
--- `player::print::put_state` meets its contract.
-use Rattle.player.proofs.Printing.{put-then}
+-- `printer::print::put_state` meets its contract.
+use Rattle.printer.proofs.Printing.{put-then}
 use borrow.Author.Needs.{needs}
-use Rattle.player.proofs.print.put_state.Statement.{statement}
-use Rattle.player.proofs.print.put_state.Tie as tie
+use Rattle.printer.proofs.print.put_state.Statement.{statement}
+use Rattle.printer.proofs.print.put_state.Tie as tie
 
 letter-requires : tie.Need-letter-requires
 letter-requires c κs = search needs

@@ -1,0 +1,6 @@
+// The printer of the playing program: the line that it prints for each line of a script.
+mod print;
+
+pub use print::Left;
+pub use print::put_answer;
+pub use print::put_unknown;
