@@ -8,12 +8,23 @@ use native.Mathlib.Numerals.{add-one}
 use native.Mathlib.Omega.{arith}
 use borrow.Author.Tests.{ltb-true, ltb-false}
 use lib.Dec.{lit<, ltb}
-use lib.ListN.{length, take, drop, getD, set, length-append, length-drop, take-append-drop}
+use lib.ListN.{length, take, drop, getD, set, length-append, length-take, length-drop, take-append-drop}
 use lib.Seq.{paste, sets-eq, getD-take, getD-drop, length-take-le, take-append-le, drop-append-le, drop-at, take-at, take-length, length-paste}
+use Rattle.hermes.specs.declared.record.Record.{Record}
+use Rattle.hermes.specs.declared.message.Header.{Header}
 use Rattle.hermes.specs.declared.message.Message.{Message}
 use Rattle.hermes.specs.declared.message.Message.the-variants.{Inv, Ack, Val}
-use Rattle.hermes.specs.Run.{Logged, missing, found, find}
+use Rattle.hermes.specs.declared.message.Outgoing.{Outgoing}
+use Rattle.hermes.specs.declared.message.Outgoing.the-variants.{None, Sent}
+use Rattle.hermes.specs.Record.{freshRecord}
+use Rattle.hermes.specs.Store.{valueAt}
+use Rattle.hermes.specs.Event.{bodyOf, leavingBody}
+use Rattle.hermes.specs.Node.{indexOf}
+use Rattle.hermes.specs.Run.{Logged, missing, found, find, logged}
+use Rattle.player.specs.declared.cluster.Member.{Member}
 use Rattle.player.specs.declared.log.Envelope.{Envelope}
+use Rattle.player.specs.Play.{hasRoom}
+use Rattle.player.specs.Cluster.{nodeOf}
 use Rattle.player.specs.Log.{kindOf, timestampOf, messageOf, encode, decode, decodeAll, Fits, kept, envelopeAt, loggedAt, upTo, logOf, Stored}
 
 -- ---- the log
@@ -176,3 +187,44 @@ module _ (heads bodies body : List ℕ) (n : ℕ) (e : Envelope) (fits : Fits e)
       go : (k : ℕ) → k < n + 1 → (t : Bool) → ltb k n ≡ t → envelopeAt heads′ k .len ≤ 192
       go k h true q = rw (old k (ltb-true k n q)) (s .sized k (ltb-true k n q))
       go k h false q = let z : k ≡ n = omega (arith, ltb-false k n q) in rw (z, new, l) b
+
+-- ---- the bytes that a message takes along
+
+pub leaving-short : (o : Outgoing) (r : Record) (store : List ℕ) → length (leavingBody o r store) ≤ length store
+leaving-short None r store = omega arith
+leaving-short (Sent (Inv t) h) r store = simp (length-take, length-drop) (omega arith)
+leaving-short (Sent (Ack t) h) r store = omega arith
+leaving-short (Sent (Val t) h) r store = omega arith
+
+-- the message as it was sent, of a header about record 0
+as-logged : (m : Member) (msg : Message) (h : Header) → h .index ≡ 0
+    → _≡_ {A = Logged} (record { header = h; message = msg; body = bodyOf msg (valueAt (h .index) (getD (m .held ∷ []) (h .index) (freshRecord 0) .len) (m .store)) })
+    (record { header = record { sender = h .sender; epoch = h .epoch; index = 0 }; message = msg; body = leavingBody (Sent msg h) (m .held) (m .store) })
+as-logged m msg h e = λ i. record { header = record { sender = h .sender; epoch = h .epoch; index = e i }; message = msg; body = bodies i }
+  where
+    bodies : bodyOf msg (valueAt (h .index) (getD (m .held ∷ []) (h .index) (freshRecord 0) .len) (m .store)) ≡ bodyOf msg (valueAt (h .index) (m .held .len) (m .store))
+    bodies = ap (λ (r : Record). bodyOf msg (valueAt (h .index) (r .len) (m .store))) (ap (λ (k : ℕ). getD (m .held ∷ []) k (freshRecord 0)) e)
+
+-- a message has room in a log of fewer than 256
+pub room-low : (sent : ℕ) (o : Outgoing) (msg : Message) (h : Header) → o ≡ Sent msg h → hasRoom sent o ≡ true → sent < 256
+room-low sent o msg h e room = ltb-true sent 256 (ap (hasRoom sent) (sym e) ∙ room)
+
+-- what leaves an event of a member, logged; there is room for it
+module _ (m : Member) (heads bodies : List ℕ) (sent : ℕ) (s : Stored heads bodies sent) (o : Outgoing) where
+  pub append-none : o ≡ None → (logOf heads bodies sent ≡ logged (logOf heads bodies sent) (nodeOf m) o) × (Stored heads bodies sent)
+  append-none e = (ap (logged (logOf heads bodies sent) (nodeOf m)) (sym e), s)
+
+  pub append-sent : (msg : Message) (h : Header) → o ≡ Sent msg h → hasRoom sent o ≡ true → indexOf o ≡ 0
+      → (len : ℕ) (heads′ bodies′ : List ℕ) → len ≡ length (leavingBody (Sent msg h) (m .held) (m .store)) → len ≤ 192
+      → heads′ ≡ kept 6 heads sent (encode (record { sender = h .sender; epoch = h .epoch; message = msg; len = len }))
+      → Fits (record { sender = h .sender; epoch = h .epoch; message = msg; len = len })
+      → bodies′ ≡ kept 192 bodies sent (leavingBody (Sent msg h) (m .held) (m .store))
+      → (logOf heads′ bodies′ (sent + 1) ≡ logged (logOf heads bodies sent) (nodeOf m) o) × (Stored heads′ bodies′ (sent + 1))
+  append-sent msg h e room z len heads′ bodies′ el short eh fits eb =
+      let body = leavingBody (Sent msg h) (m .held) (m .store) in
+      let env : Envelope = record { sender = h .sender; epoch = h .epoch; message = msg; len = len } in
+      let low = room-low sent o msg h e room in (
+        (λ i. logOf (eh i) (eb i) (sent + 1)) ∙ log-more heads bodies body sent env fits el low s ∙ ap (λ (x : Logged). logOf heads bodies sent ++ (x ∷ [])) (sym (as-logged m msg h (ap indexOf (sym e) ∙ z)))
+            ∙ ap (logged (logOf heads bodies sent) (nodeOf m)) (sym e),
+        rw (eh, eb) (stored-more heads bodies body sent env fits el low s (omega arith)),
+      )

@@ -1,10 +1,10 @@
 -- What the code makes of a line is what the run makes of it.
 use mathlib.Core.Path.{_≡_, refl, sym, ap, _∙_, subst}
-use mathlib.Core.Bool.{Bool, true, false, cond}
+use mathlib.Core.Bool.{Bool, true, false, cond, not, _&&_}
 use mathlib.Core.List.{List, [], _∷_, _++_}
 use Prim.Native.Nat.{ℕ, zero, suc, _+_, _-_, _*_, _≤_, _<_}
 use native.Mathlib.Omega.{arith}
-use borrow.Author.Tests.{lt-ltb, le-ltb, eqb-true}
+use borrow.Author.Tests.{lt-ltb, le-ltb, eqb-true, not-true, not-false}
 use lib.Dec.{ltb, eqb}
 use lib.ListN.{length, getD, take, drop, length-take, length-drop}
 use Rattle.hermes.specs.declared.timestamp.Timestamp.{Timestamp}
@@ -39,12 +39,13 @@ use Rattle.player.specs.declared.cluster.Member.{Member}
 use Rattle.player.specs.declared.log.Envelope.{Envelope}
 use Rattle.player.specs.declared.turn.Judged.{Judged}
 use Rattle.player.specs.declared.turn.Done.{Done}
-use Rattle.printer.specs.declared.print.Left.the-variants as left
-use Rattle.printer.specs.Print.{Put, answerLine, unknownLine}
+use Rattle.printer.specs.declared.print.Left.{Left}
+use Rattle.printer.specs.Print.{Put, fitting, answerLine, unknownLine}
+use Rattle.printer.proofs.Printing.{put-all}
 use Rattle.player.specs.Play.{Turn, unknown, hasRoom, logNumber, played, reply, actionOf, entryTurn, turnOf}
-use Rattle.player.specs.Log.{encode, envelopeOf, Fits, kept, envelopeAt, logOf, Stored}
-use Rattle.player.specs.Cluster.{nodeOf, resultOf, whoOf, lineResult, commit, DoneIs}
-use Rattle.player.proofs.Logs.{find-known, find-unknown, log-more, stored-more}
+use Rattle.player.specs.Log.{envelopeAt, logOf, Stored}
+use Rattle.player.specs.Cluster.{nodeOf, resultOf, whoOf, lineResult, nodeBy, logBy, commit, DoneIs}
+use Rattle.player.proofs.Logs.{find-known, find-unknown}
 
 -- ---- what leaves an event on record 0 is about record 0
 
@@ -127,87 +128,72 @@ view-refused m epoch set k e =
     ap (λ (x : Answer). event (record { answer = x; node = nodeOf m })) (view-number (m .me) epoch set k e)
     ∙ (λ i. event (record { answer = answerOf (admissionNumber (sym e i)) None; node = record { me = identity (sym e i) (m .me); table = m .held ∷ []; store = m .store } }))
 
--- ---- the bytes that a message takes along
-
-pub leaving-short : (o : Outgoing) (r : Record) (store : List ℕ) → length (leavingBody o r store) ≤ length store
-leaving-short None r store = omega arith
-leaving-short (Sent (Inv t) h) r store = simp (length-take, length-drop) (omega arith)
-leaving-short (Sent (Ack t) h) r store = omega arith
-leaving-short (Sent (Val t) h) r store = omega arith
-
 -- ---- how a line ends
 
--- the message as it was sent, of a header about record 0
-as-logged : (m : Member) (msg : Message) (h : Header) → h .index ≡ 0
-    → _≡_ {A = Logged} (record { header = h; message = msg; body = bodyOf msg (valueAt (h .index) (getD (m .held ∷ []) (h .index) (freshRecord 0) .len) (m .store)) })
-    (record { header = record { sender = h .sender; epoch = h .epoch; index = 0 }; message = msg; body = leavingBody (Sent msg h) (m .held) (m .store) })
-as-logged m msg h e = λ i. record { header = record { sender = h .sender; epoch = h .epoch; index = e i }; message = msg; body = bodies i }
+-- an event that counts has room
+pub has-its-room : (k b : Bool) (sent : ℕ) (o : Outgoing) → b ≡ hasRoom sent o → not (k && b) ≡ false → hasRoom sent o ≡ true
+has-its-room k b sent o e h = sym e ∙ go k h
   where
-    bodies : bodyOf msg (valueAt (h .index) (getD (m .held ∷ []) (h .index) (freshRecord 0) .len) (m .store)) ≡ bodyOf msg (valueAt (h .index) (m .held .len) (m .store))
-    bodies = ap (λ (r : Record). bodyOf msg (valueAt (h .index) (r .len) (m .store))) (ap (λ (k : ℕ). getD (m .held ∷ []) k (freshRecord 0)) e)
+    go : (k : Bool) → not (k && b) ≡ false → b ≡ true
+    go true h = not-false b h
+    go false h = sym (ap (λ (t : Bool). cond t true b) h)
 
-module _ (m : Member) (heads bodies : List ℕ) (sent at : ℕ) (out : List ℕ) (d : Done) (out′ : List ℕ) (s : Stored heads bodies sent) where
-  -- nothing moves
-  pub end-nothing : d .member ≡ m → d .sent ≡ sent → Put unknownLine at out (d .at) out′ → DoneIs m heads bodies sent nothing at out d heads bodies out′
-  end-nothing em es p = record {
-    node = ap nodeOf em;
-    log = ap (logOf heads bodies) es;
-    stored = rw es s;
-    put = p;
-    brief = omega arith;
-  }
+-- an event counts where it is known and the log has room for what leaves it
+module _ (m : Member) (heads bodies : List ℕ) (sent at : ℕ) (out : List ℕ) (j : Judged) (o : Outgoing) (leaves : o ≡ sentBy (j .answer)) (b : Bool) (room : b ≡ hasRoom sent o) where
+  abbrev text : Bool → Outgoing → List ℕ
+  text t x = cond t (answerLine (numberOf (j .answer)) (j .member .held) (logNumber sent x)) unknownLine
 
-  module _ (j : Judged) where
-    pub end-unknown : j .known ≡ false → d .member ≡ m → d .sent ≡ sent → Put unknownLine at out (d .at) out′
-        → DoneIs m heads bodies sent (resultOf j) at out d heads bodies out′
-    end-unknown k em es p = rw k (end-nothing em es p)
+  abbrev log : Bool → Outgoing → List Logged
+  log t x = cond t (logged (logOf heads bodies sent) (nodeOf (j .member)) x) (logOf heads bodies sent)
 
-    module _ (known : j .known ≡ true) where
-      -- an event by what leaves it, and whether there is room for it
-      module _ (o : Outgoing) (leaves : sentBy (j .answer) ≡ o) (b : Bool) (room : hasRoom sent o ≡ b) where
-        abbrev text : Bool → Outgoing → List ℕ
-        text t x = cond t (answerLine (numberOf (j .answer)) (j .member .held) (logNumber sent x)) unknownLine
+  abbrev outcome : Outcome
+  outcome = record { answer = j .answer; node = nodeOf (j .member) }
 
-        by : (heads′ bodies′ : List ℕ) → nodeOf (d .member) ≡ cond b (nodeOf (j .member)) (nodeOf m)
-            → logOf heads′ bodies′ (d .sent) ≡ cond b (logged (logOf heads bodies sent) (nodeOf (j .member)) o) (logOf heads bodies sent) → Stored heads′ bodies′ (d .sent)
-            → Put (text b o) at out (d .at) out′ → length (text b o) ≤ 25 → DoneIs m heads bodies sent (resultOf j) at out d heads′ bodies′ out′
-        by heads′ bodies′ en el es p short =
-            let r : b ≡ hasRoom sent (sentBy (j .answer)) = sym (ap (hasRoom sent) leaves ∙ room) in
-            let e = sym leaves in
-            rw known
-            (record {
-              node = en ∙ ap (λ (t : Bool). cond t (nodeOf (j .member)) (nodeOf m)) r;
-              log = el ∙ (λ i. cond (r i) (logged (logOf heads bodies sent) (nodeOf (j .member)) (e i)) (logOf heads bodies sent));
-              stored = es;
-              put = subst (λ (x : List ℕ). Put x at out (d .at) out′) (λ i. text (r i) (e i)) p;
-              brief = subst (λ (x : List ℕ). length x ≤ 25) (λ i. text (r i) (e i)) short;
-            })
+  node-by : (k : Bool) → cond (k && hasRoom sent (sentBy (j .answer))) (nodeOf (j .member)) (nodeOf m) ≡ nodeBy sent (cond k (event outcome) nothing) (nodeOf m)
+  node-by true = refl
+  node-by false = refl
 
-      pub end-full : (msg : Message) (h : Header) → sentBy (j .answer) ≡ Sent msg h → 256 ≤ sent → d .member ≡ m → d .sent ≡ sent → Put unknownLine at out (d .at) out′
-          → DoneIs m heads bodies sent (resultOf j) at out d heads bodies out′
-      end-full msg h l f em es p =
-          by (Sent msg h) l false (le-ltb sent 256 f) heads bodies (ap nodeOf em) (ap (logOf heads bodies) es) (rw es s) p (omega arith)
+  log-by : (k : Bool) → log (k && hasRoom sent (sentBy (j .answer))) (sentBy (j .answer)) ≡ logBy sent (cond k (event outcome) nothing) (logOf heads bodies sent)
+  log-by true = refl
+  log-by false = refl
 
-      pub end-settled : sentBy (j .answer) ≡ None → d .member ≡ j .member → d .sent ≡ sent
-          → Put (answerLine (numberOf (j .answer)) (j .member .held) left.Nothing) at out (d .at) out′ → length (answerLine (numberOf (j .answer)) (j .member .held) left.Nothing) ≤ 25
-          → DoneIs m heads bodies sent (resultOf j) at out d heads bodies out′
-      end-settled l em es p b = by None l true refl heads bodies (ap nodeOf em) (ap (logOf heads bodies) es) (rw es s) p b
+  text-by : (k : Bool) → text (k && hasRoom sent (sentBy (j .answer))) (sentBy (j .answer)) ≡ reply sent (cond k (event outcome) nothing)
+  text-by true = refl
+  text-by false = refl
 
-      pub end-sent : (msg : Message) (h : Header) (heads′ bodies′ : List ℕ) → sentBy (j .answer) ≡ Sent msg h → h .index ≡ 0 → sent < 256
-          → d .member ≡ j .member → d .sent ≡ sent + 1
-          → heads′ ≡ kept 6 heads sent (encode (envelopeOf msg h (leavingBody (Sent msg h) (j .member .held) (j .member .store))))
-          → Fits (envelopeOf msg h (leavingBody (Sent msg h) (j .member .held) (j .member .store)))
-          → bodies′ ≡ kept 192 bodies sent (leavingBody (Sent msg h) (j .member .held) (j .member .store))
-          → length (leavingBody (Sent msg h) (j .member .held) (j .member .store)) ≤ 192
-          → Put (answerLine (numberOf (j .answer)) (j .member .held) (left.Message sent)) at out (d .at) out′
-          → length (answerLine (numberOf (j .answer)) (j .member .held) (left.Message sent)) ≤ 25
-          → DoneIs m heads bodies sent (resultOf j) at out d heads′ bodies′ out′
-      end-sent msg h heads′ bodies′ l z f em es eh fits eb lb p b =
-          let body = leavingBody (Sent msg h) (j .member .held) (j .member .store) in
-          by (Sent msg h) l true (lt-ltb sent 256 f) heads′ bodies′ (ap nodeOf em)
-          ((λ i. logOf (eh i) (eb i) (es i)) ∙ log-more heads bodies body sent (envelopeOf msg h body) fits refl f s
-          ∙ ap (λ (x : Logged). logOf heads bodies sent ++ (x ∷ [])) (sym (as-logged (j .member) msg h z)))
-          (rw (eh, eb, es) (stored-more heads bodies body sent (envelopeOf msg h body) fits refl f s lb)) p b
+  module _ (t : Bool) (counts : t ≡ j .known && b) where
+    counted : t ≡ j .known && hasRoom sent (sentBy (j .answer))
+    counted = counts ∙ ap (λ (x : Bool). j .known && x) (room ∙ ap (hasRoom sent) leaves)
+
+    whole : text t o ≡ reply sent (resultOf j)
+    whole = (λ i. text (counted i) (leaves i)) ∙ text-by (j .known)
+
+    ends : (d : Done) (heads′ bodies′ out′ : List ℕ) → nodeOf (d .member) ≡ cond t (nodeOf (j .member)) (nodeOf m) → logOf heads′ bodies′ (d .sent) ≡ log t o → Stored heads′ bodies′ (d .sent)
+        → Put (text t o) at out (d .at) out′ → length (text t o) ≤ 25 → DoneIs m heads bodies sent (resultOf j) at out d heads′ bodies′ out′
+    ends d heads′ bodies′ out′ en el es p short = record {
+      node = en ∙ ap (λ (x : Bool). cond x (nodeOf (j .member)) (nodeOf m)) counted ∙ node-by (j .known);
+      log = el ∙ (λ i. log (counted i) (leaves i)) ∙ log-by (j .known);
+      stored = es;
+      put = subst (λ (x : List ℕ). Put x at out (d .at) out′) whole p;
+      brief = subst (λ (x : List ℕ). length x ≤ 25) whole short;
+    }
+
+  module _ (space : at + 25 ≤ length out) (to : ℕ) (out′ : List ℕ) where
+    pub end-skipped : not (j .known && b) ≡ true → Stored heads bodies sent → Put (fitting 2 at (length out) unknownLine) at out to out′
+        → DoneIs m heads bodies sent (resultOf j) at out (record { member = m; sent = sent; at = to }) heads bodies out′
+    end-skipped f s p =
+        ends false (sym (not-true (j .known && b) f)) (record { member = m; sent = sent; at = to }) heads bodies out′ refl refl s (put-all 2 at out unknownLine (omega arith) p) (omega arith)
+
+    pub end-done : not (j .known && b) ≡ false → (next : ℕ) (heads′ bodies′ : List ℕ)
+        → (logOf heads′ bodies′ next ≡ logged (logOf heads bodies sent) (nodeOf (j .member)) o) × (Stored heads′ bodies′ next)
+        → (number : ℕ) → number ≡ numberOf (j .answer) → (l : Left) → l ≡ logNumber sent o
+        → (Put (fitting 25 at (length out) (answerLine number (j .member .held) l)) at out to out′) × (length (answerLine number (j .member .held) l) ≤ 25)
+        → DoneIs m heads bodies sent (resultOf j) at out (record { member = j .member; sent = next; at = to }) heads′ bodies′ out′
+    end-done f next heads′ bodies′ g number en l el p =
+        let e : answerLine number (j .member .held) l ≡ text true o = λ i. answerLine (en i) (j .member .held) (el i) in
+        ends true (sym (not-false (j .known && b) f)) (record { member = j .member; sent = next; at = to }) heads′ bodies′ out′ refl (g .0) (g .1)
+        (subst (λ (x : List ℕ). Put x at out to out′) e (put-all 25 at out (answerLine number (j .member .held) l) space (p .0)))
+        (subst (λ (x : List ℕ). length x ≤ 25) e (p .1))
 
 -- ---- what a line comes to at its member
 

@@ -8,7 +8,6 @@ use lib.ListN.{length, take, drop, getD}
 use lib.Dec.{eqb}
 use lib.Seq.{paste}
 use Rattle.hermes.specs.declared.timestamp.Timestamp.{Timestamp}
-use Rattle.hermes.specs.declared.message.Header.{Header}
 use Rattle.hermes.specs.declared.message.Message.{Message}
 use Rattle.hermes.specs.declared.message.Message.the-variants.{Inv, Ack, Val}
 use Rattle.hermes.specs.Run.{Logged}
@@ -46,10 +45,6 @@ decodeAll w = decode (getD w 0 0) (getD w 1 0) (getD w 2 0) (getD w 3 0) (getD w
 pub record Fits (e : Envelope) : Type 0 where
   pub sender : e .sender < 256
   pub tie : timestampOf (e .message) .tie < 256
-
--- a message as it is logged, with a body of so many bytes
-abbrev pub envelopeOf : Message → Header → List ℕ → Envelope
-envelopeOf m h body = record { sender = h .sender; epoch = h .epoch; message = m; len = length body }
 
 -- ---- the log
 

@@ -7,14 +7,13 @@ ghost use Rattle.printer.specs.Print.{Put};
 ghost use Rattle.player.specs.Play.{freshGroup, prints, answerOf, outputOf};
 use crate::cluster::Cluster;
 use crate::turn;
+use printer::LINE_MAX;
 use script::Size;
 
 const LINE_FEED: u8 = b'\n';
 
-// The most bytes of an input, and of an answer line.
+// The most bytes of an input.
 const INPUT_MAX: usize = 65536;
-
-const LINE_MAX: usize = 25;
 
 // How many bytes were printed; refused where the input is too long, or the output too short for what an input of its length could print.
 pub enum Played {

@@ -1,20 +1,26 @@
 -- One run of bytes after another is one run, and no answer line is longer than 25 bytes.
 use mathlib.Core.Path.{_≡_, refl, sym, ap, _∙_}
-use mathlib.Core.Bool.{Bool, true, false}
+use mathlib.Core.Bool.{Bool, true, false, not}
 use mathlib.Core.List.{List, [], _∷_, _++_}
-use Prim.Native.Nat.{ℕ, suc, _+_, _/_, _%_, _^_, _≤_, _<_}
+use Prim.Native.Nat.{ℕ, suc, _+_, _-_, _/_, _%_, _^_, _≤_, _<_}
 use native.Mathlib.Nat.{add-zero}
 use native.Mathlib.Omega.{arith}
-use borrow.Author.Tests.{ltb-true, ltb-false}
-use lib.Dec.{ltb}
+use borrow.Author.Tests.{ltb-true, ltb-false, leb-true, leb-false, not-true, not-false, le-leb, lt-leb}
+use lib.Dec.{ltb, leb}
 use lib.ListN.{length, set, length-append}
 use lib.Seq.{sets, length-sets}
+use mir.Val.{Val}
+use denote.Laws.{Is}
+use denote.Enum.Declared.{row, variants}
+use denote.Enum.Laws.{Fields, spellss, owed}
+use Rattle.printer.proofs.print.Left.{the-type}
+use Rattle.printer.proofs.print.Left.Laws.{the-laws}
 use Rattle.script.specs.Text.{decimal}
 use Rattle.script.proofs.Numbers.{decimal-small, decimal-large, length-small, length-large, length-decimal}
 use Rattle.hermes.specs.declared.record.Record.{Record}
 use Rattle.printer.specs.declared.print.Left.{Left}
 use Rattle.printer.specs.declared.print.Left.the-variants.{Message, Nothing}
-use Rattle.printer.specs.Print.{Put, Low, letterOf, leftOf, answerLine}
+use Rattle.printer.specs.Print.{Put, fitting, letterOf, leftOf, answerLine}
 
 pub sets-append-at : (d : List ℕ) (at n : ℕ) (a b : List ℕ) → n ≡ at + length a → sets (sets d at a) n b ≡ sets d at (a ++ b)
 sets-append-at d at n [] b e = ap (λ (n : ℕ). sets d n b) (e ∙ add-zero at)
@@ -29,6 +35,34 @@ put-then {a} {b} {out} {mid} {out′} {at} {n} {to} p q = record {
   end = omega (arith, p .end, q .end, length-append a b);
   text = q .text ∙ ap (λ (o : List ℕ). sets o n b) (p .text) ∙ sets-append-at out at n a b (p .end);
 }
+
+-- ---- room for a line
+
+pub past-end : (len at need : ℕ) → len < at → false ≡ leb (at + need) len
+past-end len at need h = sym (lt-leb (at + need) len (omega arith))
+
+pub before-end : (len at need : ℕ) → at ≤ len → leb need (len - at) ≡ leb (at + need) len
+before-end len at need h = go (leb need (len - at)) refl
+  where
+    go : (t : Bool) → leb need (len - at) ≡ t → t ≡ leb (at + need) len
+    go true e = sym (le-leb (at + need) len (omega (arith, leb-true need (len - at) e)))
+    go false e = sym (lt-leb (at + need) len (omega (arith, leb-false need (len - at) e)))
+
+-- what the code's test tells
+pub roomy : (need at n : ℕ) (b : Bool) → b ≡ leb (at + need) n → not b ≡ false → at + need ≤ n
+roomy need at n b e f = leb-true (at + need) n (sym e ∙ not-false b f)
+
+module _ (need at : ℕ) (out line : List ℕ) where
+  -- with no room nothing is printed
+  pub none-put : (b : Bool) → b ≡ leb (at + need) (length out) → not b ≡ true → Put (fitting need at (length out) line) at out at out
+  none-put b e f = rw (sym e ∙ not-true b f) (record { end = sym (add-zero at); text = refl })
+
+  -- with room the line is what is printed
+  pub put-fitting : {to : ℕ} {out′ : List ℕ} → at + need ≤ length out → Put line at out to out′ → Put (fitting need at (length out) line) at out to out′
+  put-fitting h p = rw (le-leb (at + need) (length out) h) p
+
+  pub put-all : {to : ℕ} {out′ : List ℕ} → at + need ≤ length out → Put (fitting need at (length out) line) at out to out′ → Put line at out to out′
+  put-all h p = rw (le-leb (at + need) (length out) h) at p
 
 -- ---- digits
 
@@ -59,6 +93,19 @@ number-short n h = one (ltb n 10) refl
     one : (t : Bool) → ltb n 10 ≡ t → length (decimal n) ≤ 3
     one true e = omega (arith, length-small n (ltb-true n 10 e))
     one false e = two (ltb (n / 10) 10) refl (ltb-false n 10 e)
+
+-- a log number is below 256
+abbrev pub Low : Left → Type 0
+Low (Message k) = k < 256
+Low Nothing = Unit
+
+-- as its type has it
+pub low : (l : Left) (u : Val) → Is (row the-type) l (u ∷ []) → Low l
+low l u is = go l (owed the-type the-laws l (u ∷ []) is)
+  where
+    go : (l : Left) → Fields (variants the-type) (spellss (the-type .parts) the-laws) (the-type .to l) → Low l
+    go (Message k) f = f .0 .1
+    go Nothing f = tt
 
 left-short : (l : Left) → Low l → length (leftOf l ++ (10 ∷ [])) ≤ 4
 left-short (Message k) h = omega (arith, length-append (decimal k) (10 ∷ []), number-short k (omega arith))

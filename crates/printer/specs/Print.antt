@@ -1,7 +1,9 @@
 -- An answer line (01, "Each later line prints one line: answer, state letter, version, tie-breaker, log number of the message that left or `-`").
-use Prim.Native.Nat.{ℕ, _+_, _<_}
+use Prim.Native.Nat.{ℕ, _+_}
 use mathlib.Core.Path.{_≡_}
+use mathlib.Core.Bool.{cond}
 use mathlib.Core.List.{List, [], _∷_, _++_}
+use lib.Dec.{leb}
 use lib.ListN.{length}
 use lib.Seq.{sets}
 use Rattle.script.specs.Text.{decimal}
@@ -24,11 +26,6 @@ abbrev pub leftOf : Left → List ℕ
 leftOf (Message k) = decimal k
 leftOf Nothing = 45 ∷ []
 
--- a log number is below 256
-abbrev pub Low : Left → Type 0
-Low (Message k) = k < 256
-Low Nothing = 0 < 256
-
 -- the words, a space between two, and a line feed
 unfoldable pub answerLine : ℕ → Record → Left → List ℕ
 answerLine number r left =
@@ -38,6 +35,10 @@ answerLine number r left =
 -- 01, "prints `?`"
 abbrev pub unknownLine : List ℕ
 unknownLine = 63 ∷ 10 ∷ []
+
+-- what is printed of a line into an output of length n, from `at` on: the line where so many bytes have room there, otherwise nothing
+abbrev pub fitting : ℕ → ℕ → ℕ → List ℕ → List ℕ
+fitting need at n line = cond (leb (at + need) n) line []
 
 -- the bytes stand in the output from `at` on, which was `out` and is `out′`; `to` is the index after them
 pub record Put (bytes : List ℕ) (at : ℕ) (out : List ℕ) (to : ℕ) (out′ : List ℕ) : Type 0 where

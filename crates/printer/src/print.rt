@@ -2,16 +2,32 @@
 ghost use mathlib.Core.Path.{_≡_};
 ghost use Prim.Native.Nat.{_+_, _≤_};
 ghost use mathlib.Core.List.{[], _∷_, _++_};
+ghost use lib.Dec.{leb};
 ghost use lib.ListN.{length};
 ghost use Rattle.script.specs.Text.{decimal};
-ghost use Rattle.printer.specs.Print.{Put, Low, letterOf, leftOf, answerLine, unknownLine};
+ghost use Rattle.printer.specs.Print.{Put, fitting, letterOf, leftOf, answerLine, unknownLine};
 use hermes::Record;
 use hermes::State;
 
-// The log number of the message that left, if one did.
+// The most bytes of a line.
+pub const LINE_MAX: usize = 25;
+
+const UNKNOWN_LEN: usize = 2;
+
+// The log number of the message that left, if one did. A log has at most 256 messages.
 pub enum Left {
-    Message(u32),
+    Message(u8),
     Nothing,
+}
+
+// Whether so many bytes have room in an output of this length, from an index on.
+fn has_room(len: usize, at: usize, need: usize) -> bool
+    ensures { λ r. ⌜ r ≡ leb (at + need) len ⌝ }
+{
+    if len < at {
+        return false;
+    }
+    need <= len - at
 }
 
 // A number in decimal.
@@ -73,7 +89,7 @@ fn put_left(left: Left, out: &mut [u8], at: usize) -> usize
 {
     match left {
         Left::Message(k) => {
-            let to = put_decimal(k, out, at);
+            let to = put_decimal(k as u32, out, at);
             put_byte(b'\n', out, to)
         }
         Left::Nothing => {
@@ -83,11 +99,14 @@ fn put_left(left: Left, out: &mut [u8], at: usize) -> usize
     }
 }
 
-// An answer line.
+// An answer line, where any has room; otherwise nothing.
 pub fn put_answer(number: u8, r: Record, left: Left, out: &mut [u8], at: usize) -> usize
-    requires { ⌜ (at + 25 ≤ length (now out)) × (Low left) ⌝ }
-    ensures { λ to. ⌜ (Put (answerLine number r left) at (now (out .entry)) to (now (out .exit))) × (length (answerLine number r left) ≤ 25) ⌝ }
+    ensures { λ to. ⌜ (Put (fitting 25 at (length (now (out .entry))) (answerLine number r left)) at (now (out .entry)) to (now (out .exit)))
+        × (length (answerLine number r left) ≤ 25) ⌝ }
 {
+    if !has_room(out.len(), at, LINE_MAX) {
+        return at;
+    }
     let state = r.state;
     let a = put_number(number as u32, out, at);
     let b = put_state(state, out, a);
@@ -96,11 +115,13 @@ pub fn put_answer(number: u8, r: Record, left: Left, out: &mut [u8], at: usize) 
     put_left(left, out, d)
 }
 
-// The line `?`.
+// The line `?`, where it has room; otherwise nothing.
 pub fn put_unknown(out: &mut [u8], at: usize) -> usize
-    requires { ⌜ at + length unknownLine ≤ length (now out) ⌝ }
-    ensures { λ r. ⌜ Put unknownLine at (now (out .entry)) r (now (out .exit)) ⌝ }
+    ensures { λ to. ⌜ Put (fitting 2 at (length (now (out .entry))) unknownLine) at (now (out .entry)) to (now (out .exit)) ⌝ }
 {
+    if !has_room(out.len(), at, UNKNOWN_LEN) {
+        return at;
+    }
     let to = put_byte(b'?', out, at);
     put_byte(b'\n', out, to)
 }

@@ -8,6 +8,9 @@ use Rattle.printer.proofs.print.put_left.Tie as tie
 enum-known-left : tie.Need-enum-known-left
 enum-known-left c = search needs
 
+cast-put-decimal : tie.Need-cast-put-decimal
+cast-put-decimal c = search needs
+
 put-decimal-requires : tie.Need-put-decimal-requires
 put-decimal-requires c κs = omega (arith, left-number _ _ _ _ (c .before .before .left .given .1) (c .before .before .before .before .before .pre))
 
@@ -40,6 +43,7 @@ put-left-spec =
     tie.close
     (tie.spec
     enum-known-left
+    cast-put-decimal
     put-decimal-requires
     put-byte-requires
     enum-told

@@ -1,14 +1,14 @@
--- `player::turn::keep` meets its contract.
+-- `player::log::keep` meets its contract.
 use native.Mathlib.Omega.{arith}
 use mathlib.Core.Path.{_∙_, _≡_, ap}
 use lib.ListN.{length}
 use Rattle.player.specs.Log.{kept}
-use Rattle.player.proofs.Turns.{leaving-short}
+use Rattle.player.proofs.Logs.{leaving-short}
 use Rattle.hermes.specs.Event.{leavingBody}
 use Prim.Native.Nat.{_≤_}
 use borrow.Author.Needs.{needs}
-use Rattle.player.proofs.turn.keep.Statement.{statement}
-use Rattle.player.proofs.turn.keep.Tie as tie
+use Rattle.player.proofs.log.keep.Statement.{statement}
+use Rattle.player.proofs.log.keep.Tie as tie
 
 slice-aggregate-body : tie.Need-slice-aggregate-body
 slice-aggregate-body c = search needs
