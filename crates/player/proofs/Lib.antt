@@ -1,5 +1,4 @@
--- Laws of the log and the cluster.
-pub mod Logs
+-- Laws of the cluster and its lines.
 pub mod Clusters
 pub mod Turns
 pub mod Games

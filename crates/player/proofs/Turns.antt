@@ -4,7 +4,7 @@ use mathlib.Core.Bool.{Bool, true, false, cond, not, _&&_}
 use mathlib.Core.List.{List, [], _∷_, _++_}
 use Prim.Native.Nat.{ℕ, zero, suc, _+_, _-_, _*_, _≤_, _<_}
 use native.Mathlib.Omega.{arith}
-use borrow.Author.Tests.{lt-ltb, le-ltb, eqb-true, not-true, not-false}
+use borrow.Author.Tests.{ltb-true, lt-ltb, le-ltb, eqb-true, not-true, not-false}
 use lib.Dec.{ltb, eqb}
 use lib.ListN.{length, getD, take, drop, length-take, length-drop}
 use Rattle.hermes.specs.declared.timestamp.Timestamp.{Timestamp}
@@ -36,16 +36,16 @@ use Rattle.script.specs.declared.command.Command.{Command}
 use Rattle.script.specs.declared.command.Line.{Line}
 use Rattle.script.specs.declared.command.Line.the-variants as line
 use Rattle.player.specs.declared.cluster.Member.{Member}
-use Rattle.player.specs.declared.log.Envelope.{Envelope}
+use Rattle.log.specs.declared.memory.Envelope.{Envelope}
 use Rattle.player.specs.declared.turn.Judged.{Judged}
 use Rattle.player.specs.declared.turn.Done.{Done}
 use Rattle.printer.specs.declared.print.Left.{Left}
 use Rattle.printer.specs.Print.{Put, fitting, answerLine, unknownLine}
 use Rattle.printer.proofs.Printing.{put-all}
 use Rattle.player.specs.Play.{Turn, unknown, hasRoom, logNumber, played, reply, actionOf, entryTurn, turnOf}
-use Rattle.player.specs.Log.{envelopeAt, logOf, Stored}
+use Rattle.log.specs.Log.{envelopeOf, envelopeAt, hasPlace, Appended, logOf, Stored}
 use Rattle.player.specs.Cluster.{nodeOf, resultOf, whoOf, lineResult, nodeBy, logBy, commit, DoneIs}
-use Rattle.player.proofs.Logs.{find-known, find-unknown}
+use Rattle.log.proofs.Logs.{find-known, find-unknown, place-full, log-more, stored-more}
 
 -- ---- what leaves an event on record 0 is about record 0
 
@@ -127,6 +127,48 @@ unfolding viewed
 view-refused m epoch set k e =
     ap (λ (x : Answer). event (record { answer = x; node = nodeOf m })) (view-number (m .me) epoch set k e)
     ∙ (λ i. event (record { answer = answerOf (admissionNumber (sym e i)) None; node = record { me = identity (sym e i) (m .me); table = m .held ∷ []; store = m .store } }))
+
+-- ---- the bytes that a message takes along
+
+pub leaving-short : (o : Outgoing) (r : Record) (store : List ℕ) → length (leavingBody o r store) ≤ length store
+leaving-short None r store = omega arith
+leaving-short (Sent (Inv t) h) r store = simp (length-take, length-drop) (omega arith)
+leaving-short (Sent (Ack t) h) r store = omega arith
+leaving-short (Sent (Val t) h) r store = omega arith
+
+-- the message as it was sent, of a header about record 0
+as-logged : (m : Member) (msg : Message) (h : Header) → h .index ≡ 0
+    → _≡_ {A = Logged} (record { header = h; message = msg; body = bodyOf msg (valueAt (h .index) (getD (m .held ∷ []) (h .index) (freshRecord 0) .len) (m .store)) })
+    (record { header = record { sender = h .sender; epoch = h .epoch; index = 0 }; message = msg; body = leavingBody (Sent msg h) (m .held) (m .store) })
+as-logged m msg h e = λ i. record { header = record { sender = h .sender; epoch = h .epoch; index = e i }; message = msg; body = bodies i }
+  where
+    bodies : bodyOf msg (valueAt (h .index) (getD (m .held ∷ []) (h .index) (freshRecord 0) .len) (m .store)) ≡ bodyOf msg (valueAt (h .index) (m .held .len) (m .store))
+    bodies = ap (λ (r : Record). bodyOf msg (valueAt (h .index) (r .len) (m .store))) (ap (λ (k : ℕ). getD (m .held ∷ []) k (freshRecord 0)) e)
+
+-- a message has room in a log of fewer than 256
+pub room-low : (sent : ℕ) (o : Outgoing) (msg : Message) (h : Header) → o ≡ Sent msg h → hasRoom sent o ≡ true → sent < 256
+room-low sent o msg h e room = ltb-true sent 256 (ap (hasRoom sent) (sym e) ∙ room)
+
+-- what leaves an event of a member, logged; there is room for it
+module _ (m : Member) (heads bodies : List ℕ) (sent : ℕ) (s : Stored heads bodies sent) (o : Outgoing) where
+  pub keep-none : o ≡ None → (logOf heads bodies sent ≡ logged (logOf heads bodies sent) (nodeOf m) o) × (Stored heads bodies sent)
+  keep-none e = (ap (logged (logOf heads bodies sent) (nodeOf m)) (sym e), s)
+
+  pub keep-sent : (msg : Message) (h : Header) → o ≡ Sent msg h → hasRoom sent o ≡ true → indexOf o ≡ 0 → length (m .store) ≡ 192
+      → (body : List ℕ) → body ≡ leavingBody (Sent msg h) (m .held) (m .store) → (n : ℕ) (heads′ bodies′ : List ℕ)
+      → Appended (hasPlace (length heads) (length bodies) sent (length body)) heads bodies sent (envelopeOf msg h body) body n heads′ bodies′
+      → (logOf heads′ bodies′ n ≡ logged (logOf heads bodies sent) (nodeOf m) o) × (Stored heads′ bodies′ n)
+  keep-sent msg h e room z size body eb n heads′ bodies′ a =
+      let low = room-low sent o msg h e room in
+      let short : length body ≤ 192 = omega (arith, ap length eb, leaving-short (Sent msg h) (m .held) (m .store)) in
+      let b : Appended true heads bodies sent (envelopeOf msg h body) body n heads′ bodies′
+      = subst (λ (t : Bool). Appended t heads bodies sent (envelopeOf msg h body) body n heads′ bodies′) (place-full heads bodies sent (length body) s low short) a in (
+        (λ i. logOf (b .words i) (b .bytes i) (b .count i)) ∙ log-more heads bodies body sent (envelopeOf msg h body) (b .fits refl) refl low s
+            ∙ ap (λ (x : List ℕ). logOf heads bodies sent ++ (record { header = record { sender = h .sender; epoch = h .epoch; index = 0 }; message = msg; body = x } ∷ [])) eb
+            ∙ ap (λ (x : Logged). logOf heads bodies sent ++ (x ∷ [])) (sym (as-logged m msg h (ap indexOf (sym e) ∙ z)))
+            ∙ ap (logged (logOf heads bodies sent) (nodeOf m)) (sym e),
+        rw (b .words, b .bytes, b .count) (stored-more heads bodies body sent (envelopeOf msg h body) (b .fits refl) refl low s short),
+      )
 
 -- ---- how a line ends
 

@@ -20,7 +20,7 @@ use Rattle.player.specs.declared.turn.Judged.{Judged}
 use Rattle.player.specs.declared.turn.Done.{Done}
 use Rattle.printer.specs.Print.{Put}
 use Rattle.player.specs.Play.{freshNode, hasRoom, reply, actionOf}
-use Rattle.player.specs.Log.{logOf, Stored}
+use Rattle.log.specs.Log.{logOf, Stored}
 
 -- ---- a group
 

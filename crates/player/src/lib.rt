@@ -1,7 +1,6 @@
 // The playing program as a library: what a script prints.
 mod cluster;
 mod game;
-mod log;
 mod turn;
 
 pub use game::Played;

@@ -6,13 +6,12 @@ ghost use lib.ListN.{length};
 ghost use Rattle.hermes.specs.Order.{higher};
 ghost use Rattle.hermes.specs.Event.{numberOf, sentBy};
 ghost use Rattle.hermes.specs.Node.{indexOf, apply, viewed};
-ghost use Rattle.hermes.specs.Run.{nothing, event, find, delivery, perform};
+ghost use Rattle.hermes.specs.Run.{nothing, event, find, delivery, perform, logged};
 ghost use Rattle.script.specs.Command.{textOf};
 ghost use Rattle.player.specs.Play.{hasRoom, logNumber, actionOf};
-ghost use Rattle.player.specs.Log.{logOf, Stored};
+ghost use Rattle.log.specs.Log.{logOf, Stored};
 ghost use Rattle.player.specs.Cluster.{nodeOf, whoOf, lineResult, resultOf, DoneIs};
 use crate::cluster::Member;
-use crate::log;
 use hermes::Admission;
 use hermes::Answer;
 use hermes::Event;
@@ -182,13 +181,16 @@ fn sent_by(a: Answer) -> Outgoing
     }
 }
 
+// The most messages of the log.
+const MESSAGES_MAX: usize = 256;
+
 // Whether the log has room for what leaves.
 fn has_room(sent: usize, o: Outgoing) -> bool
     ensures { λ r. ⌜ r ≡ hasRoom sent o ⌝ }
 {
     match o {
         Outgoing::None => true,
-        Outgoing::Sent(_, _) => sent < log::MESSAGES_MAX,
+        Outgoing::Sent(_, _) => sent < MESSAGES_MAX,
     }
 }
 
@@ -201,6 +203,21 @@ fn log_number(sent: usize, o: Outgoing) -> Left
         Outgoing::None => Left::Nothing,
         Outgoing::Sent(_, _) => Left::Message(sent as u8),
     }
+}
+
+// What leaves an event of this member is logged; there is room for it. The answer is how many messages have left.
+fn keep(m: Member, o: Outgoing, heads: &mut [u32], bodies: &mut [u8], sent: usize) -> usize
+    requires { ⌜ (Stored (now heads) (now bodies) sent) × (hasRoom sent o ≡ true) × (indexOf o ≡ 0) ⌝ }
+    ensures { λ n. ⌜ (logOf (now (heads .exit)) (now (bodies .exit)) n ≡ logged (logOf (now (heads .entry)) (now (bodies .entry)) sent) (nodeOf m) o)
+        × (Stored (now (heads .exit)) (now (bodies .exit)) n) ⌝ }
+{
+    let Outgoing::Sent(message, header) = o else {
+        return sent;
+    };
+    let held = m.held;
+    let store = m.store;
+    let body = replica::body(o, held, &store);
+    log::append(heads, bodies, sent, message, header, body)
 }
 
 // What an entry of this member came to is printed and, if the log has room for what leaves, done.
@@ -228,7 +245,7 @@ fn conclude(
     }
     let member = j.member;
     let held = member.held;
-    let next = log::append(member, leaving, heads, bodies, sent);
+    let next = keep(member, leaving, heads, bodies, sent);
     let to = printer::put_answer(number_of(answer), held, log_number(sent, leaving), out, at);
     Done {
         member: member,

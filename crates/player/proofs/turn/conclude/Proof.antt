@@ -21,8 +21,8 @@ same-length c = search needs
 returns : tie.Need-returns
 returns c = let v = c .before .before .before .before .before .before .before .before .before .before .before .args in end-skipped (v .m) (v .heads .now) (v .bodies .now) (v .sent) (v .at) (v .out .now) (v .j) _ (c .before .before .before .before .before .before .before .sent-by .ensures) _ (c .before .before .before .before .before .before .has-room .ensures) (c .before .before .before .before .before .before .before .before .before .before .before .pre .2) _ _ (c .before .before .before .before .if1 .taken) (c .before .before .before .before .before .before .before .before .before .before .before .pre .0) (c .before .before .put-unknown .ensures)
 
-append-requires : tie.Need-append-requires
-append-requires c κs = (c .before .before .before .before .before .before .before .before .before .before .before .pre .0, has-its-room (c .before .before .before .before .before .before .before .before .before .before .before .args .j .known) _ (c .before .before .before .before .before .before .before .before .before .before .before .args .sent) (c .before .before .before .before .before .before .before .sent-by .result) (c .before .before .before .before .before .before .has-room .ensures) (c .before .before .before .before .if1 .left), ap indexOf (c .before .before .before .before .before .before .before .sent-by .ensures) ∙ c .before .before .before .before .before .before .before .before .before .before .before .pre .1)
+keep-requires : tie.Need-keep-requires
+keep-requires c κs = (c .before .before .before .before .before .before .before .before .before .before .before .pre .0, has-its-room (c .before .before .before .before .before .before .before .before .before .before .before .args .j .known) _ (c .before .before .before .before .before .before .before .before .before .before .before .args .sent) (c .before .before .before .before .before .before .before .sent-by .result) (c .before .before .before .before .before .before .has-room .ensures) (c .before .before .before .before .if1 .left), ap indexOf (c .before .before .before .before .before .before .before .sent-by .ensures) ∙ c .before .before .before .before .before .before .before .before .before .before .before .pre .1)
 
 number-of-requires : tie.Need-number-of-requires
 number-of-requires c κs = search needs
@@ -44,7 +44,7 @@ same-length-4 c = search needs
 
 returns-2 : tie.Need-returns-2
 returns-2 c = let v = c .before .before .before .before .before .before .before .before .before .before .before .before .before .before .before .before .before .before .before .before .before .before .args in
-    end-done (v .m) (v .heads .now) (v .bodies .now) (v .sent) (v .at) (v .out .now) (v .j) _ (c .before .before .before .before .before .before .before .before .before .before .before .before .before .before .before .before .before .before .sent-by .ensures) _ (c .before .before .before .before .before .before .before .before .before .before .before .before .before .before .before .before .before .has-room .ensures) (c .before .before .before .before .before .before .before .before .before .before .before .before .before .before .before .before .before .before .before .before .before .before .pre .2) _ _ (c .before .before .before .before .before .before .before .before .before .before .before .before .before .before .before .if1 .left) _ _ _ (c .before .before .before .before .before .before .before .before .before .before .append .ensures) _ (c .before .before .before .before .before .number-of .ensures) _ (c .before .before .before .before .log-number .ensures) (c .before .before .put-answer .ensures)
+    end-done (v .m) (v .heads .now) (v .bodies .now) (v .sent) (v .at) (v .out .now) (v .j) _ (c .before .before .before .before .before .before .before .before .before .before .before .before .before .before .before .before .before .before .sent-by .ensures) _ (c .before .before .before .before .before .before .before .before .before .before .before .before .before .before .before .before .before .has-room .ensures) (c .before .before .before .before .before .before .before .before .before .before .before .before .before .before .before .before .before .before .before .before .before .before .pre .2) _ _ (c .before .before .before .before .before .before .before .before .before .before .before .before .before .before .before .if1 .left) _ _ _ (c .before .before .before .before .before .before .before .before .before .before .keep .ensures) _ (c .before .before .before .before .before .number-of .ensures) _ (c .before .before .before .before .log-number .ensures) (c .before .before .put-answer .ensures)
 
 pub conclude-spec : {M : Type 1} → statement M
 conclude-spec =
@@ -55,7 +55,7 @@ conclude-spec =
     put-unknown-requires
     same-length
     returns
-    append-requires
+    keep-requires
     number-of-requires
     log-number-requires
     put-answer-requires

@@ -1,7 +1,7 @@
 -- `player::turn::log_number` meets its contract.
 use mathlib.Core.Path.{ap, sym}
 use Rattle.player.specs.Play.{logNumber}
-use Rattle.player.proofs.Logs.{room-low}
+use Rattle.player.proofs.Turns.{room-low}
 use borrow.Author.Needs.{needs}
 use Rattle.player.proofs.turn.log_number.Statement.{statement}
 use Rattle.player.proofs.turn.log_number.Tie as tie

@@ -1,4 +1,4 @@
--- `player::log::copy` meets its contract. The loop has copied the first k bytes.
+-- `log::memory::copy` meets its contract. The loop has copied the first k bytes.
 use Prim.Native.Nat.{_+_, _-_, _≤_, ℕ}
 use lib.ListN.{getD, length, set}
 use lib.Seq.{length-paste, paste, paste-suc, paste-zero}
@@ -6,8 +6,8 @@ use mathlib.Core.List.{List}
 use mathlib.Core.Path.{_∙_, _≡_, ap, sym}
 use native.Mathlib.Numerals.{add-one}
 use native.Mathlib.Omega.{arith}
-use Rattle.player.proofs.log.copy.Statement.{statement}
-use Rattle.player.proofs.log.copy.Tie as tie
+use Rattle.log.proofs.memory.copy.Statement.{statement}
+use Rattle.log.proofs.memory.copy.Tie as tie
 
 abbrev Inv-loop : tie.InvT-loop
 Inv-loop body bodies₀ at k₀ bodies k = (k ≤ length body) × (bodies ≡ paste bodies₀ at body k)

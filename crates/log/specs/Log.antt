@@ -1,17 +1,17 @@
--- The log as the code keeps it in lent memory: for each message six words and the 192 bytes of its body.
--- No public contract names these.
-use Prim.Native.Nat.{ℕ, zero, suc, _+_, _*_, _%_, _≤_, _<_}
+-- The log as it stands in lent memory: for each message six words and the 192 bytes of its body.
+use Prim.Native.Nat.{ℕ, zero, suc, _+_, _*_, _/_, _%_, _≤_, _<_}
 use mathlib.Core.Path.{_≡_}
-use mathlib.Core.Bool.{cond}
+use mathlib.Core.Bool.{Bool, true, cond, _&&_}
 use mathlib.Core.List.{List, [], _∷_, _++_}
 use lib.ListN.{length, take, drop, getD}
-use lib.Dec.{eqb}
+use lib.Dec.{ltb, leb, eqb}
 use lib.Seq.{paste}
 use Rattle.hermes.specs.declared.timestamp.Timestamp.{Timestamp}
+use Rattle.hermes.specs.declared.message.Header.{Header}
 use Rattle.hermes.specs.declared.message.Message.{Message}
 use Rattle.hermes.specs.declared.message.Message.the-variants.{Inv, Ack, Val}
 use Rattle.hermes.specs.Run.{Logged}
-use Rattle.player.specs.declared.log.Envelope.{Envelope}
+use Rattle.log.specs.declared.memory.Envelope.{Envelope}
 
 -- ---- a message as six words: kind, sender, epoch, version, tie-breaker, length of the body
 
@@ -46,14 +46,30 @@ pub record Fits (e : Envelope) : Type 0 where
   pub sender : e .sender < 256
   pub tie : timestampOf (e .message) .tie < 256
 
+-- a message as it is logged, with its body
+abbrev pub envelopeOf : Message → Header → List ℕ → Envelope
+envelopeOf m h body = record { sender = h .sender; epoch = h .epoch; message = m; len = length body }
+
 -- ---- the log
 
 -- memory with so many numbers for each message, where the part of message n is replaced
 abbrev pub kept : ℕ → List ℕ → ℕ → List ℕ → List ℕ
 kept width l n part = paste l (width * n) part (length part)
 
+-- the words of message k; where they end before it, zeros
 unfoldable pub envelopeAt : List ℕ → ℕ → Envelope
-envelopeAt heads k = decodeAll (take 6 (drop (6 * k) heads))
+envelopeAt heads k = cond (leb (length heads / 6) k) (decode 0 0 0 0 0 0) (decodeAll (take 6 (drop (6 * k) heads)))
+
+-- message n, with a body of so many bytes, has its place in so many words and bytes
+abbrev pub hasPlace : ℕ → ℕ → ℕ → ℕ → Bool
+hasPlace words bytes n len = ltb n (words / 6) && ltb n (bytes / 192) && leb len 192
+
+-- what appending message n comes to, by whether it has its place: how many messages are logged then, and the memory
+pub record Appended (place : Bool) (heads bodies : List ℕ) (n : ℕ) (e : Envelope) (body : List ℕ) (r : ℕ) (heads′ bodies′ : List ℕ) : Type 0 where
+  pub count : r ≡ cond place (n + 1) n
+  pub words : heads′ ≡ cond place (kept 6 heads n (encode e)) heads
+  pub bytes : bodies′ ≡ cond place (kept 192 bodies n body) bodies
+  pub fits : place ≡ true → Fits e
 
 -- message k
 abbrev pub loggedAt : List ℕ → List ℕ → ℕ → Logged

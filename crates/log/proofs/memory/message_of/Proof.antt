@@ -1,7 +1,7 @@
--- `player::log::message_of` meets its contract.
+-- `log::memory::message_of` meets its contract.
 use borrow.Author.Tests.{eq-eqb, ne-eqb}
-use Rattle.player.proofs.log.message_of.Statement.{statement}
-use Rattle.player.proofs.log.message_of.Tie as tie
+use Rattle.log.proofs.memory.message_of.Statement.{statement}
+use Rattle.log.proofs.memory.message_of.Tie as tie
 
 returns : tie.Need-returns
 returns c = simp (eq-eqb _ _ (c .if1 .taken))

@@ -1,12 +1,12 @@
--- `player::log::put_envelope` meets its contract.
+-- `log::memory::put_envelope` meets its contract.
 use native.Mathlib.Omega.{arith}
 use lib.ListN.{length-set}
 use Prim.Native.Nat.{_*_, _<_}
-use Rattle.player.specs.Log.{kindOf, timestampOf}
-use Rattle.player.proofs.Logs.{six-stores}
+use Rattle.log.specs.Log.{kindOf, timestampOf}
+use Rattle.log.proofs.Logs.{six-stores}
 use borrow.Author.Needs.{needs}
-use Rattle.player.proofs.log.put_envelope.Statement.{statement}
-use Rattle.player.proofs.log.put_envelope.Tie as tie
+use Rattle.log.proofs.memory.put_envelope.Statement.{statement}
+use Rattle.log.proofs.memory.put_envelope.Tie as tie
 
 mul-at : tie.Need-mul-at
 mul-at c = search needs

@@ -1,18 +1,11 @@
-// The log of the messages that left: six words for each, and the bytes of its body elsewhere.
+// The log in lent memory: six words for each message, and the 192 bytes of its body elsewhere.
 ghost use mathlib.Core.Path.{_≡_};
-ghost use mathlib.Core.Bool.{true};
-ghost use Prim.Native.Nat.{_+_, _*_, _≤_, _<_};
-ghost use lib.ListN.{length};
+ghost use Prim.Native.Nat.{_+_, _*_, _≤_};
+ghost use lib.ListN.{length, take, drop};
 ghost use lib.Seq.{paste};
-ghost use Rattle.hermes.specs.Event.{leavingBody};
-ghost use Rattle.hermes.specs.Node.{indexOf};
-ghost use Rattle.hermes.specs.Run.{logged};
-ghost use Rattle.player.specs.Play.{hasRoom};
-ghost use Rattle.player.specs.Log.{kindOf, timestampOf, messageOf, envelopeAt, encode, Fits, kept, logOf, Stored};
-ghost use Rattle.player.specs.Cluster.{nodeOf};
-use crate::cluster::Member;
+ghost use Rattle.log.specs.Log.{kindOf, timestampOf, messageOf, decodeAll, envelopeAt, envelopeOf, encode, Fits, kept, hasPlace, Appended};
+use hermes::Header;
 use hermes::Message;
-use hermes::Outgoing;
 use hermes::Record;
 use hermes::Timestamp;
 
@@ -23,9 +16,6 @@ pub struct Envelope {
     pub message: Message,
     pub len: u32,
 }
-
-// The most messages of the log.
-pub(crate) const MESSAGES_MAX: usize = 256;
 
 // The words of a message: kind, sender, epoch, version, tie-breaker, length of the body.
 const WORDS: usize = 6;
@@ -63,10 +53,10 @@ fn message_of(kind: u32, t: Timestamp) -> Message
     Message::Val(t)
 }
 
-// Message k.
-pub(crate) fn envelope_at(heads: &[u32], k: usize) -> Envelope
+// The words of message k.
+fn words_at(heads: &[u32], k: usize) -> Envelope
     requires { ⌜ 6 * k + 6 ≤ length (now heads) ⌝ }
-    ensures { λ r. ⌜ r ≡ envelopeAt (now (heads .entry)) k ⌝ }
+    ensures { λ r. ⌜ r ≡ decodeAll (take 6 (drop (6 * k) (now (heads .entry)))) ⌝ }
 {
     let at = WORDS * k;
     let t = Timestamp {
@@ -80,6 +70,21 @@ pub(crate) fn envelope_at(heads: &[u32], k: usize) -> Envelope
         message: m,
         len: heads[at + 5],
     }
+}
+
+// Message k. Where the words end before it, one of zeros.
+pub fn envelope_at(heads: &[u32], k: usize) -> Envelope
+    ensures { λ r. ⌜ r ≡ envelopeAt (now (heads .entry)) k ⌝ }
+{
+    if heads.len() / WORDS <= k {
+        return Envelope {
+            sender: 0,
+            epoch: 0,
+            message: Message::Val(Timestamp { version: 0, tie: 0 }),
+            len: 0,
+        };
+    }
+    words_at(heads, k)
 }
 
 // Message k's words are replaced.
@@ -110,41 +115,35 @@ fn copy(body: &[u8], bodies: &mut [u8], at: usize)
     }
 }
 
-// The bytes that message n takes along are kept. The answer is their number.
-fn keep(m: Member, o: Outgoing, bodies: &mut [u8], n: usize) -> usize
-    requires { ⌜ (n < 256) × (length (now bodies) ≡ 49152) ⌝ }
-    ensures { λ r. ⌜ (r ≡ length (leavingBody o (m .held) (m .store))) × (r ≤ 192)
-        × (now (bodies .exit) ≡ kept 192 (now (bodies .entry)) n (leavingBody o (m .held) (m .store))) ⌝ }
+// Whether message n, with a body of so many bytes, has its place in memory of so many words and bytes.
+fn has_place(words: usize, bytes: usize, n: usize, len: usize) -> bool
+    ensures { λ r. ⌜ r ≡ hasPlace words bytes n len ⌝ }
 {
-    let held = m.held;
-    let store = m.store;
-    let body = replica::body(o, held, &store);
-    copy(body, bodies, Record::VALUE_MAX * n);
-    body.len()
+    (n < words / WORDS) & (n < bytes / Record::VALUE_MAX) & (len <= Record::VALUE_MAX)
 }
 
-// What leaves an event of this member is logged; there is room for it. The answer is how many messages have left.
-pub(crate) fn append(
-    m: Member,
-    o: Outgoing,
+// Message n is logged, if it has its place; otherwise nothing. The answer is how many messages are logged then.
+pub fn append(
     heads: &mut [u32],
     bodies: &mut [u8],
-    sent: usize,
+    n: usize,
+    message: Message,
+    header: Header,
+    body: &[u8],
 ) -> usize
-    requires { ⌜ (Stored (now heads) (now bodies) sent) × (hasRoom sent o ≡ true) × (indexOf o ≡ 0) ⌝ }
-    ensures { λ n. ⌜ (logOf (now (heads .exit)) (now (bodies .exit)) n ≡ logged (logOf (now (heads .entry)) (now (bodies .entry)) sent) (nodeOf m) o)
-        × (Stored (now (heads .exit)) (now (bodies .exit)) n) ⌝ }
+    ensures { λ r. ⌜ Appended (hasPlace (length (now (heads .entry))) (length (now (bodies .entry))) n (length (now (body .entry)))) (now (heads .entry)) (now (bodies .entry)) n
+        (envelopeOf message header (now (body .entry))) (now (body .entry)) r (now (heads .exit)) (now (bodies .exit)) ⌝ }
 {
-    let Outgoing::Sent(message, header) = o else {
-        return sent;
-    };
-    let len = keep(m, o, bodies, sent);
+    if !has_place(heads.len(), bodies.len(), n, body.len()) {
+        return n;
+    }
+    copy(body, bodies, Record::VALUE_MAX * n);
     let e = Envelope {
         sender: header.sender,
         epoch: header.epoch,
         message: message,
-        len: len as u32,
+        len: body.len() as u32,
     };
-    put_envelope(heads, sent, e);
-    sent + 1
+    put_envelope(heads, n, e);
+    n + 1
 }

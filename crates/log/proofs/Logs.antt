@@ -1,31 +1,28 @@
 -- The log in lent memory: a message logged is the one read back, and those before it are as they were.
 use mathlib.Core.Path.{_≡_, refl, sym, ap, _∙_}
-use mathlib.Core.Bool.{Bool, true, false}
+use mathlib.Core.Bool.{Bool, true, false, cond, not, _&&_}
 use mathlib.Core.List.{List, [], _∷_, _++_, append-assoc}
-use Prim.Native.Nat.{ℕ, zero, suc, _+_, _*_, _≤_, _<_}
+use Prim.Native.Nat.{ℕ, zero, suc, _+_, _*_, _/_, _≤_, _<_}
 use native.Mathlib.Nat.{not-suc-le-zero, mod-eq-of-lt}
 use native.Mathlib.Numerals.{add-one}
 use native.Mathlib.Omega.{arith}
-use borrow.Author.Tests.{ltb-true, ltb-false}
-use lib.Dec.{lit<, ltb}
-use lib.ListN.{length, take, drop, getD, set, length-append, length-take, length-drop, take-append-drop}
+use borrow.Author.Tests.{ltb-true, ltb-false, lt-ltb, leb-true, le-leb, lt-leb, not-true, not-false}
+use lib.Dec.{lit<, ltb, leb}
+use lib.ListN.{length, take, drop, getD, set, length-append, length-drop, take-append-drop}
 use lib.Seq.{paste, sets-eq, getD-take, getD-drop, length-take-le, take-append-le, drop-append-le, drop-at, take-at, take-length, length-paste}
-use Rattle.hermes.specs.declared.record.Record.{Record}
-use Rattle.hermes.specs.declared.message.Header.{Header}
 use Rattle.hermes.specs.declared.message.Message.{Message}
 use Rattle.hermes.specs.declared.message.Message.the-variants.{Inv, Ack, Val}
-use Rattle.hermes.specs.declared.message.Outgoing.{Outgoing}
-use Rattle.hermes.specs.declared.message.Outgoing.the-variants.{None, Sent}
-use Rattle.hermes.specs.Record.{freshRecord}
-use Rattle.hermes.specs.Store.{valueAt}
-use Rattle.hermes.specs.Event.{bodyOf, leavingBody}
-use Rattle.hermes.specs.Node.{indexOf}
-use Rattle.hermes.specs.Run.{Logged, missing, found, find, logged}
-use Rattle.player.specs.declared.cluster.Member.{Member}
-use Rattle.player.specs.declared.log.Envelope.{Envelope}
-use Rattle.player.specs.Play.{hasRoom}
-use Rattle.player.specs.Cluster.{nodeOf}
-use Rattle.player.specs.Log.{kindOf, timestampOf, messageOf, encode, decode, decodeAll, Fits, kept, envelopeAt, loggedAt, upTo, logOf, Stored}
+use Rattle.hermes.specs.Run.{Logged, missing, found, find}
+use Rattle.log.specs.declared.memory.Envelope.{Envelope}
+use Rattle.log.specs.Log.{kindOf, timestampOf, messageOf, encode, decode, decodeAll, Fits, kept, envelopeAt, hasPlace, Appended, loggedAt, upTo, logOf, Stored}
+
+left-true : (a b : Bool) → a && b ≡ true → a ≡ true
+left-true true b h = refl
+left-true false b h = h
+
+right-true : (a b : Bool) → a && b ≡ true → b ≡ true
+right-true true b h = h
+right-true false b h = sym (ap (λ (t : Bool). cond t b true) h)
 
 -- ---- the log
 
@@ -116,11 +113,19 @@ decode-encode e f = λ i. record {
   len = e .len;
 }
 
+-- of a message that has its words
+pub within : (heads : List ℕ) (k : ℕ) → k < length heads / 6 → decodeAll (take 6 (drop (6 * k) heads)) ≡ envelopeAt heads k
+unfolding envelopeAt
+within heads k h = rw (lt-leb (length heads / 6) k h) refl
+
+pub beyond : (heads : List ℕ) (k : ℕ) → length heads / 6 ≤ k → decode 0 0 0 0 0 0 ≡ envelopeAt heads k
+unfolding envelopeAt
+beyond heads k h = rw (le-leb (length heads / 6) k h) refl
+
 -- what the code reads
 pub read-back : (heads : List ℕ) (k : ℕ)
     → decode (getD heads (6 * k) 0) (getD heads (6 * k + 1) 0) (getD heads (6 * k + 2) 0) (getD heads (6 * k + 3) 0) (getD heads (6 * k + 4) 0) (getD heads (6 * k + 5) 0)
-    ≡ envelopeAt heads k
-unfolding envelopeAt
+    ≡ decodeAll (take 6 (drop (6 * k) heads))
 read-back heads k = λ i. decode (first i) (word 1 (lit< tt) i) (word 2 (lit< tt) i) (word 3 (lit< tt) i) (word 4 (lit< tt) i) (word 5 (lit< tt) i)
   where
     word : (j : ℕ) → j < 6 → getD heads (6 * k + j) 0 ≡ getD (take 6 (drop (6 * k) heads)) j 0
@@ -146,13 +151,16 @@ module _ (heads bodies body : List ℕ) (n : ℕ) (e : Envelope) (fits : Fits e)
   abbrev heads′ : List ℕ
   heads′ = kept 6 heads n (encode e)
 
+  slots′ : length heads′ ≡ 1536
+  slots′ = length-paste heads (6 * n) (encode e) 6 (omega (arith, s .slots)) (omega arith) ∙ s .slots
+
   old : (k : ℕ) → k < n → envelopeAt heads′ k ≡ envelopeAt heads k
-  unfolding envelopeAt
-  old k h = ap decodeAll (paste-front heads (encode e) (6 * n) 6 6 (6 * k) (omega arith) (omega (arith, s .slots)))
+  old k h =
+      sym (within heads′ k (omega (arith, slots′))) ∙ ap decodeAll (paste-front heads (encode e) (6 * n) 6 6 (6 * k) (omega arith) (omega (arith, s .slots)))
+      ∙ within heads k (omega (arith, s .slots))
 
   new : envelopeAt heads′ n ≡ e
-  unfolding envelopeAt
-  new = ap decodeAll (paste-same heads (encode e) (6 * n) (omega (arith, s .slots))) ∙ decode-encode e fits
+  new = sym (within heads′ n (omega (arith, slots′))) ∙ ap decodeAll (paste-same heads (encode e) (6 * n) (omega (arith, s .slots))) ∙ decode-encode e fits
 
   logged-old : (k : ℕ) → k < n → loggedAt heads′ (kept 192 bodies n body) k ≡ loggedAt heads bodies k
   logged-old k h = λ i. record {
@@ -178,7 +186,7 @@ module _ (heads bodies body : List ℕ) (n : ℕ) (e : Envelope) (fits : Fits e)
 
   pub stored-more : length body ≤ 192 → Stored heads′ (kept 192 bodies n body) (n + 1)
   stored-more b = record {
-    slots = length-paste heads (6 * n) (encode e) 6 (omega (arith, s .slots)) (omega arith) ∙ s .slots;
+    slots = slots′;
     space = length-paste bodies (192 * n) body (length body) (omega (arith, s .space)) (omega arith) ∙ s .space;
     short = omega arith;
     sized = λ k h. go k h (ltb k n) refl;
@@ -188,43 +196,39 @@ module _ (heads bodies body : List ℕ) (n : ℕ) (e : Envelope) (fits : Fits e)
       go k h true q = rw (old k (ltb-true k n q)) (s .sized k (ltb-true k n q))
       go k h false q = let z : k ≡ n = omega (arith, ltb-false k n q) in rw (z, new, l) b
 
--- ---- the bytes that a message takes along
+-- ---- the place of a message
 
-pub leaving-short : (o : Outgoing) (r : Record) (store : List ℕ) → length (leavingBody o r store) ≤ length store
-leaving-short None r store = omega arith
-leaving-short (Sent (Inv t) h) r store = simp (length-take, length-drop) (omega arith)
-leaving-short (Sent (Ack t) h) r store = omega arith
-leaving-short (Sent (Val t) h) r store = omega arith
+module _ (words bytes n len : ℕ) (b : Bool) (e : b ≡ hasPlace words bytes n len) (p : not b ≡ false) where
+  all : hasPlace words bytes n len ≡ true
+  all = sym e ∙ not-false b p
 
--- the message as it was sent, of a header about record 0
-as-logged : (m : Member) (msg : Message) (h : Header) → h .index ≡ 0
-    → _≡_ {A = Logged} (record { header = h; message = msg; body = bodyOf msg (valueAt (h .index) (getD (m .held ∷ []) (h .index) (freshRecord 0) .len) (m .store)) })
-    (record { header = record { sender = h .sender; epoch = h .epoch; index = 0 }; message = msg; body = leavingBody (Sent msg h) (m .held) (m .store) })
-as-logged m msg h e = λ i. record { header = record { sender = h .sender; epoch = h .epoch; index = e i }; message = msg; body = bodies i }
-  where
-    bodies : bodyOf msg (valueAt (h .index) (getD (m .held ∷ []) (h .index) (freshRecord 0) .len) (m .store)) ≡ bodyOf msg (valueAt (h .index) (m .held .len) (m .store))
-    bodies = ap (λ (r : Record). bodyOf msg (valueAt (h .index) (r .len) (m .store))) (ap (λ (k : ℕ). getD (m .held ∷ []) k (freshRecord 0)) e)
+  both : ltb n (words / 6) && ltb n (bytes / 192) ≡ true
+  both = left-true (ltb n (words / 6) && ltb n (bytes / 192)) (leb len 192) all
 
--- a message has room in a log of fewer than 256
-pub room-low : (sent : ℕ) (o : Outgoing) (msg : Message) (h : Header) → o ≡ Sent msg h → hasRoom sent o ≡ true → sent < 256
-room-low sent o msg h e room = ltb-true sent 256 (ap (hasRoom sent) (sym e) ∙ room)
+  pub place-short : len ≤ 192
+  place-short = leb-true len 192 (right-true (ltb n (words / 6) && ltb n (bytes / 192)) (leb len 192) all)
 
--- what leaves an event of a member, logged; there is room for it
-module _ (m : Member) (heads bodies : List ℕ) (sent : ℕ) (s : Stored heads bodies sent) (o : Outgoing) where
-  pub append-none : o ≡ None → (logOf heads bodies sent ≡ logged (logOf heads bodies sent) (nodeOf m) o) × (Stored heads bodies sent)
-  append-none e = (ap (logged (logOf heads bodies sent) (nodeOf m)) (sym e), s)
+  pub place-words : 6 * n + 6 ≤ words
+  place-words = let h = ltb-true n (words / 6) (left-true (ltb n (words / 6)) (ltb n (bytes / 192)) both) in omega arith
 
-  pub append-sent : (msg : Message) (h : Header) → o ≡ Sent msg h → hasRoom sent o ≡ true → indexOf o ≡ 0
-      → (len : ℕ) (heads′ bodies′ : List ℕ) → len ≡ length (leavingBody (Sent msg h) (m .held) (m .store)) → len ≤ 192
-      → heads′ ≡ kept 6 heads sent (encode (record { sender = h .sender; epoch = h .epoch; message = msg; len = len }))
-      → Fits (record { sender = h .sender; epoch = h .epoch; message = msg; len = len })
-      → bodies′ ≡ kept 192 bodies sent (leavingBody (Sent msg h) (m .held) (m .store))
-      → (logOf heads′ bodies′ (sent + 1) ≡ logged (logOf heads bodies sent) (nodeOf m) o) × (Stored heads′ bodies′ (sent + 1))
-  append-sent msg h e room z len heads′ bodies′ el short eh fits eb =
-      let body = leavingBody (Sent msg h) (m .held) (m .store) in
-      let env : Envelope = record { sender = h .sender; epoch = h .epoch; message = msg; len = len } in
-      let low = room-low sent o msg h e room in (
-        (λ i. logOf (eh i) (eb i) (sent + 1)) ∙ log-more heads bodies body sent env fits el low s ∙ ap (λ (x : Logged). logOf heads bodies sent ++ (x ∷ [])) (sym (as-logged m msg h (ap indexOf (sym e) ∙ z)))
-            ∙ ap (logged (logOf heads bodies sent) (nodeOf m)) (sym e),
-        rw (eh, eb) (stored-more heads bodies body sent env fits el low s (omega arith)),
-      )
+  pub place-bytes : 192 * n + len ≤ bytes
+  place-bytes = let h = ltb-true n (bytes / 192) (right-true (ltb n (words / 6)) (ltb n (bytes / 192)) both) in omega (arith, place-short)
+
+module _ (heads bodies body : List ℕ) (n : ℕ) (e : Envelope) where
+  pub append-none : (b : Bool) → b ≡ hasPlace (length heads) (length bodies) n (length body) → not b ≡ true
+      → Appended (hasPlace (length heads) (length bodies) n (length body)) heads bodies n e body n heads bodies
+  append-none b q p = let z : hasPlace (length heads) (length bodies) n (length body) ≡ false = sym q ∙ not-true b p in rw z (record { count = refl; words = refl; bytes = refl; fits = λ t. absurd (no t) })
+    where
+      no : false ≡ true → ⊥
+      no t = let z : _≡_ {A = ℕ} 0 1 = ap (λ (x : Bool). cond x 1 0) t in omega arith
+
+  pub append-one : (b : Bool) → b ≡ hasPlace (length heads) (length bodies) n (length body) → not b ≡ false → (heads′ bodies′ : List ℕ)
+      → heads′ ≡ kept 6 heads n (encode e) → Fits e → bodies′ ≡ kept 192 bodies n body
+      → Appended (hasPlace (length heads) (length bodies) n (length body)) heads bodies n e body (n + 1) heads′ bodies′
+  append-one b q p heads′ bodies′ eh f eb =
+      let z : hasPlace (length heads) (length bodies) n (length body) ≡ true = sym q ∙ not-false b p in rw z (record { count = refl; words = eh; bytes = eb; fits = λ t. f })
+
+-- in a log of 256 every message has its place
+pub place-full : (heads bodies : List ℕ) (n len : ℕ) → Stored heads bodies n → n < 256 → len ≤ 192 → hasPlace (length heads) (length bodies) n len ≡ true
+place-full heads bodies n len s h l =
+    rw (lt-ltb n (length heads / 6) (omega (arith, s .slots)), lt-ltb n (length bodies / 192) (omega (arith, s .space)), le-leb len 192 l) refl

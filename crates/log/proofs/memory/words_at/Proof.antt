@@ -1,8 +1,8 @@
--- `player::log::envelope_at` meets its contract.
-use Rattle.player.proofs.Logs.{read-back}
+-- `log::memory::words_at` meets its contract.
+use Rattle.log.proofs.Logs.{read-back}
 use borrow.Author.Needs.{needs}
-use Rattle.player.proofs.log.envelope_at.Statement.{statement}
-use Rattle.player.proofs.log.envelope_at.Tie as tie
+use Rattle.log.proofs.memory.words_at.Statement.{statement}
+use Rattle.log.proofs.memory.words_at.Tie as tie
 
 mul-at : tie.Need-mul-at
 mul-at c = search needs
@@ -68,10 +68,10 @@ shared-slice-read-t22 : tie.Need-shared-slice-read-t22
 shared-slice-read-t22 c = search needs
 
 returns : tie.Need-returns
-returns c = rw (c .before .before .before .message-of .ensures) (read-back _ _)
+returns c = rw (c .before .before .before .message-of .ensures) (read-back (c .before .before .before .before .before .before .before .before .args .heads .now) (c .before .before .before .before .before .before .before .before .args .k))
 
-pub envelope-at-spec : {M : Type 1} → statement M
-envelope-at-spec =
+pub words-at-spec : {M : Type 1} → statement M
+words-at-spec =
     tie.close
     (tie.spec
     mul-at
