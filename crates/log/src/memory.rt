@@ -53,7 +53,7 @@ fn message_of(kind: u32, t: Timestamp) -> Message
     Message::Val(t)
 }
 
-// The words of message k.
+// Message k, whose words are there.
 fn words_at(heads: &[u32], k: usize) -> Envelope
     requires { ⌜ 6 * k + 6 ≤ length (now heads) ⌝ }
     ensures { λ r. ⌜ r ≡ decodeAll (take 6 (drop (6 * k) (now (heads .entry)))) ⌝ }
@@ -72,7 +72,7 @@ fn words_at(heads: &[u32], k: usize) -> Envelope
     }
 }
 
-// Message k. Where the words end before it, one of zeros.
+// Message k; where the words end before it, one of zeros.
 pub fn envelope_at(heads: &[u32], k: usize) -> Envelope
     ensures { λ r. ⌜ r ≡ envelopeAt (now (heads .entry)) k ⌝ }
 {

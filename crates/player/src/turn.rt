@@ -22,6 +22,9 @@ use printer::Left;
 use script::Command;
 use script::Line;
 
+// The most messages of the log.
+const MESSAGES_MAX: usize = 256;
+
 // What an entry came to: its answer, and the member after it. Where it is not known, there was no event.
 pub struct Judged {
     pub known: bool,
@@ -180,9 +183,6 @@ fn sent_by(a: Answer) -> Outgoing
         Answer::Refused(_) => Outgoing::None,
     }
 }
-
-// The most messages of the log.
-const MESSAGES_MAX: usize = 256;
 
 // Whether the log has room for what leaves.
 fn has_room(sent: usize, o: Outgoing) -> bool
