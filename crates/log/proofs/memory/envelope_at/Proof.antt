@@ -2,7 +2,6 @@
 use mathlib.Core.Path.{_∙_}
 use native.Mathlib.Omega.{arith}
 use Rattle.log.proofs.Logs.{beyond, within}
-use borrow.Author.Needs.{needs}
 use Rattle.log.proofs.memory.envelope_at.Statement.{statement}
 use Rattle.log.proofs.memory.envelope_at.Tie as tie
 
