@@ -13,9 +13,9 @@ use lib.Seq.{getD-set-same, getD-set-other}
 use Rattle.player.specs.declared.cluster.Member.{Member}
 use Rattle.player.specs.declared.cluster.Cluster.{Cluster}
 use Rattle.player.specs.Play.{freshNode}
-use Rattle.player.specs.Log.{logOf}
+use Rattle.log.specs.Log.{logOf}
 use Rattle.player.specs.Cluster.{noMember, nodeOf, groupOf, freshIn, freshCluster}
-use Rattle.player.proofs.Logs.{length-log}
+use Rattle.log.proofs.Logs.{length-log}
 
 -- ---- the fresh cluster
 

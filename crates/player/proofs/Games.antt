@@ -22,13 +22,13 @@ use Rattle.player.specs.declared.cluster.Member.{Member}
 use Rattle.player.specs.declared.cluster.Cluster.{Cluster}
 use Rattle.player.specs.declared.turn.Done.{Done}
 use Rattle.player.specs.declared.game.Played.the-variants.{Printed, Refused}
-use Rattle.player.specs.Print.{Put}
+use Rattle.printer.specs.Print.{Put}
 use Rattle.player.specs.Play.{freshNode, freshGroup, reply, turn, turnOf, after, prints, begun, opened, printed, answerOf, outputOf}
-use Rattle.player.specs.Log.{upTo, logOf}
+use Rattle.log.specs.Log.{upTo, logOf}
 use Rattle.player.specs.Cluster.{noMember, nodeOf, groupOf, freshMember, freshCluster, Sound, whoOf, lineResult, nodeBy, logBy, commit, DoneIs}
 use Rattle.player.proofs.Clusters.{node-at, group-set, log-is, log-length}
 use Rattle.player.proofs.Turns.{line-group, line-text}
-use Rattle.player.proofs.Printing.{sets-append-at}
+use Rattle.printer.proofs.Printing.{sets-append-at}
 
 -- ---- the start
 

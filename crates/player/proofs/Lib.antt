@@ -1,6 +1,4 @@
--- Laws of the printer, the log and the cluster.
-pub mod Printing
-pub mod Logs
+-- Laws of the cluster and its lines.
 pub mod Clusters
 pub mod Turns
 pub mod Games

@@ -18,9 +18,9 @@ use Rattle.player.specs.declared.cluster.Member.{Member}
 use Rattle.player.specs.declared.cluster.Cluster.{Cluster}
 use Rattle.player.specs.declared.turn.Judged.{Judged}
 use Rattle.player.specs.declared.turn.Done.{Done}
-use Rattle.player.specs.Print.{Put}
+use Rattle.printer.specs.Print.{Put}
 use Rattle.player.specs.Play.{freshNode, hasRoom, reply, actionOf}
-use Rattle.player.specs.Log.{logOf, Stored}
+use Rattle.log.specs.Log.{logOf, Stored}
 
 -- ---- a group
 

@@ -1,6 +1,4 @@
 -- What the playing program prints (01, "The playing program").
-pub mod Print
 pub mod Play
-pub mod Log
 pub mod Cluster
 pub mod Agreed

@@ -20,11 +20,11 @@ use Rattle.script.specs.declared.command.Line.{Line}
 use Rattle.script.specs.declared.command.Line.the-variants as line
 use Rattle.script.specs.declared.line.Size.{Size}
 use Rattle.script.specs.declared.line.Size.the-variants.{Of, Wrong}
-use Rattle.player.specs.declared.print.Left.{Left}
-use Rattle.player.specs.declared.print.Left.the-variants as left
+use Rattle.printer.specs.declared.print.Left.{Left}
+use Rattle.printer.specs.declared.print.Left.the-variants as left
 use Rattle.player.specs.declared.game.Played.{Played}
 use Rattle.player.specs.declared.game.Played.the-variants as outcome
-use Rattle.player.specs.Print.{answerLine, unknownLine}
+use Rattle.printer.specs.Print.{answerLine, unknownLine}
 
 -- ---- 01, "laptops from 0, all in the view, one record"
 

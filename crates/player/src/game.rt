@@ -3,19 +3,17 @@ ghost use mathlib.Core.Path.{_≡_};
 ghost use Prim.Native.Nat.{_+_, _*_, _≤_, _<_};
 ghost use lib.ListN.{length, drop};
 ghost use Rattle.script.specs.Text.{lines};
-ghost use Rattle.player.specs.Print.{Put};
+ghost use Rattle.printer.specs.Print.{Put};
 ghost use Rattle.player.specs.Play.{freshGroup, prints, answerOf, outputOf};
 use crate::cluster::Cluster;
-use crate::print;
 use crate::turn;
+use printer::LINE_MAX;
 use script::Size;
 
 const LINE_FEED: u8 = b'\n';
 
-// The most bytes of an input, and of an answer line.
+// The most bytes of an input.
 const INPUT_MAX: usize = 65536;
-
-const LINE_MAX: usize = 25;
 
 // How many bytes were printed; refused where the input is too long, or the output too short for what an input of its length could print.
 pub enum Played {
@@ -81,7 +79,7 @@ pub fn play(input: &[u8], out: &mut [u8]) -> Played
     let end = bytes::scan::find(input, 0, input.len(), LINE_FEED);
     let size = script::group_size(&input[..end]);
     let Size::Of(count) = size else {
-        let to = print::put_unknown(out, 0);
+        let to = printer::put_unknown(out, 0);
         return Played::Printed(to);
     };
     let mut heads = head_space();

@@ -1,8 +1,6 @@
 // The playing program as a library: what a script prints.
 mod cluster;
 mod game;
-mod log;
-mod print;
 mod turn;
 
 pub use game::Played;

@@ -1,32 +1,29 @@
 // One line of a script, played on a member of the cluster.
 ghost use mathlib.Core.Path.{_≡_};
+ghost use mathlib.Core.Bool.{true};
 ghost use Prim.Native.Nat.{_+_, _≤_, _<_};
 ghost use lib.ListN.{length};
-ghost use lib.Seq.{paste};
 ghost use Rattle.hermes.specs.Order.{higher};
-ghost use Rattle.hermes.specs.Event.{numberOf, sentBy, leavingBody};
+ghost use Rattle.hermes.specs.Event.{numberOf, sentBy};
 ghost use Rattle.hermes.specs.Node.{indexOf, apply, viewed};
-ghost use Rattle.hermes.specs.Run.{event, find, delivery, perform};
+ghost use Rattle.hermes.specs.Run.{nothing, event, find, delivery, perform, logged};
 ghost use Rattle.script.specs.Command.{textOf};
-ghost use Rattle.player.specs.Print.{Put, answerLine, unknownLine};
-ghost use Rattle.player.specs.Play.{actionOf};
-ghost use Rattle.player.specs.Log.{logOf, kept, encode, envelopeOf, Fits, Stored};
+ghost use Rattle.player.specs.Play.{hasRoom, logNumber, actionOf};
+ghost use Rattle.log.specs.Log.{logOf, Stored};
 ghost use Rattle.player.specs.Cluster.{nodeOf, whoOf, lineResult, resultOf, DoneIs};
 use crate::cluster::Member;
-use crate::log;
-use crate::log::Envelope;
-use crate::print;
-use crate::print::Left;
 use hermes::Admission;
 use hermes::Answer;
 use hermes::Event;
-use hermes::Header;
-use hermes::Message;
 use hermes::Outgoing;
 use hermes::Received;
 use hermes::Record;
+use printer::Left;
 use script::Command;
 use script::Line;
+
+// The most messages of the log.
+const MESSAGES_MAX: usize = 256;
 
 // What an entry came to: its answer, and the member after it. Where it is not known, there was no event.
 pub struct Judged {
@@ -63,17 +60,24 @@ fn apply(m: Member, e: Event, value: &[u8]) -> Judged
     }
 }
 
+// An entry that does nothing.
+fn idle(m: Member) -> Judged
+    ensures { λ j. ⌜ (resultOf j ≡ nothing) × (indexOf (sentBy (j .answer)) ≡ 0) ⌝ }
+{
+    Judged {
+        known: false,
+        answer: Answer::Refused(0),
+        member: m,
+    }
+}
+
 // Message k is delivered.
 fn deliver(m: Member, heads: &[u32], bodies: &[u8], sent: usize, k: usize) -> Judged
     requires { ⌜ Stored (now heads) (now bodies) sent ⌝ }
     ensures { λ j. ⌜ (resultOf j ≡ delivery higher (find (logOf (now (heads .entry)) (now (bodies .entry)) sent) k) (nodeOf m)) × (indexOf (sentBy (j .answer)) ≡ 0) ⌝ }
 {
     if sent <= k {
-        return Judged {
-            known: false,
-            answer: Answer::Refused(0),
-            member: m,
-        };
+        return idle(m);
     }
     let e = log::envelope_at(heads, k);
     let message = e.message;
@@ -137,6 +141,29 @@ fn perform(
     }
 }
 
+// What a line comes to at its member.
+fn judge(
+    m: Member,
+    count: usize,
+    asked: Line,
+    line: &[u8],
+    heads: &[u32],
+    bodies: &[u8],
+    sent: usize,
+) -> Judged
+    requires { ⌜ Stored (now heads) (now bodies) sent ⌝ }
+    ensures { λ j. ⌜ (resultOf j ≡ lineResult count (now (line .entry)) asked (logOf (now (heads .entry)) (now (bodies .entry)) sent) (nodeOf m))
+        × (indexOf (sentBy (j .answer)) ≡ 0) ⌝ }
+{
+    let Line::Entry(k, what) = asked else {
+        return idle(m);
+    };
+    if count <= k {
+        return idle(m);
+    }
+    perform(m, what, line, heads, bodies, sent)
+}
+
 // The number of an answer.
 fn number_of(a: Answer) -> u8
     ensures { λ r. ⌜ r ≡ numberOf a ⌝ }
@@ -157,99 +184,40 @@ fn sent_by(a: Answer) -> Outgoing
     }
 }
 
-// Bytes go into those of the bodies, from an index on.
-fn copy(body: &[u8], bodies: &mut [u8], at: usize)
-    requires { ⌜ at + length (now body) ≤ length (now bodies) ⌝ }
-    ensures { λ _. ⌜ now (bodies .exit) ≡ paste (now (bodies .entry)) at (now (body .entry)) (length (now (body .entry))) ⌝ }
+// Whether the log has room for what leaves.
+fn has_room(sent: usize, o: Outgoing) -> bool
+    ensures { λ r. ⌜ r ≡ hasRoom sent o ⌝ }
 {
-    let mut k = 0;
-    while k < body.len() {
-        bodies[at + k] = body[k];
-        k += 1;
+    match o {
+        Outgoing::None => true,
+        Outgoing::Sent(_, _) => sent < MESSAGES_MAX,
     }
 }
 
-// The bytes that message n takes along are kept. The answer is their number.
-fn keep(m: Member, o: Outgoing, bodies: &mut [u8], n: usize) -> usize
-    requires { ⌜ (n < 256) × (length (now bodies) ≡ 49152) ⌝ }
-    ensures { λ r. ⌜ (r ≡ length (leavingBody o (m .held) (m .store))) × (r ≤ 192)
-        × (now (bodies .exit) ≡ kept 192 (now (bodies .entry)) n (leavingBody o (m .held) (m .store))) ⌝ }
+// The log number of what leaves.
+fn log_number(sent: usize, o: Outgoing) -> Left
+    requires { ⌜ hasRoom sent o ≡ true ⌝ }
+    ensures { λ r. ⌜ r ≡ logNumber sent o ⌝ }
 {
+    match o {
+        Outgoing::None => Left::Nothing,
+        Outgoing::Sent(_, _) => Left::Message(sent as u8),
+    }
+}
+
+// What leaves an event of this member is logged; there is room for it. The answer is how many messages have left.
+fn keep(m: Member, o: Outgoing, heads: &mut [u32], bodies: &mut [u8], sent: usize) -> usize
+    requires { ⌜ (Stored (now heads) (now bodies) sent) × (hasRoom sent o ≡ true) × (indexOf o ≡ 0) ⌝ }
+    ensures { λ n. ⌜ (logOf (now (heads .exit)) (now (bodies .exit)) n ≡ logged (logOf (now (heads .entry)) (now (bodies .entry)) sent) (nodeOf m) o)
+        × (Stored (now (heads .exit)) (now (bodies .exit)) n) ⌝ }
+{
+    let Outgoing::Sent(message, header) = o else {
+        return sent;
+    };
     let held = m.held;
     let store = m.store;
     let body = outgoing::body(o, held, &store);
-    copy(body, bodies, Record::VALUE_MAX * n);
-    body.len()
-}
-
-// A line that does nothing prints `?`.
-fn skip(m: Member, sent: usize, out: &mut [u8], at: usize) -> Done
-    requires { ⌜ at + 25 ≤ length (now out) ⌝ }
-    ensures { λ d. ⌜ (d .member ≡ m) × (d .sent ≡ sent) × (Put unknownLine at (now (out .entry)) (d .at) (now (out .exit))) ⌝ }
-{
-    let to = print::put_unknown(out, at);
-    Done {
-        member: m,
-        sent: sent,
-        at: to,
-    }
-}
-
-// An event that sends nothing.
-fn settle(j: Judged, sent: usize, out: &mut [u8], at: usize) -> Done
-    requires { ⌜ at + 25 ≤ length (now out) ⌝ }
-    ensures { λ d. ⌜ (d .member ≡ j .member) × (d .sent ≡ sent)
-        × (Put (answerLine (numberOf (j .answer)) (j .member .held) Left.Nothing) at (now (out .entry)) (d .at) (now (out .exit)))
-        × (length (answerLine (numberOf (j .answer)) (j .member .held) Left.Nothing) ≤ 25) ⌝ }
-{
-    let answer = j.answer;
-    let member = j.member;
-    let held = member.held;
-    let to = print::put_answer(number_of(answer), held, Left::Nothing, out, at);
-    Done {
-        member: member,
-        sent: sent,
-        at: to,
-    }
-}
-
-// An event that sends message n, for which the log has room.
-fn log_message(
-    j: Judged,
-    message: Message,
-    header: Header,
-    heads: &mut [u32],
-    bodies: &mut [u8],
-    n: usize,
-    out: &mut [u8],
-    at: usize,
-) -> Done
-    requires { ⌜ (n < 256) × (length (now heads) ≡ 1536) × (length (now bodies) ≡ 49152) × (at + 25 ≤ length (now out)) ⌝ }
-    ensures { λ d. ⌜ (d .member ≡ j .member) × (d .sent ≡ n + 1)
-        × (now (heads .exit) ≡ kept 6 (now (heads .entry)) n (encode (envelopeOf message header (leavingBody (Outgoing.Sent message header) (j .member .held) (j .member .store)))))
-        × (Fits (envelopeOf message header (leavingBody (Outgoing.Sent message header) (j .member .held) (j .member .store))))
-        × (now (bodies .exit) ≡ kept 192 (now (bodies .entry)) n (leavingBody (Outgoing.Sent message header) (j .member .held) (j .member .store)))
-        × (length (leavingBody (Outgoing.Sent message header) (j .member .held) (j .member .store)) ≤ 192)
-        × (Put (answerLine (numberOf (j .answer)) (j .member .held) (Left.Message n)) at (now (out .entry)) (d .at) (now (out .exit)))
-        × (length (answerLine (numberOf (j .answer)) (j .member .held) (Left.Message n)) ≤ 25) ⌝ }
-{
-    let answer = j.answer;
-    let member = j.member;
-    let held = member.held;
-    let len = keep(member, Outgoing::Sent(message, header), bodies, n);
-    let e = Envelope {
-        sender: header.sender,
-        epoch: header.epoch,
-        message: message,
-        len: len as u32,
-    };
-    log::put_envelope(heads, n, e);
-    let to = print::put_answer(number_of(answer), held, Left::Message(n as u32), out, at);
-    Done {
-        member: member,
-        sent: n + 1,
-        at: to,
-    }
+    log::append(heads, bodies, sent, message, header, body)
 }
 
 // What an entry of this member came to is printed and, if the log has room for what leaves, done.
@@ -265,19 +233,24 @@ fn conclude(
     requires { ⌜ (Stored (now heads) (now bodies) sent) × (indexOf (sentBy (j .answer)) ≡ 0) × (at + 25 ≤ length (now out)) ⌝ }
     ensures { λ d. ⌜ DoneIs m (now (heads .entry)) (now (bodies .entry)) sent (resultOf j) at (now (out .entry)) d (now (heads .exit)) (now (bodies .exit)) (now (out .exit)) ⌝ }
 {
-    if !j.known {
-        return skip(m, sent, out, at);
-    }
     let answer = j.answer;
     let leaving = sent_by(answer);
-    match leaving {
-        Outgoing::None => settle(j, sent, out, at),
-        Outgoing::Sent(message, header) => {
-            if 256 <= sent {
-                return skip(m, sent, out, at);
-            }
-            log_message(j, message, header, heads, bodies, sent, out, at)
-        }
+    if !(j.known & has_room(sent, leaving)) {
+        let to = printer::put_unknown(out, at);
+        return Done {
+            member: m,
+            sent: sent,
+            at: to,
+        };
+    }
+    let member = j.member;
+    let held = member.held;
+    let next = keep(member, leaving, heads, bodies, sent);
+    let to = printer::put_answer(number_of(answer), held, log_number(sent, leaving), out, at);
+    Done {
+        member: member,
+        sent: next,
+        at: to,
     }
 }
 
@@ -308,12 +281,6 @@ pub(crate) fn turn(
     ensures { λ d. ⌜ DoneIs m (now (heads .entry)) (now (bodies .entry)) sent (lineResult count (now (line .entry)) asked (logOf (now (heads .entry)) (now (bodies .entry)) sent) (nodeOf m))
         at (now (out .entry)) d (now (heads .exit)) (now (bodies .exit)) (now (out .exit)) ⌝ }
 {
-    let Line::Entry(k, what) = asked else {
-        return skip(m, sent, out, at);
-    };
-    if count <= k {
-        return skip(m, sent, out, at);
-    }
-    let j = perform(m, what, line, heads, bodies, sent);
+    let j = judge(m, count, asked, line, heads, bodies, sent);
     conclude(m, j, heads, bodies, sent, out, at)
 }

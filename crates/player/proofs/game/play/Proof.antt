@@ -2,7 +2,8 @@
 use Prim.Native.Nat.{_+_}
 use Rattle.player.proofs.Games.{all-played, first-line, too-long, too-short}
 use Rattle.player.specs.Play.{begun}
-use Rattle.player.specs.Print.{unknownLine}
+use Rattle.printer.specs.Print.{unknownLine}
+use Rattle.printer.proofs.Printing.{put-all}
 use Rattle.script.proofs.Words.{size-few}
 use Rattle.script.specs.Text.{lines}
 use Rattle.script.specs.declared.line.Size.{Size}
@@ -53,7 +54,7 @@ returns-3 c =
     all-played (v .input .now) (v .out .now) (c .before .before .before .before .before .before .before .before .before .before .if1 .left) (c .before .before .before .before .before .before .before .before .before .if2 .left) unknownLine _ _
     (first-line (v .input .now) (c .before .before .before .before .before .before .before .before .find .result) (c .before .before .before .before .before .before .before .before .find .ensures .0)
     ∙ ap (λ (z : Size). begun z (lines (drop (c .before .before .before .before .before .before .before .before .find .result + 1) (v .input .now)))) (sym (c .before .before .before .before .before .before .group-size .ensures) ∙ c .before .before .before .before .enum-told .given .1))
-    (c .before .before .put-unknown .ensures)
+    (put-all 2 0 (v .out .now) unknownLine (omega (arith, c .before .before .before .before .before .before .before .before .before .if2 .left)) (c .before .before .put-unknown .ensures))
 
 head-space-requires : tie.Need-head-space-requires
 head-space-requires c κs = search needs

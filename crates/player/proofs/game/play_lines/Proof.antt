@@ -92,7 +92,7 @@ loop-again c =
       r .kept .1 .1 .1 .1 .1 .1 .1 .0 ∙ i .inv .0,
       q,
       s .1,
-      s .2 ∙ i .inv .3,
+      _∙_ {c = sets (v .out .now) 0 (prints (v .count) (freshGroup (v .count)) (lines (drop (v .from) (v .input .now))))} (s .2) (i .inv .3),
       s .3 ∙ i .inv .4,
     )
 

@@ -1,14 +1,17 @@
 -- `player::turn::deliver` meets its contract.
 use Prim.Native.Nat.{_≤_}
 use native.Mathlib.Omega.{arith}
-use mathlib.Core.Path.{refl}
+use mathlib.Core.Path.{_∙_}
 use Rattle.player.proofs.Turns.{deliver-is, deliver-none}
 use borrow.Author.Needs.{needs}
 use Rattle.player.proofs.turn.deliver.Statement.{statement}
 use Rattle.player.proofs.turn.deliver.Tie as tie
 
+idle-requires : tie.Need-idle-requires
+idle-requires c κs = search needs
+
 returns : tie.Need-returns
-returns c = (deliver-none _ _ _ _ _ (c .if1 .taken), refl)
+returns c = (c .idle .ensures .0 ∙ deliver-none _ _ _ _ _ (c .before .if1 .taken), c .idle .ensures .1)
 
 envelope-at-requires : tie.Need-envelope-at-requires
 envelope-at-requires c κs = search needs
@@ -43,6 +46,7 @@ pub deliver-spec : {M : Type 1} → statement M
 deliver-spec =
     tie.close
     (tie.spec
+    idle-requires
     returns
     envelope-at-requires
     mul-at

@@ -1,14 +1,19 @@
 -- `player::turn::keep` meets its contract.
-use native.Mathlib.Omega.{arith}
-use mathlib.Core.Path.{_∙_, _≡_, ap}
+use mathlib.Core.Path.{_≡_}
 use lib.ListN.{length}
-use Rattle.player.specs.Log.{kept}
-use Rattle.player.proofs.Turns.{leaving-short}
-use Rattle.hermes.specs.Event.{leavingBody}
-use Prim.Native.Nat.{_≤_}
+use Rattle.player.proofs.Turns.{keep-none, keep-sent}
 use borrow.Author.Needs.{needs}
 use Rattle.player.proofs.turn.keep.Statement.{statement}
 use Rattle.player.proofs.turn.keep.Tie as tie
+
+enum-known-o : tie.Need-enum-known-o
+enum-known-o c = search needs
+
+enum-told : tie.Need-enum-told
+enum-told c = search needs
+
+returns : tie.Need-returns
+returns c = let v = c .before .before .before .before .args in keep-none (v .m) (v .heads .now) (v .bodies .now) (v .sent) (c .before .before .before .before .pre .0) (v .o) (c .enum-told .given .1)
 
 slice-aggregate-body : tie.Need-slice-aggregate-body
 slice-aggregate-body c = search needs
@@ -16,24 +21,30 @@ slice-aggregate-body c = search needs
 body-requires : tie.Need-body-requires
 body-requires c κs = search needs
 
-mul-copy : tie.Need-mul-copy
-mul-copy c = search needs
-
-copy-requires : tie.Need-copy-requires
-copy-requires c κs = let v = c .before .before .before .before .before .before .args in
-    let s : length (v .m .store) ≡ 192 = search needs in
-    omega (arith, ap length (c .before .body .ensures), leaving-short (v .o) (v .m .held) (v .m .store), c .before .before .before .before .before .before .pre .0, c .before .before .before .before .before .before .pre .1)
+append-requires : tie.Need-append-requires
+append-requires c κs = search needs
 
 same-length : tie.Need-same-length
 same-length c = search needs
 
-returns : tie.Need-returns
-returns c = let v = c .before .before .before .before .before .before .before .before .before .args in
-    let s : length (v .m .store) ≡ 192 = search needs in
-    let l : length (leavingBody (v .o) (v .m .held) (v .m .store)) ≤ 192 = omega (arith, leaving-short (v .o) (v .m .held) (v .m .store)) in
-    (ap length (c .before .before .before .before .body .ensures), rw (c .before .before .before .before .body .ensures) l, c .before .before .copy .ensures ∙ ap (kept 192 (v .bodies .now) (v .n)) (c .before .before .before .before .body .ensures))
+same-length-2 : tie.Need-same-length-2
+same-length-2 c = search needs
+
+returns-2 : tie.Need-returns-2
+returns-2 c = let v = c .before .before .before .before .before .before .before .before .before .before .before .before .before .before .before .before .args in
+    let size : length (v .m .store) ≡ 192 = search (needs, c .before .before .before .before .before .before .before .before .before .before .before .before .before .before .before .before .good .0) in
+    keep-sent (v .m) (v .heads .now) (v .bodies .now) (v .sent) (c .before .before .before .before .before .before .before .before .before .before .before .before .before .before .before .before .pre .0) (v .o) _ _ (c .before .before .before .before .before .before .before .before .before .before .before .before .o .given .1) (c .before .before .before .before .before .before .before .before .before .before .before .before .before .before .before .before .pre .1) (c .before .before .before .before .before .before .before .before .before .before .before .before .before .before .before .before .pre .2) size _ (c .before .before .before .before .before .before .before .body .ensures) _ _ _ (c .before .before .before .before .append .ensures)
 
 pub keep-spec : {M : Type 1} → statement M
 keep-spec =
     tie.close
-    (tie.spec slice-aggregate-body body-requires mul-copy copy-requires same-length returns)
+    (tie.spec
+    enum-known-o
+    enum-told
+    returns
+    slice-aggregate-body
+    body-requires
+    append-requires
+    same-length
+    same-length-2
+    returns-2)

@@ -1,0 +1,2 @@
+-- Laws of the log.
+pub mod Logs

@@ -1,0 +1,2 @@
+-- Laws of printed lines.
+pub mod Printing
