@@ -14,10 +14,10 @@ use Rattle.hermes.specs.Event.{Effect, effect, moved, step, numberOf, partOf, r
 use Rattle.hermes.specs.Store.{valueAt}
 use Rattle.hermes.specs.Node.{recordAt, effectOf, apply}
 use Rattle.replica.proofs.Asked.{quiet}
-use Rattle.ffi.specs.declared.crossing.CetskobiReplica.{CetskobiReplica}
-use Rattle.ffi.specs.declared.crossing.CetskobiAnswer.{CetskobiAnswer}
-use Rattle.ffi.specs.declared.crossing.CetskobiRead.{CetskobiRead}
-use Rattle.ffi.specs.Crossing.{replicaOf, answerOut}
+use Rattle.crossing.specs.declared.numbers.CetskobiReplica.{CetskobiReplica}
+use Rattle.crossing.specs.declared.numbers.CetskobiAnswer.{CetskobiAnswer}
+use Rattle.crossing.specs.declared.numbers.CetskobiRead.{CetskobiRead}
+use Rattle.crossing.specs.Crossing.{replicaOf, answerOut}
 use Rattle.record_bytes.specs.declared.reading.Found.{Found}
 use Rattle.record_bytes.specs.declared.reading.Found.the-variants.{Here}
 use Rattle.record_bytes.specs.Layout.{countOf, tableOf, bytesAfter, tableAfter, find}

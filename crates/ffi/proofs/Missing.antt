@@ -22,9 +22,9 @@ use Rattle.record_bytes.specs.declared.reading.Found.the-variants as found
 use Rattle.record_bytes.specs.Layout.{unsound, countOf, tableOf, bytesAfter, find}
 use Rattle.record_bytes.proofs.Lent.{length-table}
 use Rattle.record_bytes.proofs.Finding.{found-missing}
-use Rattle.ffi.specs.declared.crossing.CetskobiReplica.{CetskobiReplica}
-use Rattle.ffi.specs.declared.crossing.CetskobiAnswer.{CetskobiAnswer}
-use Rattle.ffi.specs.Crossing.{replicaOf, answerOut}
+use Rattle.crossing.specs.declared.numbers.CetskobiReplica.{CetskobiReplica}
+use Rattle.crossing.specs.declared.numbers.CetskobiAnswer.{CetskobiAnswer}
+use Rattle.crossing.specs.Crossing.{replicaOf, answerOut}
 use Rattle.ffi.specs.Events.{nodeOf, missing, Done}
 
 -- the first no of questions 1 to 5, less one, where the fourth or the fifth says no

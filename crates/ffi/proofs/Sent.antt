@@ -24,8 +24,8 @@ use Rattle.hermes.specs.Order.{higher, later}
 use Rattle.hermes.specs.Event.{leavingBody, recipients, sentBy, send, Step, step, movedBy, deliverStep, invStep, resent, refusal, effect}
 use Rattle.hermes.specs.Node.{Node, recordAt, recordOf, leaving, apply}
 use Rattle.record_bytes.specs.Layout.{tableOf}
-use Rattle.ffi.specs.declared.crossing.CetskobiAnswer.{CetskobiAnswer}
-use Rattle.ffi.specs.Crossing.{messageIn, answerOut}
+use Rattle.crossing.specs.declared.numbers.CetskobiAnswer.{CetskobiAnswer}
+use Rattle.crossing.specs.Crossing.{messageIn, answerOut}
 use Rattle.ffi.specs.Leaving.{pickLeft, leftOf, recipientsOf, bodyOf, Delivered, PartAt}
 use Rattle.ffi.specs.Events.{Done}
 use Rattle.ffi.proofs.Parts.{cut, no-part}

@@ -9,10 +9,10 @@ use Rattle.hermes.specs.declared.event.Moved.{Moved}
 use Rattle.hermes.specs.Order.{higher}
 use Rattle.hermes.specs.Event.{moved, numberOf}
 use Rattle.hermes.specs.Node.{Node, lent, recordAt, effectOf, apply, read}
-use Rattle.ffi.specs.declared.crossing.CetskobiReplica.{CetskobiReplica}
-use Rattle.ffi.specs.declared.crossing.CetskobiAnswer.{CetskobiAnswer}
-use Rattle.ffi.specs.declared.crossing.CetskobiRead.{CetskobiRead}
-use Rattle.ffi.specs.Crossing.{replicaOf, answerOut}
+use Rattle.crossing.specs.declared.numbers.CetskobiReplica.{CetskobiReplica}
+use Rattle.crossing.specs.declared.numbers.CetskobiAnswer.{CetskobiAnswer}
+use Rattle.crossing.specs.declared.numbers.CetskobiRead.{CetskobiRead}
+use Rattle.crossing.specs.Crossing.{replicaOf, answerOut}
 use Rattle.ffi.specs.Leaving.{PartAt}
 use Rattle.record_bytes.specs.Layout.{unsound, countOf, tableOf, bytesAfter, tableAfter}
 

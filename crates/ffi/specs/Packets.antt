@@ -14,10 +14,10 @@ use Rattle.packet.specs.Entry.{fieldsFor}
 use Rattle.packet.specs.Reading.{bodyOf}
 use Rattle.inbox.specs.Arrival.{receivedOf, receiptOf}
 use Rattle.record_bytes.specs.Layout.{tableOf, bytesAfter}
-use Rattle.ffi.specs.declared.crossing.CetskobiAnswer.{CetskobiAnswer}
+use Rattle.crossing.specs.declared.numbers.CetskobiAnswer.{CetskobiAnswer}
 use Rattle.ffi.specs.declared.packets.CetskobiFetched.{CetskobiFetched}
 use Rattle.ffi.specs.declared.packets.CetskobiWritten.{CetskobiWritten}
-use Rattle.ffi.specs.Crossing.{answerOut}
+use Rattle.crossing.specs.Crossing.{answerOut}
 
 -- ---- reading
 

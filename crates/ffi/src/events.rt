@@ -2,13 +2,12 @@
 ghost use mathlib.Core.Path.{_≡_};
 ghost use mathlib.Core.List.{[]};
 ghost use Rattle.hermes.specs.declared.event.Event.the-variants.{Write, Replay, Deliver, Validate, Resend};
-ghost use Rattle.ffi.specs.Crossing.{receivedIn};
+ghost use Rattle.crossing.specs.Crossing.{receivedIn};
 ghost use Rattle.ffi.specs.Events.{nodeOf, missing, Finished, Done, ReadDone};
-use crate::crossing;
-use crate::crossing::CetskobiAnswer;
-use crate::crossing::CetskobiMessage;
-use crate::crossing::CetskobiRead;
-use crate::crossing::CetskobiReplica;
+use crossing::CetskobiAnswer;
+use crossing::CetskobiMessage;
+use crossing::CetskobiRead;
+use crossing::CetskobiReplica;
 use hermes::Moved;
 use hermes::Record;
 use record_bytes::Found;

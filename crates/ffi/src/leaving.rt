@@ -1,9 +1,8 @@
 // What leaves an event, for C and Rust: who gets it, and the bytes that it takes along.
 ghost use mathlib.Core.Path.{_≡_};
-ghost use Rattle.ffi.specs.Crossing.{replicaOf};
+ghost use Rattle.crossing.specs.Crossing.{replicaOf};
 ghost use Rattle.ffi.specs.Leaving.{leftOf, recipientsOf, bodyOf, PartAt};
-use crate::crossing;
-use crate::crossing::CetskobiReplica;
+use crossing::CetskobiReplica;
 use hermes::Event;
 use hermes::Header;
 use hermes::Message;

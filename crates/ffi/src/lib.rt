@@ -1,5 +1,4 @@
 // The engine for C and Rust: exported functions over numbers, slices of numbers and structs of numbers.
-mod crossing;
 mod events;
 mod leaving;
 mod membership;

@@ -8,9 +8,9 @@ use std::fs;
 const HEADER: &str = include_str!("../../../include/cetskobi.h");
 const DECLARED: &str = include_str!("../src/sys.rs");
 
-/// The source of a crate that exports: its modules.
+/// The source of a crate of the engine: its modules.
 fn source(name: &str) -> String {
-    let folder = fs::read_dir(format!("../../crates/{name}/src")).expect("a crate that exports");
+    let folder = fs::read_dir(format!("../../crates/{name}/src")).expect("a crate of the engine");
     let paths = folder.map(|entry| entry.expect("an entry").path());
     let modules = paths.filter(|path| path.extension().is_some_and(|e| e == "rt"));
     modules
@@ -151,9 +151,9 @@ fn header_and_declarations_are_the_same() {
 
 #[test]
 fn declarations_and_exports_are_the_same() {
-    let both = source("ffi") + &source("playing");
-    assert_eq!(functions(DECLARED, DECLARES), functions(&both, EXPORTS));
-    assert_eq!(structs(DECLARED), structs(&both));
+    let exports = source("ffi") + &source("playing");
+    assert_eq!(functions(DECLARED, DECLARES), functions(&exports, EXPORTS));
+    assert_eq!(structs(DECLARED), structs(&(exports + &source("crossing"))));
 }
 
 #[test]

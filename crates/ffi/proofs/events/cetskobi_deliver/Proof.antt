@@ -1,7 +1,7 @@
 -- `ffi::events::cetskobi_deliver` meets its contract.
 use Rattle.ffi.proofs.Ends.{taken-here, done}
 use Rattle.ffi.proofs.Missing.{missed-done}
-use Rattle.ffi.specs.Crossing.{receivedIn}
+use Rattle.crossing.specs.Crossing.{receivedIn}
 use Rattle.hermes.specs.declared.event.Event.the-variants as event
 use mathlib.Core.Path.{sym, _∙_}
 use borrow.Author.Needs.{needs}

@@ -1,0 +1,14 @@
+// The structs of numbers in which C and Rust hand over identities and messages, and get answers.
+mod numbers;
+
+pub use numbers::CetskobiAdmission;
+pub use numbers::CetskobiAnswer;
+pub use numbers::CetskobiMessage;
+pub use numbers::CetskobiRead;
+pub use numbers::CetskobiReplica;
+pub use numbers::admission_out;
+pub use numbers::answer_out;
+pub use numbers::message_in;
+pub use numbers::number_out;
+pub use numbers::received_in;
+pub use numbers::replica_of;
