@@ -12,10 +12,10 @@ use Rattle.packet.specs.declared.answer.Fetched.{Fetched}
 use Rattle.packet.specs.declared.answer.Fetched.the-variants.{Found, Refused}
 use Rattle.packet.specs.Entry.{kindOf, timestampOf, fieldsFor}
 use Rattle.packet.specs.Reading.{fetched, bodyOf}
-use Rattle.ffi.specs.declared.crossing.CetskobiReplica.{CetskobiReplica}
-use Rattle.ffi.specs.declared.crossing.CetskobiAnswer.{CetskobiAnswer}
-use Rattle.ffi.specs.declared.crossing.CetskobiMessage.{CetskobiMessage}
-use Rattle.ffi.specs.Crossing.{answerOut, messageIn, receivedIn}
+use Rattle.crossing.specs.declared.numbers.CetskobiReplica.{CetskobiReplica}
+use Rattle.crossing.specs.declared.numbers.CetskobiAnswer.{CetskobiAnswer}
+use Rattle.crossing.specs.declared.numbers.CetskobiMessage.{CetskobiMessage}
+use Rattle.crossing.specs.Crossing.{answerOut, messageIn, receivedIn}
 use Rattle.ffi.specs.Events.{nodeOf, Done}
 use Rattle.ffi.specs.Packets.{Arrived}
 

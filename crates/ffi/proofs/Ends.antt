@@ -14,16 +14,15 @@ use Rattle.hermes.specs.Event.{Effect, effect, moved, step, numberOf, partOf, r
 use Rattle.hermes.specs.Store.{valueAt}
 use Rattle.hermes.specs.Node.{recordAt, effectOf, apply}
 use Rattle.replica.proofs.Outcomes.{quiet}
-use Rattle.ffi.specs.declared.events.Subject.{Subject}
-use Rattle.ffi.specs.declared.crossing.CetskobiReplica.{CetskobiReplica}
-use Rattle.ffi.specs.declared.crossing.CetskobiAnswer.{CetskobiAnswer}
-use Rattle.ffi.specs.declared.crossing.CetskobiRead.{CetskobiRead}
-use Rattle.ffi.specs.Crossing.{replicaOf, answerOut}
+use Rattle.crossing.specs.declared.numbers.CetskobiReplica.{CetskobiReplica}
+use Rattle.crossing.specs.declared.numbers.CetskobiAnswer.{CetskobiAnswer}
+use Rattle.crossing.specs.declared.numbers.CetskobiRead.{CetskobiRead}
+use Rattle.crossing.specs.Crossing.{replicaOf, answerOut}
 use Rattle.record_bytes.specs.declared.reading.Found.{Found}
 use Rattle.record_bytes.specs.declared.reading.Found.the-variants.{Here}
 use Rattle.record_bytes.specs.Layout.{countOf, tableOf, bytesAfter, tableAfter, find}
 use Rattle.ffi.specs.Leaving.{PartAt}
-use Rattle.ffi.specs.Events.{nodeOf, subjectOf, Finished, Done, ReadDone}
+use Rattle.ffi.specs.Events.{nodeOf, Finished, Done, ReadDone}
 use Rattle.record_bytes.proofs.Lent.{length-table}
 use Rattle.record_bytes.proofs.Finding.{found-here}
 use Rattle.ffi.proofs.Parts.{cut, no-part}
@@ -34,10 +33,6 @@ pub record Taken (me : CetskobiReplica) (bytes : List ℕ) (i : ℕ) (who : Repl
   pub identity : who ≡ replicaOf me
   pub counted : count ≡ countOf (length bytes)
   pub found : r ≡ recordAt (tableOf bytes) i
-
-pub taken : (me : CetskobiReplica) (bytes : List ℕ) (i : ℕ) (s : Subject) → s ≡ subjectOf me bytes i → Taken me bytes i (s .who) (s .count) (s .found)
-taken me bytes i s e =
-    record { identity = ap (λ (x : Subject). x .who) e; counted = ap (λ (x : Subject). x .count) e; found = ap (λ (x : Subject). x .found) e }
 
 -- the same where the record was found
 pub taken-here : (me : CetskobiReplica) (bytes : List ℕ) (i : ℕ) (who : Replica) (count : ℕ) (f : Found) (r : Record) → who ≡ replicaOf me → count ≡ countOf (length bytes)

@@ -22,9 +22,9 @@ use Rattle.record_bytes.specs.declared.reading.Found.the-variants as found
 use Rattle.record_bytes.specs.Layout.{unsound, countOf, tableOf, bytesAfter, find}
 use Rattle.record_bytes.proofs.Lent.{length-table}
 use Rattle.record_bytes.proofs.Finding.{found-missing}
-use Rattle.ffi.specs.declared.crossing.CetskobiReplica.{CetskobiReplica}
-use Rattle.ffi.specs.declared.crossing.CetskobiAnswer.{CetskobiAnswer}
-use Rattle.ffi.specs.Crossing.{replicaOf, answerOut}
+use Rattle.crossing.specs.declared.numbers.CetskobiReplica.{CetskobiReplica}
+use Rattle.crossing.specs.declared.numbers.CetskobiAnswer.{CetskobiAnswer}
+use Rattle.crossing.specs.Crossing.{replicaOf, answerOut}
 use Rattle.ffi.specs.Events.{nodeOf, missing, Done}
 
 -- the first no of questions 1 to 5, less one, where the fourth or the fifth says no
@@ -67,12 +67,12 @@ module _ (me : CetskobiReplica) (bytes store : List ℕ) (i : ℕ) (none : find 
   refused e n = refuses (replicaOf me) (length (tableOf bytes)) (length store) i (recordAt (tableOf bytes) i) no e n
 
   -- so the answer to a read is the answer to every event
-  pub missed-done : (e : Event) (v : List ℕ) (a : CetskobiAnswer) → a ≡ missing me bytes (length store) i → Done (nodeOf me bytes store) bytes i e v a bytes store
+  pub missed-done : (e : Event) (v : List ℕ) (a : CetskobiAnswer) → a ≡ missing me (length bytes) (length store) i → Done (nodeOf me bytes store) bytes i e v a bytes store
   unfolding apply effect moved
   missed-done e v a h =
       let z = refused e (length v) in
       record {
-        answer = h ∙ rw (← length-table bytes, refused event.Read 0, z);
+        answer = h ∙ rw (← length-table bytes, refuses (replicaOf me) (length (tableOf bytes)) (length store) i unsound (inr refl) event.Read 0, z);
         bytes = rw z;
         table = rw z (sym (set-getD (tableOf bytes) i (freshRecord 0)));
         store = rw z;

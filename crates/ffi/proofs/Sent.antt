@@ -25,8 +25,8 @@ use Rattle.hermes.specs.Store.{valueAt}
 use Rattle.hermes.specs.Event.{leavingBody, recipients, sentBy, send, Step, step, movedBy, deliverStep, invStep, resent, refusal, effect}
 use Rattle.hermes.specs.Node.{Node, recordAt, recordOf, leaving, apply}
 use Rattle.record_bytes.specs.Layout.{tableOf}
-use Rattle.ffi.specs.declared.crossing.CetskobiAnswer.{CetskobiAnswer}
-use Rattle.ffi.specs.Crossing.{pickMessage, answerOut}
+use Rattle.crossing.specs.declared.numbers.CetskobiAnswer.{CetskobiAnswer}
+use Rattle.crossing.specs.Crossing.{pickMessage, answerOut}
 use Rattle.ffi.specs.Leaving.{pickLeft, leftOf, cameFrom, recipientsOf, bodyOf, Delivered, PartAt}
 use Rattle.ffi.specs.Events.{Done}
 use Rattle.ffi.proofs.Parts.{cut, no-part}

@@ -10,8 +10,8 @@ use Rattle.hermes.specs.declared.event.Admission.the-variants.{Admitted, Refuse
 use Rattle.hermes.specs.Node.{newcomer, admit, firstRecord, start}
 use Rattle.hermes.proofs.Start.{begun}
 use Rattle.hermes.proofs.Filling.{start-admission, start-refused}
-use Rattle.ffi.specs.declared.crossing.CetskobiAdmission.{CetskobiAdmission}
-use Rattle.ffi.specs.Crossing.{identityOf, admissionOut}
+use Rattle.crossing.specs.declared.numbers.CetskobiAdmission.{CetskobiAdmission}
+use Rattle.crossing.specs.Crossing.{identityOf, admissionOut}
 use Rattle.record_bytes.specs.Layout.{countOf, tableOf, fill}
 use Rattle.ffi.specs.Admission.{StartDone}
 use Rattle.record_bytes.proofs.Lent.{length-table}

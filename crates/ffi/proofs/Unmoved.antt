@@ -19,9 +19,9 @@ use Rattle.record_bytes.specs.Layout.{tableOf}
 use Rattle.record_bytes.specs.Back.{Bytes}
 use Rattle.record_bytes.proofs.Lent.{length-table}
 use Rattle.record_bytes.proofs.Back.{settled-back}
-use Rattle.ffi.specs.declared.crossing.CetskobiReplica.{CetskobiReplica}
-use Rattle.ffi.specs.declared.crossing.CetskobiAnswer.{CetskobiAnswer}
-use Rattle.ffi.specs.Crossing.{replicaOf}
+use Rattle.crossing.specs.declared.numbers.CetskobiReplica.{CetskobiReplica}
+use Rattle.crossing.specs.declared.numbers.CetskobiAnswer.{CetskobiAnswer}
+use Rattle.crossing.specs.Crossing.{replicaOf}
 use Rattle.ffi.specs.Events.{nodeOf, Done}
 
 -- a step that leaves the record, done or refused

@@ -6,8 +6,8 @@ use lib.ListN.{length}
 use Rattle.hermes.specs.declared.event.Admission.{Admission}
 use Rattle.hermes.specs.declared.event.Admission.the-variants.{Admitted, Refused}
 use Rattle.hermes.specs.Node.{newcomer, firstRecord, start}
-use Rattle.ffi.specs.declared.crossing.CetskobiAdmission.{CetskobiAdmission}
-use Rattle.ffi.specs.Crossing.{identityOf, admissionOut}
+use Rattle.crossing.specs.declared.numbers.CetskobiAdmission.{CetskobiAdmission}
+use Rattle.crossing.specs.Crossing.{identityOf, admissionOut}
 use Rattle.record_bytes.specs.Layout.{countOf, tableOf, fill}
 
 -- the bytes after an admission: every record the first one; after a refusal as they were

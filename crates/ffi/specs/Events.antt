@@ -9,25 +9,20 @@ use Rattle.hermes.specs.declared.event.Moved.{Moved}
 use Rattle.hermes.specs.Order.{higher}
 use Rattle.hermes.specs.Event.{moved, numberOf}
 use Rattle.hermes.specs.Node.{Node, lent, recordAt, effectOf, apply, read}
-use Rattle.ffi.specs.declared.crossing.CetskobiReplica.{CetskobiReplica}
-use Rattle.ffi.specs.declared.crossing.CetskobiAnswer.{CetskobiAnswer}
-use Rattle.ffi.specs.declared.crossing.CetskobiRead.{CetskobiRead}
-use Rattle.ffi.specs.declared.events.Subject.{Subject}
-use Rattle.ffi.specs.Crossing.{replicaOf, answerOut}
+use Rattle.crossing.specs.declared.numbers.CetskobiReplica.{CetskobiReplica}
+use Rattle.crossing.specs.declared.numbers.CetskobiAnswer.{CetskobiAnswer}
+use Rattle.crossing.specs.declared.numbers.CetskobiRead.{CetskobiRead}
+use Rattle.crossing.specs.Crossing.{replicaOf, answerOut}
 use Rattle.ffi.specs.Leaving.{PartAt}
-use Rattle.record_bytes.specs.Layout.{countOf, tableOf, bytesAfter, tableAfter}
+use Rattle.record_bytes.specs.Layout.{unsound, countOf, tableOf, bytesAfter, tableAfter}
 
 -- the replica with the memory that came from outside
 abbrev pub nodeOf : CetskobiReplica → List ℕ → List ℕ → Node
 nodeOf me bytes store = lent (replicaOf me) (tableOf bytes) store
 
--- whom an event is asked of, of how many records, and on which
-abbrev pub subjectOf : CetskobiReplica → List ℕ → ℕ → Subject
-subjectOf me bytes i = record { who = replicaOf me; count = countOf (length bytes); found = recordAt (tableOf bytes) i }
-
--- the answer to an event on a number where no record stands: that of a read, as of any other event
-abbrev pub missing : CetskobiReplica → List ℕ → ℕ → ℕ → CetskobiAnswer
-missing me bytes n i = answerOut (moved higher (replicaOf me) (countOf (length bytes)) n i (recordAt (tableOf bytes) i) Read [] .answer)
+-- the answer to an event on a number where no record stands, of so many bytes: that of a read, as of any other event, of what bytes with no state stand for
+abbrev pub missing : CetskobiReplica → ℕ → ℕ → ℕ → CetskobiAnswer
+missing me len n i = answerOut (moved higher (replicaOf me) (countOf len) n i unsound Read [] .answer)
 
 -- the answer, the bytes and the table that they hold, after an event that moved record i so
 pub record Finished (before : List ℕ) (i : ℕ) (m : Moved) (a : CetskobiAnswer) (bytes′ : List ℕ) : Type 0 where

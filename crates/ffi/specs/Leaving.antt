@@ -15,7 +15,7 @@ use Rattle.hermes.specs.declared.event.Event.the-variants.{Read, Write, Replay,
 use Rattle.hermes.specs.Event.{leavingBody, recipients}
 use Rattle.hermes.specs.Node.{recordAt}
 use Rattle.record_bytes.specs.Layout.{tableOf}
-use Rattle.ffi.specs.Crossing.{messageIn}
+use Rattle.crossing.specs.Crossing.{messageIn}
 
 abbrev pub pickLeft : Bool → Outgoing → Outgoing → Outgoing
 pickLeft true a b = a

@@ -1,4 +1,3 @@
-pub mod Crossing
 pub mod Leaving
 pub mod Events
 pub mod Admission

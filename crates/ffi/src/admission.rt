@@ -1,11 +1,10 @@
 // Fresh start and view, for C and Rust.
 ghost use mathlib.Core.Path.{_≡_};
 ghost use Rattle.hermes.specs.Node.{view};
-ghost use Rattle.ffi.specs.Crossing.{replicaOf, admissionOut};
+ghost use Rattle.crossing.specs.Crossing.{replicaOf, admissionOut};
 ghost use Rattle.ffi.specs.Admission.{StartDone};
-use crate::crossing;
-use crate::crossing::CetskobiAdmission;
-use crate::crossing::CetskobiReplica;
+use crossing::CetskobiAdmission;
+use crossing::CetskobiReplica;
 use hermes::Admission;
 
 // A change of view. A refused one gives the identity as it was.

@@ -2,36 +2,15 @@
 ghost use mathlib.Core.Path.{_≡_};
 ghost use mathlib.Core.List.{[]};
 ghost use Rattle.hermes.specs.declared.event.Event.the-variants.{Write, Replay, Deliver, Validate, Resend};
-ghost use Rattle.ffi.specs.Crossing.{receivedIn};
-ghost use Rattle.ffi.specs.Events.{nodeOf, subjectOf, missing, Finished, Done, ReadDone};
-use crate::crossing;
-use crate::crossing::CetskobiAnswer;
-use crate::crossing::CetskobiMessage;
-use crate::crossing::CetskobiRead;
-use crate::crossing::CetskobiReplica;
+ghost use Rattle.crossing.specs.Crossing.{receivedIn};
+ghost use Rattle.ffi.specs.Events.{nodeOf, missing, Finished, Done, ReadDone};
+use crossing::CetskobiAnswer;
+use crossing::CetskobiMessage;
+use crossing::CetskobiRead;
+use crossing::CetskobiReplica;
 use hermes::Moved;
 use hermes::Record;
-use hermes::Replica;
 use record_bytes::Found;
-
-// Whom an event is asked of, of how many records, and on which.
-struct Subject {
-    who: Replica,
-    count: usize,
-    found: Record,
-}
-
-fn subject_of(me: CetskobiReplica, table: &[u8], i: usize) -> Subject
-    ensures { λ s. ⌜ s ≡ subjectOf me (now (table .entry)) i ⌝ }
-{
-    let who = crossing::replica_of(me);
-    let found = record_bytes::record_at(table, i);
-    Subject {
-        who: who,
-        count: record_bytes::count(table.len()),
-        found: found,
-    }
-}
 
 // The end of an event on record i: its answer, and the bytes of the table.
 fn finish(table: &mut [u8], i: usize, m: Moved) -> CetskobiAnswer
@@ -43,11 +22,12 @@ fn finish(table: &mut [u8], i: usize, m: Moved) -> CetskobiAnswer
 }
 
 // The answer to an event on a number where no record stands. It is the same for every event: one of questions 1 to 5 says no.
-fn missed(me: CetskobiReplica, table: &[u8], bytes: usize, i: usize) -> CetskobiAnswer
-    ensures { λ a. ⌜ a ≡ missing me (now (table .entry)) bytes i ⌝ }
+fn missed(me: CetskobiReplica, len: usize, bytes: usize, i: usize) -> CetskobiAnswer
+    ensures { λ a. ⌜ a ≡ missing me len bytes i ⌝ }
 {
-    let s = subject_of(me, table, i);
-    let answer = replica::read_number(s.who, s.count, bytes, i, s.found);
+    let who = crossing::replica_of(me);
+    let count = record_bytes::count(len);
+    let answer = replica::read_number(who, count, bytes, i, record_bytes::none());
     crossing::answer_out(answer)
 }
 
@@ -64,7 +44,7 @@ pub extern "C" fn cetskobi_write(
 {
     let found = record_bytes::find(table, i);
     let Found::Here(r) = found else {
-        return missed(me, table, store.len(), i);
+        return missed(me, table.len(), store.len(), i);
     };
     let who = crossing::replica_of(me);
     let count = record_bytes::count(table.len());
@@ -86,7 +66,7 @@ pub extern "C" fn cetskobi_deliver(
 {
     let found = record_bytes::find(table, i);
     let Found::Here(r) = found else {
-        return missed(me, table, store.len(), i);
+        return missed(me, table.len(), store.len(), i);
     };
     let who = crossing::replica_of(me);
     let count = record_bytes::count(table.len());
@@ -107,7 +87,7 @@ pub extern "C" fn cetskobi_replay(
 {
     let found = record_bytes::find(table, i);
     let Found::Here(r) = found else {
-        return missed(me, table, store.len(), i);
+        return missed(me, table.len(), store.len(), i);
     };
     let who = crossing::replica_of(me);
     let count = record_bytes::count(table.len());
@@ -127,7 +107,7 @@ pub extern "C" fn cetskobi_validate(
 {
     let found = record_bytes::find(table, i);
     let Found::Here(r) = found else {
-        return missed(me, table, store.len(), i);
+        return missed(me, table.len(), store.len(), i);
     };
     let who = crossing::replica_of(me);
     let count = record_bytes::count(table.len());
@@ -147,7 +127,7 @@ pub extern "C" fn cetskobi_resend(
 {
     let found = record_bytes::find(table, i);
     let Found::Here(r) = found else {
-        return missed(me, table, store.len(), i);
+        return missed(me, table.len(), store.len(), i);
     };
     let who = crossing::replica_of(me);
     let count = record_bytes::count(table.len());
@@ -165,10 +145,12 @@ pub extern "C" fn cetskobi_read(
 ) -> CetskobiRead
     ensures { λ p. ⌜ ReadDone (nodeOf me (now (table .entry)) (now (store .entry))) i p ⌝ }
 {
-    let s = subject_of(me, table, i);
-    let answer = replica::read_number(s.who, s.count, store.len(), i, s.found);
+    let who = crossing::replica_of(me);
+    let count = record_bytes::count(table.len());
+    let r = record_bytes::record_at(table, i);
+    let answer = replica::read_number(who, count, store.len(), i, r);
     let number = crossing::number_out(answer);
-    let part = replica::read(s.who, s.count, i, s.found, store);
+    let part = replica::read(who, count, i, r, store);
     CetskobiRead {
         number: number,
         len: part.len(),

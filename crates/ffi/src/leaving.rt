@@ -1,8 +1,8 @@
 // What leaves an event, for C and Rust: who gets it, and the bytes that it takes along.
 ghost use mathlib.Core.Path.{_≡_};
-ghost use Rattle.ffi.specs.Crossing.{replicaOf};
+ghost use Rattle.crossing.specs.Crossing.{replicaOf};
 ghost use Rattle.ffi.specs.Leaving.{recipientsOf, bodyOf, PartAt};
-use crate::crossing::CetskobiReplica;
+use crossing::CetskobiReplica;
 
 // Who gets a message of this kind: bit n for replica n. Only an ACK asks the sender of the message that was delivered; of an unknown kind it is nobody.
 #[no_mangle]

@@ -1,6 +1,5 @@
 // The engine for C and Rust: exported functions over numbers, slices of numbers and structs of numbers.
 mod admission;
-mod crossing;
 mod events;
 mod leaving;
 mod packets;
@@ -9,9 +8,11 @@ pub use admission::cetskobi_start;
 pub use admission::cetskobi_view;
 pub use crossing::CetskobiAdmission;
 pub use crossing::CetskobiAnswer;
+pub use crossing::CetskobiFetched;
 pub use crossing::CetskobiMessage;
 pub use crossing::CetskobiRead;
 pub use crossing::CetskobiReplica;
+pub use crossing::CetskobiWritten;
 pub use events::cetskobi_deliver;
 pub use events::cetskobi_read;
 pub use events::cetskobi_replay;
@@ -20,8 +21,6 @@ pub use events::cetskobi_validate;
 pub use events::cetskobi_write;
 pub use leaving::cetskobi_body;
 pub use leaving::cetskobi_recipients;
-pub use packets::CetskobiFetched;
-pub use packets::CetskobiWritten;
 pub use packets::cetskobi_deliver_packet;
 pub use packets::cetskobi_fetch;
 pub use packets::cetskobi_pack;

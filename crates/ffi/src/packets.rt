@@ -4,86 +4,24 @@ ghost use lib.ListN.{length};
 ghost use Rattle.packet.specs.Reading.{fetched};
 ghost use Rattle.packet.specs.Writing.{outputOf};
 ghost use Rattle.entries.specs.Words.{messagesIn, packed};
-ghost use Rattle.ffi.specs.Packets.{fetchedOut, writtenOut, Arrived};
+ghost use Rattle.crossing.specs.Packets.{fetchedOut, writtenOut};
+ghost use Rattle.ffi.specs.Packets.{Arrived};
 ghost use Rattle.ffi.specs.Events.{nodeOf};
-use crate::crossing;
-use crate::crossing::CetskobiAnswer;
-use crate::crossing::CetskobiMessage;
-use crate::crossing::CetskobiReplica;
 use crate::events;
+use crossing::CetskobiAnswer;
+use crossing::CetskobiFetched;
+use crossing::CetskobiMessage;
+use crossing::CetskobiReplica;
+use crossing::CetskobiWritten;
 use hermes::Answer;
 use packet::Fetched;
-use packet::Written;
-
-// The answer to a fetch: 0 or the number of the question that said no; and the message, whose body is the len bytes of the packet from at on.
-#[repr(C)]
-pub struct CetskobiFetched {
-    pub number: u8,
-    pub kind: u8,
-    pub sender: u8,
-    pub tie: u8,
-    pub epoch: u32,
-    pub version: u32,
-    pub index: usize,
-    pub at: usize,
-    pub len: usize,
-}
-
-// The answer to a write: 0 or the number of the question that said no, and how many bytes were written.
-#[repr(C)]
-pub struct CetskobiWritten {
-    pub number: u8,
-    pub len: usize,
-}
-
-// A refused fetch has no message: its fields are zeros.
-fn fetched_out(fetched: Fetched) -> CetskobiFetched
-    ensures { λ r. ⌜ r ≡ fetchedOut fetched ⌝ }
-{
-    match fetched {
-        Fetched::Found(entry, at) => {
-            let f = packet::fields_for(entry, at);
-            CetskobiFetched {
-                number: 0,
-                kind: f.kind,
-                sender: f.sender,
-                tie: f.tie,
-                epoch: f.epoch,
-                version: f.version,
-                index: f.index,
-                at: f.offset,
-                len: f.len as usize,
-            }
-        }
-        Fetched::Refused(k) => CetskobiFetched {
-            number: k,
-            kind: 0,
-            sender: 0,
-            tie: 0,
-            epoch: 0,
-            version: 0,
-            index: 0,
-            at: 0,
-            len: 0,
-        },
-    }
-}
 
 // Message i of a packet.
 #[no_mangle]
 pub extern "C" fn cetskobi_fetch(packet: &[u8], i: usize) -> CetskobiFetched
     ensures { λ r. ⌜ r ≡ fetchedOut (fetched (now (packet .entry)) i) ⌝ }
 {
-    fetched_out(packet::fetch(packet, i))
-}
-
-fn written_out(written: Written) -> CetskobiWritten
-    ensures { λ r. ⌜ r ≡ writtenOut written ⌝ }
-{
-    match written {
-        Written::Total(n) => CetskobiWritten { number: 0, len: n },
-        Written::Refused(k) => CetskobiWritten { number: k, len: 0 },
-    }
+    crossing::fetched_out(packet::fetch(packet, i))
 }
 
 // A packet of messages, seven words for each, whose bodies stand end to end.
@@ -93,7 +31,7 @@ pub extern "C" fn cetskobi_pack(messages: &[u32], bodies: &[u8], out: &mut [u8])
         × (now (out .exit) ≡ outputOf (packed (now (messages .entry)) (now (bodies .entry)) (length (now (out .entry)))) (messagesIn (now (messages .entry))) (now (bodies .entry)) (now (out .entry))) ⌝ }
 {
     let written = packet_writer::write(messages, bodies, out);
-    written_out(written)
+    crossing::written_out(written)
 }
 
 // Delivery of message i of a packet, with its body, to the record that it is about: that of `cetskobi_deliver`, so that

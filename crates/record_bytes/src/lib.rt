@@ -4,6 +4,7 @@ mod filling;
 mod putting;
 mod reading;
 
+pub use decoding::none;
 pub use filling::fill;
 pub use putting::settle;
 pub use reading::Found;

@@ -191,9 +191,9 @@ fn header_and_declarations_are_the_same() {
 
 #[test]
 fn declarations_and_exports_are_the_same() {
-    let both = source("ffi") + &source("playing");
-    assert_eq!(functions(DECLARED, DECLARES), functions(&both, EXPORTS));
-    assert_eq!(structs(DECLARED), structs(&both));
+    let exports = source("ffi") + &source("playing");
+    assert_eq!(functions(DECLARED, DECLARES), functions(&exports, EXPORTS));
+    assert_eq!(structs(DECLARED), structs(&(exports + &source("crossing"))));
 }
 
 #[test]

@@ -1,5 +1,5 @@
 -- `ffi::admission::cetskobi_view` meets its contract.
-use Rattle.ffi.specs.Crossing.{admissionOut}
+use Rattle.crossing.specs.Crossing.{admissionOut}
 use Rattle.hermes.specs.Node.{view}
 use Rattle.hermes.specs.declared.event.Replica.{Replica}
 use Rattle.hermes.specs.declared.event.Admission.{Admission}

@@ -1,7 +1,7 @@
 -- `ffi::events::cetskobi_deliver` meets its contract.
 use Rattle.ffi.proofs.Ends.{taken-here, done}
 use Rattle.ffi.proofs.Missing.{missed-done}
-use Rattle.ffi.specs.Crossing.{receivedIn}
+use Rattle.crossing.specs.Crossing.{receivedIn}
 use Rattle.hermes.specs.declared.event.Event.the-variants as event
 use mathlib.Core.Path.{sym, _∙_}
 use borrow.Author.Needs.{needs}
@@ -24,7 +24,7 @@ same-length : tie.Need-same-length
 same-length c = search needs
 
 returns : tie.Need-returns
-returns c = let v = c .before .before .before .before .before .before .before .before .before .args in missed-done (v .me) (v .table .now) (v .store .now) (v .i) (sym (c .before .before .before .before .find .ensures) ∙ c .before .before .enum-told .given .1) (event.Deliver (receivedIn (v .message))) (v .value .now) _ (c .missed .ensures)
+returns c = let v = c .before .before .before .before .before .before .before .before .args in missed-done (v .me) (v .table .now) (v .store .now) (v .i) (sym (c .before .before .before .find .ensures) ∙ c .before .enum-told .given .1) (event.Deliver (receivedIn (v .message))) (v .value .now) _ (c .missed .ensures)
 
 replica-of-requires : tie.Need-replica-of-requires
 replica-of-requires c κs = search needs

@@ -1,12 +1,18 @@
 -- `ffi::events::cetskobi_read` meets its contract.
-use Rattle.ffi.proofs.Ends.{taken, read-done}
+use Rattle.ffi.proofs.Ends.{read-done}
 use mathlib.Core.Path.{refl}
 use borrow.Author.Needs.{needs}
 use Rattle.ffi.proofs.events.cetskobi_read.Statement.{statement}
 use Rattle.ffi.proofs.events.cetskobi_read.Tie as tie
 
-subject-of-requires : tie.Need-subject-of-requires
-subject-of-requires c κs = search needs
+replica-of-requires : tie.Need-replica-of-requires
+replica-of-requires c κs = search needs
+
+count-requires : tie.Need-count-requires
+count-requires c κs = search needs
+
+record-at-requires : tie.Need-record-at-requires
+record-at-requires c κs = search needs
 
 read-number-requires : tie.Need-read-number-requires
 read-number-requires c κs = search needs
@@ -18,7 +24,7 @@ read-requires : tie.Need-read-requires
 read-requires c κs = search needs
 
 returns : tie.Need-returns
-returns c = let v = c .before .before .before .before .before .before .args in read-done (v .me) (v .table .now) (v .i) _ _ _ (taken _ _ _ _ (c .before .before .before .subject-of .ensures)) (v .store .now) _ _ _ (c .before .before .read-number .ensures) (c .before .number-out .ensures) (c .read .ensures) refl
+returns c = let v = c .before .before .before .before .before .before .before .before .args in read-done (v .me) (v .table .now) (v .i) _ _ _ (record { identity = c .before .before .before .before .before .replica-of .ensures; counted = c .before .before .before .before .count .ensures; found = c .before .before .before .record-at .ensures }) (v .store .now) _ _ _ (c .before .before .read-number .ensures) (c .before .number-out .ensures) (c .read .ensures) refl
 
 pub cetskobi-read-spec : {M : Type 1} → statement M
-cetskobi-read-spec = tie.close (tie.spec subject-of-requires read-number-requires number-out-requires read-requires returns)
+cetskobi-read-spec = tie.close (tie.spec replica-of-requires count-requires record-at-requires read-number-requires number-out-requires read-requires returns)

@@ -3,7 +3,7 @@ use borrow.Author.Needs.{needs}
 use borrow.Author.Tests.{eq-eqb, ne-eqb, lt-ltb, le-ltb}
 use mathlib.Core.Path.{_∙_}
 use lib.Dec.{eqb}
-use Rattle.ffi.specs.Crossing.{replicaOf}
+use Rattle.crossing.specs.Crossing.{replicaOf}
 use Rattle.ffi.proofs.Sent.{to-others}
 use Rattle.ffi.proofs.leaving.cetskobi_recipients.Statement.{statement}
 use Rattle.ffi.proofs.leaving.cetskobi_recipients.Tie as tie

@@ -1,6 +1,6 @@
 -- `ffi::packets::cetskobi_fetch` meets its contract.
 use mathlib.Core.Path.{ap, _∙_}
-use Rattle.ffi.specs.Packets.{fetchedOut}
+use Rattle.crossing.specs.Packets.{fetchedOut}
 use borrow.Author.Needs.{needs}
 use Rattle.ffi.proofs.packets.cetskobi_fetch.Statement.{statement}
 use Rattle.ffi.proofs.packets.cetskobi_fetch.Tie as tie

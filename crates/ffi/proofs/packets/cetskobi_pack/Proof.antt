@@ -1,6 +1,6 @@
 -- `ffi::packets::cetskobi_pack` meets its contract.
 use mathlib.Core.Path.{_∙_, ap}
-use Rattle.ffi.specs.Packets.{writtenOut}
+use Rattle.crossing.specs.Packets.{writtenOut}
 use borrow.Author.Needs.{needs}
 use Rattle.ffi.proofs.packets.cetskobi_pack.Statement.{statement}
 use Rattle.ffi.proofs.packets.cetskobi_pack.Tie as tie

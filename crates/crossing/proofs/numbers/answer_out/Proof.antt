@@ -1,7 +1,7 @@
--- `ffi::crossing::answer_out` meets its contract.
+-- `crossing::numbers::answer_out` meets its contract.
 use borrow.Author.Needs.{needs}
-use Rattle.ffi.proofs.crossing.answer_out.Statement.{statement}
-use Rattle.ffi.proofs.crossing.answer_out.Tie as tie
+use Rattle.crossing.proofs.numbers.answer_out.Statement.{statement}
+use Rattle.crossing.proofs.numbers.answer_out.Tie as tie
 
 enum-known-a : tie.Need-enum-known-a
 enum-known-a c = search needs

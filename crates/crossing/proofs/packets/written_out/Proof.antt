@@ -1,7 +1,7 @@
--- `ffi::packets::written_out` meets its contract.
+-- `crossing::packets::written_out` meets its contract.
 use borrow.Author.Needs.{needs}
-use Rattle.ffi.proofs.packets.written_out.Statement.{statement}
-use Rattle.ffi.proofs.packets.written_out.Tie as tie
+use Rattle.crossing.proofs.packets.written_out.Statement.{statement}
+use Rattle.crossing.proofs.packets.written_out.Tie as tie
 
 enum-known-written : tie.Need-enum-known-written
 enum-known-written c = search needs

@@ -1,7 +1,7 @@
--- `ffi::crossing::message_out` meets its contract.
+-- `crossing::numbers::message_out` meets its contract.
 use borrow.Author.Needs.{needs}
-use Rattle.ffi.proofs.crossing.message_out.Statement.{statement}
-use Rattle.ffi.proofs.crossing.message_out.Tie as tie
+use Rattle.crossing.proofs.numbers.message_out.Statement.{statement}
+use Rattle.crossing.proofs.numbers.message_out.Tie as tie
 
 enum-known-m : tie.Need-enum-known-m
 enum-known-m c = search needs

@@ -1,7 +1,7 @@
--- `ffi::crossing::message_in` meets its contract.
+-- `crossing::numbers::message_in` meets its contract.
 use borrow.Author.Tests.{eq-eqb, ne-eqb}
-use Rattle.ffi.proofs.crossing.message_in.Statement.{statement}
-use Rattle.ffi.proofs.crossing.message_in.Tie as tie
+use Rattle.crossing.proofs.numbers.message_in.Statement.{statement}
+use Rattle.crossing.proofs.numbers.message_in.Tie as tie
 
 returns : tie.Need-returns
 returns c = simp (eq-eqb _ _ (c .if1 .taken))

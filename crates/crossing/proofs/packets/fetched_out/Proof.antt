@@ -1,9 +1,9 @@
--- `ffi::packets::fetched_out` meets its contract.
+-- `crossing::packets::fetched_out` meets its contract.
 use mathlib.Core.Path.{ap}
-use Rattle.ffi.specs.Packets.{fieldsOut}
+use Rattle.crossing.specs.Packets.{fieldsOut}
 use borrow.Author.Needs.{needs}
-use Rattle.ffi.proofs.packets.fetched_out.Statement.{statement}
-use Rattle.ffi.proofs.packets.fetched_out.Tie as tie
+use Rattle.crossing.proofs.packets.fetched_out.Statement.{statement}
+use Rattle.crossing.proofs.packets.fetched_out.Tie as tie
 
 enum-known-fetched : tie.Need-enum-known-fetched
 enum-known-fetched c = search needs

@@ -1,7 +1,7 @@
--- `ffi::crossing::received_in` meets its contract.
+-- `crossing::numbers::received_in` meets its contract.
 use borrow.Author.Needs.{needs}
-use Rattle.ffi.proofs.crossing.received_in.Statement.{statement}
-use Rattle.ffi.proofs.crossing.received_in.Tie as tie
+use Rattle.crossing.proofs.numbers.received_in.Statement.{statement}
+use Rattle.crossing.proofs.numbers.received_in.Tie as tie
 
 message-in-requires : tie.Need-message-in-requires
 message-in-requires c κs = search needs

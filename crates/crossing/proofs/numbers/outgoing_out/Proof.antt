@@ -1,7 +1,7 @@
--- `ffi::crossing::outgoing_out` meets its contract.
+-- `crossing::numbers::outgoing_out` meets its contract.
 use borrow.Author.Needs.{needs}
-use Rattle.ffi.proofs.crossing.outgoing_out.Statement.{statement}
-use Rattle.ffi.proofs.crossing.outgoing_out.Tie as tie
+use Rattle.crossing.proofs.numbers.outgoing_out.Statement.{statement}
+use Rattle.crossing.proofs.numbers.outgoing_out.Tie as tie
 
 enum-told : tie.Need-enum-told
 enum-told c = search needs

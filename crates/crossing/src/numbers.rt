@@ -1,6 +1,6 @@
 // How identities, messages and answers cross as numbers.
 ghost use mathlib.Core.Path.{_≡_};
-ghost use Rattle.ffi.specs.Crossing.{replicaOf, identityOf, answering, messageOut, outgoingOut, answerOut, admissionOut, messageIn, receivedIn};
+ghost use Rattle.crossing.specs.Crossing.{replicaOf, identityOf, answering, messageOut, outgoingOut, answerOut, admissionOut, messageIn, receivedIn};
 ghost use Rattle.hermes.specs.Event.{numberOf};
 use hermes::Admission;
 use hermes::Answer;
@@ -51,7 +51,7 @@ pub struct CetskobiAdmission {
     pub number: u8,
 }
 
-pub(crate) fn replica_of(me: CetskobiReplica) -> Replica
+pub fn replica_of(me: CetskobiReplica) -> Replica
     ensures { λ r. ⌜ r ≡ replicaOf me ⌝ }
 {
     Replica {
@@ -92,7 +92,7 @@ fn outgoing_out(o: Outgoing) -> CetskobiAnswer
     }
 }
 
-pub(crate) fn answer_out(a: Answer) -> CetskobiAnswer
+pub fn answer_out(a: Answer) -> CetskobiAnswer
     ensures { λ r. ⌜ r ≡ answerOut a ⌝ }
 {
     match a {
@@ -101,7 +101,7 @@ pub(crate) fn answer_out(a: Answer) -> CetskobiAnswer
     }
 }
 
-pub(crate) fn identity_of(me: Replica) -> CetskobiReplica
+fn identity_of(me: Replica) -> CetskobiReplica
     ensures { λ r. ⌜ r ≡ identityOf me ⌝ }
 {
     CetskobiReplica {
@@ -111,7 +111,7 @@ pub(crate) fn identity_of(me: Replica) -> CetskobiReplica
     }
 }
 
-pub(crate) fn admission_out(a: Admission, old: CetskobiReplica) -> CetskobiAdmission
+pub fn admission_out(a: Admission, old: CetskobiReplica) -> CetskobiAdmission
     ensures { λ r. ⌜ r ≡ admissionOut a old ⌝ }
 {
     match a {
@@ -130,7 +130,7 @@ pub(crate) fn admission_out(a: Admission, old: CetskobiReplica) -> CetskobiAdmis
 }
 
 // A message that came from outside. A kind that is none of the three becomes one that question 12 refuses.
-pub(crate) fn message_in(kind: u8, version: u32, tie: u8) -> Message
+pub fn message_in(kind: u8, version: u32, tie: u8) -> Message
     ensures { λ m. ⌜ m ≡ messageIn kind version tie ⌝ }
 {
     let t = Timestamp {
@@ -153,7 +153,7 @@ pub(crate) fn message_in(kind: u8, version: u32, tie: u8) -> Message
     Message::Val(beyond)
 }
 
-pub(crate) fn received_in(m: CetskobiMessage) -> Received
+pub fn received_in(m: CetskobiMessage) -> Received
     ensures { λ r. ⌜ r ≡ receivedIn m ⌝ }
 {
     let message = message_in(m.kind, m.version, m.tie);
@@ -165,7 +165,7 @@ pub(crate) fn received_in(m: CetskobiMessage) -> Received
 }
 
 // The number of an answer.
-pub(crate) fn number_out(a: Answer) -> u8
+pub fn number_out(a: Answer) -> u8
     ensures { λ k. ⌜ k ≡ numberOf a ⌝ }
 {
     match a {

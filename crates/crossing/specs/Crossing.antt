@@ -12,10 +12,10 @@ use Rattle.hermes.specs.declared.event.Answer.{Answer}
 use Rattle.hermes.specs.declared.event.Answer.the-variants as answer
 use Rattle.hermes.specs.declared.event.Admission.{Admission}
 use Rattle.hermes.specs.declared.event.Admission.the-variants as admission
-use Rattle.ffi.specs.declared.crossing.CetskobiReplica.{CetskobiReplica}
-use Rattle.ffi.specs.declared.crossing.CetskobiAnswer.{CetskobiAnswer}
-use Rattle.ffi.specs.declared.crossing.CetskobiAdmission.{CetskobiAdmission}
-use Rattle.ffi.specs.declared.crossing.CetskobiMessage.{CetskobiMessage}
+use Rattle.crossing.specs.declared.numbers.CetskobiReplica.{CetskobiReplica}
+use Rattle.crossing.specs.declared.numbers.CetskobiAnswer.{CetskobiAnswer}
+use Rattle.crossing.specs.declared.numbers.CetskobiAdmission.{CetskobiAdmission}
+use Rattle.crossing.specs.declared.numbers.CetskobiMessage.{CetskobiMessage}
 
 -- an identity that came from outside
 abbrev pub replicaOf : CetskobiReplica → Replica
