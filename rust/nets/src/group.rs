@@ -31,8 +31,9 @@ pub(crate) struct Group {
     /// Each accepted save: its text, by record and timestamp.
     pub saves: BTreeMap<(usize, Timestamp), Vec<u8>>,
     pub now: Tick,
-    /// When a record or a view last changed, and the record if it was one.
+    /// When a record or a view last changed.
     pub last_change: Tick,
+    /// The record that changed last.
     pub last_changed: usize,
 }
 

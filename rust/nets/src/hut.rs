@@ -230,7 +230,20 @@ mod tests {
     }
 
     #[test]
-    fn waits_are_as_the_guide_has_them() {
+    fn the_guide_has_these_waits() {
+        let guide = include_str!("../../../docs/GUIDE.md");
+        for (name, wait) in [
+            ("WAIT_FIRST", WAIT_FIRST),
+            ("WAIT_INV", WAIT_INV),
+            ("WAIT_VAL", WAIT_VAL),
+        ] {
+            let line = format!("\nconst {name}: u16 = {wait};\n");
+            assert!(guide.contains(&line), "{line}");
+        }
+    }
+
+    #[test]
+    fn messages_go_again_after_these_waits() {
         let (mut group, [mut zero, mut one, mut two]) = huts();
         let group = &mut group;
         let seen = zero.open(group, 0).expect("agreement").expect("shown");
