@@ -60,8 +60,8 @@ static int carries(struct packet p, uint8_t kind, uint32_t version, uint8_t tie)
     return p.bytes[1] == 1 && m.number == 0 && m.kind == kind && m.version == version && m.tie == tie;
 }
 
-/* The ring of the morning, the states of the header, and sets. */
-enum { RING = 7, INVALID = 1, INVALID_WRITE = 2, WRITE = 3, REPLAY = 4 };
+/* The ring of the morning, and sets. */
+enum { RING = 7 };
 enum { SET_1 = 2, SET_2 = 4, SET_5 = 32, ALL = 38 };
 static struct hut one, two, five;
 
@@ -91,7 +91,7 @@ static void fresh(void) {
 
 static void a_worked_morning(void) {
     fresh();
-    CHECK(is(&one, VALID, 0, 1, 0));
+    CHECK(is(&one, CETSKOBI_VALID, 0, 1, 0));
 
     /* 2 saves; 5 does not hear it. */
     struct stamp first = saves(&two, "robin, wing 73");
@@ -99,10 +99,10 @@ static void a_worked_morning(void) {
     CHECK(inv.len == 34 && carries(inv, CETSKOBI_INV, 1, 2));
     came(&one, inv);
     ack = sent(SET_2);
-    CHECK(carries(ack, CETSKOBI_ACK, 1, 2) && is(&one, INVALID, 1, 2, 0));
+    CHECK(carries(ack, CETSKOBI_ACK, 1, 2) && is(&one, CETSKOBI_INVALID, 1, 2, 0));
     came(&two, ack);
     silent();
-    CHECK(is(&two, WRITE, 1, 2, SET_1) && fate_of(&two, RING, first) == WAITING);
+    CHECK(is(&two, CETSKOBI_WRITE, 1, 2, SET_1) && fate_of(&two, RING, first) == WAITING);
     CHECK(cetskobi_validate(two.me, LENT(&two), RING).number == 15);
 
     /* Sent again, both hear it, and 2 finishes; 1 does not hear that. */
@@ -119,37 +119,37 @@ static void a_worked_morning(void) {
     CHECK(ack.len == sizeof bytes && memcmp(ack.bytes, bytes, sizeof bytes) == 0);
     came(&two, ack);
     val = sent(SET_1 | SET_5);
-    CHECK(carries(val, CETSKOBI_VAL, 1, 2) && is(&two, VALID, 1, 2, SET_1 | SET_5) && fate_of(&two, RING, first) == FINISHED);
+    CHECK(carries(val, CETSKOBI_VAL, 1, 2) && is(&two, CETSKOBI_VALID, 1, 2, SET_1 | SET_5) && fate_of(&two, RING, first) == FINISHED);
     came(&five, val);
-    CHECK(is(&five, VALID, 1, 2, 0));
+    CHECK(is(&five, CETSKOBI_VALID, 1, 2, 0));
     CHECK(cetskobi_read(one.me, LENT(&one), RING).number == 6);
     ticks(&two, 8);
     val = sent(SET_1 | SET_5);
     came(&one, val);
     silent();
-    CHECK(is(&one, VALID, 1, 2, 0) && shows(&one, "robin, wing 73"));
+    CHECK(is(&one, CETSKOBI_VALID, 1, 2, 0) && shows(&one, "robin, wing 73"));
 
     /* 5 saves, only 1 hears it, and 5 dies. */
     saves(&five, "robin, wing 74");
     inv = sent(SET_1 | SET_2);
     came(&one, inv);
-    CHECK(carries(sent(SET_5), CETSKOBI_ACK, 2, 5) && is(&one, INVALID, 2, 5, 0));
+    CHECK(carries(sent(SET_5), CETSKOBI_ACK, 2, 5) && is(&one, CETSKOBI_INVALID, 2, 5, 0));
     CHECK(cetskobi_replay(one.me, LENT(&one), RING).number == 16);
 
     /* The warden strikes it off: 1 replays, and 2 hears of the view later. */
     CHECK(view_came(&one, 1, SET_1 | SET_2) == 0);
     inv = sent(SET_2);
-    CHECK(carries(inv, CETSKOBI_INV, 2, 5) && is(&one, REPLAY, 2, 5, 0));
+    CHECK(carries(inv, CETSKOBI_INV, 2, 5) && is(&one, CETSKOBI_REPLAY, 2, 5, 0));
     CHECK(cetskobi_deliver_packet(two.me, LENT(&two), inv.bytes, inv.len, 0).number == 10);
-    CHECK(view_came(&two, 1, SET_1 | SET_2) == 0 && is(&two, VALID, 1, 2, SET_1 | SET_5));
+    CHECK(view_came(&two, 1, SET_1 | SET_2) == 0 && is(&two, CETSKOBI_VALID, 1, 2, SET_1 | SET_5));
     came(&one, sent(SET_1));
     silent();
     ticks(&one, 8);
     came(&two, sent(SET_2));
-    CHECK(is(&two, INVALID, 2, 5, SET_1 | SET_5));
+    CHECK(is(&two, CETSKOBI_INVALID, 2, 5, SET_1 | SET_5));
     came(&one, sent(SET_1));
     val = sent(SET_2);
-    CHECK(carries(val, CETSKOBI_VAL, 2, 5) && is(&one, VALID, 2, 5, SET_2));
+    CHECK(carries(val, CETSKOBI_VAL, 2, 5) && is(&one, CETSKOBI_VALID, 2, 5, SET_2));
     came(&two, val);
     silent();
     CHECK(shows(&one, "robin, wing 74") && shows(&two, "robin, wing 74"));
@@ -174,7 +174,7 @@ static void two_saves_at_once(void) {
     CHECK(fate_of(&two, RING, lesser) == FINISHED);
     came(&two, of_five);
     sent(SET_5);
-    CHECK(fate_of(&two, RING, lesser) == REPLACED && is(&two, INVALID, 1, 5, SET_1 | SET_5));
+    CHECK(fate_of(&two, RING, lesser) == REPLACED && is(&two, CETSKOBI_INVALID, 1, 5, SET_1 | SET_5));
 
     /* Where it comes before, the save is overtaken. */
     fresh();
@@ -182,7 +182,7 @@ static void two_saves_at_once(void) {
     sent(SET_1 | SET_5);
     came(&two, of_five);
     sent(SET_5);
-    CHECK(fate_of(&two, RING, lesser) == REPLACED && is(&two, INVALID_WRITE, 1, 5, 0));
+    CHECK(fate_of(&two, RING, lesser) == REPLACED && is(&two, CETSKOBI_INVALID_WRITE, 1, 5, 0));
     CHECK(memcmp(two.store + CETSKOBI_VALUE_MAX * RING, "five's", 7) == 0);
 }
 
@@ -288,7 +288,7 @@ static void ticks_alone_settle_every_record(void) {
     }
     for (size_t i = 0; i < 30; i++) {
         const struct cetskobi_record *r = &one.table[i], *s = &two.table[i];
-        CHECK(r->version > 0 && r->state == VALID && s->state == VALID && r->version == s->version && r->tie == s->tie);
+        CHECK(r->version > 0 && r->state == CETSKOBI_VALID && s->state == CETSKOBI_VALID && r->version == s->version && r->tie == s->tie);
     }
     CHECK(memcmp(one.store, two.store, sizeof one.store) == 0);
 }

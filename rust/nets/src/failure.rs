@@ -15,6 +15,11 @@ pub enum Cause {
         /// The record.
         record: usize,
     },
+    /// Records change without end though the link has healed.
+    Restless {
+        /// The last one.
+        record: usize,
+    },
     /// A settled record is not the same on all laptops, or not as it was saved.
     OtherText {
         /// The record.
@@ -33,6 +38,7 @@ impl Cause {
         match self {
             Cause::Disagreement(d) => d.record(),
             Cause::Unsettled { record }
+            | Cause::Restless { record }
             | Cause::OtherText { record }
             | Cause::Unsaved { record } => *record,
         }
@@ -46,6 +52,10 @@ impl fmt::Display for Cause {
             Cause::Unsettled { record } => {
                 write!(f, "record {record} has not settled since the link healed")
             }
+            Cause::Restless { record } => write!(
+                f,
+                "records still change long after the link healed, the last of them {record}"
+            ),
             Cause::OtherText { record } => write!(
                 f,
                 "record {record} has settled with another text than was saved"

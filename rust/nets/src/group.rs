@@ -31,6 +31,10 @@ pub(crate) struct Group {
     /// Each accepted save: its text, by record and timestamp.
     pub saves: BTreeMap<(usize, Timestamp), Vec<u8>>,
     pub now: Tick,
+    /// When a record or a view last changed.
+    pub last_change: Tick,
+    /// The record that changed last.
+    pub last_changed: usize,
 }
 
 /// An event's answer, unless agreement failed after it.
@@ -50,6 +54,8 @@ impl Group {
             counts: EventCounts::default(),
             saves: BTreeMap::new(),
             now: 0,
+            last_change: 0,
+            last_changed: 0,
         })
     }
 
@@ -67,7 +73,7 @@ impl Group {
     }
 
     pub fn write(&mut self, number: u8, i: usize, text: &[u8]) -> Watched {
-        let answer = self.laptop_mut(number).write(i, text);
+        let answer = self.act(number, i, |l| l.write(i, text));
         if let Ok(Some(inv)) = answer {
             self.saves
                 .insert((i, inv.message.timestamp()), text.to_vec());
@@ -76,7 +82,7 @@ impl Group {
     }
 
     pub fn validate(&mut self, number: u8, i: usize) -> Watched {
-        let answer = self.laptop_mut(number).validate(i);
+        let answer = self.act(number, i, |l| l.validate(i));
         if answer.is_ok() {
             self.agreement
                 .finished(&self.laptops[usize::from(number)], i);
@@ -85,12 +91,12 @@ impl Group {
     }
 
     pub fn replay(&mut self, number: u8, i: usize) -> Watched {
-        let answer = self.laptop_mut(number).replay(i);
+        let answer = self.act(number, i, |l| l.replay(i));
         self.watched(number, i, Kind::Replay, None, answer)
     }
 
     pub fn resend(&mut self, number: u8, i: usize) -> Watched {
-        let answer = self.laptop_mut(number).resend(i);
+        let answer = self.act(number, i, |l| l.resend(i));
         self.watched(number, i, Kind::Resend, None, answer)
     }
 
@@ -102,13 +108,7 @@ impl Group {
         k: usize,
         came: Envelope,
     ) -> Watched {
-        let before = self.record(number, came.record);
-        let answer = self.laptop_mut(number).deliver_packet(packet, k);
-        let after = self.record(number, came.record);
-        let state = |r: Option<Record>| r.map(|r| r.state);
-        if (state(before), state(after)) == (Some(State::Write), Some(State::InvalidWrite)) {
-            self.counts.overtaken += 1;
-        }
+        let answer = self.act(number, came.record, |l| l.deliver_packet(packet, k));
         self.watched(number, came.record, Kind::Deliver, Some(came), answer)
     }
 
@@ -120,7 +120,7 @@ impl Group {
         handed: Envelope,
         body: &[u8],
     ) -> Watched {
-        let answer = self.laptop_mut(number).deliver(&handed, body);
+        let answer = self.act(number, came.record, |l| l.deliver(&handed, body));
         self.watched(number, came.record, Kind::Deliver, Some(came), answer)
     }
 
@@ -130,6 +130,9 @@ impl Group {
             .laptop_mut(number)
             .change_view(epoch, view)
             .map(|()| None);
+        if answer.is_ok() {
+            self.last_change = self.now;
+        }
         self.count(Kind::View, answer);
         let event = self.event(number, Kind::View, None, answer, None);
         self.history.on_view(event);
@@ -137,6 +140,21 @@ impl Group {
             self.agreement.check(&self.laptops, i)?;
         }
         Ok(answer)
+    }
+
+    /// An event on a record, with an eye on what becomes of it.
+    fn act(&mut self, number: u8, i: usize, event: impl FnOnce(&mut Laptop) -> Answer) -> Answer {
+        let before = self.record(number, i);
+        let answer = event(self.laptop_mut(number));
+        let after = self.record(number, i);
+        if before != after {
+            (self.last_change, self.last_changed) = (self.now, i);
+        }
+        let state = |r: Option<Record>| r.map(|r| r.state);
+        if (state(before), state(after)) == (Some(State::Write), Some(State::InvalidWrite)) {
+            self.counts.overtaken += 1;
+        }
+        answer
     }
 
     fn watched(

@@ -4,21 +4,23 @@
 use std::collections::BTreeMap;
 
 use cetskobi::packet::{self, Fetched};
-use cetskobi::{Envelope, Members, Message, Record, State};
+use cetskobi::{Envelope, Members, Message, Timestamp};
 
 use crate::agreement::Disagreement;
 use crate::fault::Fault;
 use crate::group::{Group, Watched};
+use crate::history::Answer;
 use crate::outbox::Outbox;
 use crate::Tick;
 
-/// Ticks until a message is sent again for the first time; each wait is twice
-/// the one before, up to `RETRY_MAX`. A VAL, which nobody acknowledges, is not
-/// sent again after that.
-const RETRY: Tick = 8;
-const RETRY_MAX: Tick = 32;
+/// Ticks until a message goes again: each wait is twice the one before, up to
+/// the most, which goes on without end.
+const WAIT_FIRST: Tick = 8;
+const WAIT_INV: Tick = 32;
+/// No wait of a hut is longer than a VAL's.
+pub(crate) const WAIT_VAL: Tick = 1024;
 
-/// When a record is looked at again.
+/// When a record is tried again, and how long that wait was.
 #[derive(Clone, Copy, Debug)]
 struct Timer {
     due: Tick,
@@ -46,18 +48,28 @@ impl Hut {
         }
     }
 
-    /// A ringer opens a record.
-    pub fn open(&mut self, group: &mut Group, i: usize) -> Result<bool, Disagreement> {
-        Ok(group.read(self.number, i)?.is_ok())
+    /// A ringer opens a record: the timestamp that the save brings back, unless
+    /// it is not shown.
+    pub fn open(&self, group: &mut Group, i: usize) -> Result<Option<Timestamp>, Disagreement> {
+        let shown = group.read(self.number, i)?.is_ok();
+        let record = group.record(self.number, i).filter(|_| shown);
+        Ok(record.map(|r| r.timestamp))
     }
 
-    /// A ringer saves a record.
-    pub fn save(&mut self, group: &mut Group, i: usize, text: &[u8]) -> Result<bool, Disagreement> {
-        if self.fault == Some(Fault::Save) && i.is_multiple_of(7) {
+    /// A ringer saves over the text that she saw, unless it is another by now.
+    pub fn save(
+        &mut self,
+        group: &mut Group,
+        i: usize,
+        seen: Timestamp,
+        text: &[u8],
+    ) -> Result<bool, Disagreement> {
+        let refuses = self.fault == Some(Fault::Save) && i.is_multiple_of(7);
+        if self.open(group, i)? != Some(seen) || refuses {
             return Ok(false);
         }
-        let answer = group.write(self.number, i, text);
-        self.act(group, i, answer)
+        let answer = group.write(self.number, i, text)?;
+        Ok(self.put_again(group, i, answer, WAIT_FIRST))
     }
 
     /// A packet comes: its messages one by one.
@@ -78,67 +90,34 @@ impl Hut {
                 message,
                 ..
             } = m.envelope;
-            self.send(group, left, sender);
+            self.put(group, left, sender);
             if let Message::Ack(_) = message {
                 // The last one that was missing, perhaps.
-                let answer = group.validate(self.number, record);
-                self.act(group, record, answer)?;
+                let answer = group.validate(self.number, record)?;
+                self.put_again(group, record, answer, WAIT_FIRST);
             }
         }
         Ok(())
     }
 
-    /// The warden's view comes. If it is taken, all records are gone over; a
-    /// laptop that is struck off is put away.
+    /// The warden's view comes.
     pub fn view_came(&mut self, group: &mut Group, epoch: u32, view: Members) -> Done {
-        let taken = group.change_view(self.number, epoch, view)?.is_ok();
-        if taken && !view.contains(self.number) {
-            self.timers.clear();
-        } else if taken {
-            self.go_over(group)?;
+        match group.change_view(self.number, epoch, view)? {
+            Ok(_) => self.go_over(group),
+            Err(_) => Ok(()),
         }
-        Ok(())
-    }
-
-    /// Once over the records: the VALs of own saves leave again, and whatever
-    /// may help is tried on the records that wait.
-    pub fn go_over(&mut self, group: &mut Group) -> Done {
-        self.remind(group)?;
-        for i in self.those(group, |r| r.state != State::Valid) {
-            self.help(group, i)?;
-        }
-        Ok(())
-    }
-
-    /// Somebody may have missed VALs: those of own saves leave again.
-    pub fn remind(&mut self, group: &mut Group) -> Done {
-        for i in self.those(group, |r| r.state == State::Valid && self.is_own(r)) {
-            self.again(group, i, RETRY)?;
-        }
-        Ok(())
     }
 
     /// The clock: records whose wait is over.
     pub fn tick(&mut self, group: &mut Group) -> Done {
-        let due: Vec<(usize, Tick)> = self
-            .timers
-            .iter()
-            .filter(|(_, t)| t.due <= group.now)
-            .map(|(i, t)| (*i, t.wait))
-            .collect();
+        let due = self.timers.iter().filter(|(_, t)| t.due <= group.now);
+        let due: Vec<(usize, Tick)> = due.map(|(i, t)| (*i, t.wait)).collect();
         for (i, wait) in due {
-            self.timers.remove(&i);
-            let Some(r) = group.record(self.number, i) else {
-                continue;
+            let most = match group.laptop(self.number).shows_valid(i) {
+                true => WAIT_VAL,
+                false => WAIT_INV,
             };
-            match r.state {
-                State::Write | State::Replay => self.again(group, i, (2 * wait).min(RETRY_MAX))?,
-                State::Valid if self.is_own(&r) && wait < RETRY_MAX => {
-                    self.again(group, i, 2 * wait)?;
-                }
-                // Overtaken, or another's: now it is the other's to see to.
-                State::Valid | State::Invalid | State::InvalidWrite => {}
-            }
+            self.help(group, i, most.min(2 * wait))?;
         }
         Ok(())
     }
@@ -161,9 +140,25 @@ impl Hut {
         group.deliver_packet(self.number, bytes, k, m.envelope)
     }
 
-    /// Tries what may help a record that is not valid. For one whose last
-    /// writer is in the view, or in invalid-write, nothing does from here.
-    fn help(&mut self, group: &mut Group, i: usize) -> Done {
+    /// Once over all records, after a change of view.
+    fn go_over(&mut self, group: &mut Group) -> Done {
+        for i in 0..group.laptop(self.number).count() {
+            let record = group.record(self.number, i);
+            if record.is_none_or(|r| r.timestamp.version == 0) {
+                continue;
+            }
+            // An old VAL keeps its long wait.
+            let wait = match group.laptop(self.number).shows_valid(i) {
+                true => self.timers.get(&i).map_or(WAIT_FIRST, |t| t.wait),
+                false => WAIT_FIRST,
+            };
+            self.help(group, i, wait)?;
+        }
+        Ok(())
+    }
+
+    /// Tries all that may move a record on from here.
+    fn help(&mut self, group: &mut Group, i: usize, wait: Tick) -> Done {
         let n = self.number;
         let mut answer = group.validate(n, i)?;
         if answer.is_err() {
@@ -172,53 +167,137 @@ impl Hut {
         if answer.is_err() {
             answer = group.resend(n, i)?;
         }
-        self.act(group, i, Ok(answer))?;
+        if !self.put_again(group, i, answer, wait) {
+            // Another laptop's turn.
+            self.timers.remove(&i);
+        }
         Ok(())
     }
 
-    /// Sends the INV or VAL again, and waits.
-    fn again(&mut self, group: &mut Group, i: usize, wait: Tick) -> Done {
-        let answer = group.resend(self.number, i)?;
-        self.send(group, answer.unwrap_or(None), self.number);
-        self.wait(group.now, i, wait);
-        Ok(())
+    /// Sends what leaves an event of this hut, if that was accepted; it goes
+    /// again after so many ticks.
+    fn put_again(&mut self, group: &Group, i: usize, answer: Answer, wait: Tick) -> bool {
+        let Ok(left) = answer else { return false };
+        self.put(group, left, self.number);
+        let due = group.now + wait;
+        self.timers.insert(i, Timer { due, wait });
+        true
     }
 
-    /// Sends what leaves an event of this hut, and waits for the answers.
-    fn act(&mut self, group: &Group, i: usize, answer: Watched) -> Result<bool, Disagreement> {
-        let Ok(left) = answer? else { return Ok(false) };
-        self.send(group, left, self.number);
-        self.wait(group.now, i, RETRY);
-        Ok(true)
-    }
-
-    fn send(&mut self, group: &Group, left: Option<Envelope>, inv_sender: u8) {
+    fn put(&mut self, group: &Group, left: Option<Envelope>, inv_sender: u8) {
         let Some(envelope) = left else { return };
         let laptop = group.laptop(self.number);
         let to = laptop.recipients(&envelope, inv_sender);
         self.outbox.put(to, envelope, laptop.body(&envelope));
     }
+}
 
-    fn wait(&mut self, now: Tick, i: usize, wait: Tick) {
-        self.timers.insert(
-            i,
-            Timer {
-                due: now + wait,
-                wait,
-            },
-        );
+#[cfg(test)]
+mod tests {
+    use super::*;
+    use crate::settings::Settings;
+
+    /// So many laptops with one record, each with its hut.
+    fn huts<const N: usize>() -> (Group, [Hut; N]) {
+        let settings = Settings {
+            laptops: N as u8,
+            records: 1,
+            ..Settings::default()
+        };
+        let group = Group::start(&settings).expect("a group");
+        (group, std::array::from_fn(|n| Hut::new(n as u8, None)))
     }
 
-    /// This laptop's records of a kind.
-    fn those(&self, group: &Group, wanted: impl Fn(&Record) -> bool) -> Vec<usize> {
-        let is_wanted = |i: &usize| group.record(self.number, *i).as_ref().is_some_and(&wanted);
-        (0..group.laptop(self.number).count())
-            .filter(is_wanted)
-            .collect()
+    /// The ticks from now on at which something leaves.
+    fn sent_at(hut: &mut Hut, group: &mut Group, ticks: Tick) -> Vec<Tick> {
+        let begun = group.now;
+        let mut at = Vec::new();
+        for n in 1..=ticks {
+            group.now = begun + n;
+            hut.tick(group).expect("agreement");
+            if !hut.packets().is_empty() {
+                at.push(n);
+            }
+        }
+        at
     }
 
-    /// A record that this laptop wrote last; nobody misses the VAL of a fresh one.
-    fn is_own(&self, r: &Record) -> bool {
-        r.writer == self.number && r.timestamp.version > 0
+    /// The one packet that a hut sends now.
+    fn sent(hut: &mut Hut) -> Vec<u8> {
+        let mut packets = hut.packets();
+        assert_eq!(packets.len(), 1);
+        packets.remove(0).1
+    }
+
+    #[test]
+    fn the_guide_has_these_waits() {
+        let guide = include_str!("../../../docs/GUIDE.md");
+        for (name, wait) in [
+            ("WAIT_FIRST", WAIT_FIRST),
+            ("WAIT_INV", WAIT_INV),
+            ("WAIT_VAL", WAIT_VAL),
+        ] {
+            let line = format!("\nconst {name}: u16 = {wait};\n");
+            assert!(guide.contains(&line), "{line}");
+        }
+    }
+
+    #[test]
+    fn messages_go_again_after_these_waits() {
+        let (mut group, [mut zero, mut one, mut two]) = huts();
+        let group = &mut group;
+        let seen = zero.open(group, 0).expect("agreement").expect("shown");
+        assert_eq!(zero.save(group, 0, seen, b"Wren"), Ok(true));
+        let inv = sent(&mut zero);
+        assert_eq!(sent_at(&mut zero, group, 130), [8, 24, 56, 88, 120]);
+        for hut in [&mut one, &mut two] {
+            hut.packet_came(group, &inv).expect("agreement");
+            zero.packet_came(group, &sent(hut)).expect("agreement");
+        }
+        sent(&mut zero);
+        let waits = [8, 24, 56, 120, 248, 504, 1016, 2040, 3064, 4088];
+        assert_eq!(sent_at(&mut zero, group, 5000), waits);
+        assert_eq!(sent_at(&mut one, group, 5000), []);
+
+        // 2 is struck off. The VAL leaves with the view, and its wait stays.
+        let view = Members::from(0b011);
+        for hut in [&mut zero, &mut two] {
+            hut.view_came(group, 1, view).expect("agreement");
+        }
+        sent(&mut zero);
+        assert_eq!(sent_at(&mut zero, group, 2000), [1024]);
+        assert_eq!(sent_at(&mut two, group, 2000), []);
+    }
+
+    /// 0's save reaches 1 alone, and 0 is struck off.
+    #[test]
+    fn a_replay_leaves_with_the_view() {
+        let (mut group, [mut zero, mut one, mut two]) = huts();
+        let group = &mut group;
+        let seen = zero.open(group, 0).expect("agreement").expect("shown");
+        assert_eq!(zero.save(group, 0, seen, b"Wren"), Ok(true));
+        one.packet_came(group, &sent(&mut zero)).expect("agreement");
+        sent(&mut one);
+        for hut in [&mut one, &mut two] {
+            hut.view_came(group, 1, Members::from(0b110))
+                .expect("agreement");
+        }
+        sent(&mut one);
+        assert_eq!(sent_at(&mut one, group, 60), [8, 24, 56]);
+        assert_eq!(sent_at(&mut two, group, 60), []);
+    }
+
+    #[test]
+    fn a_text_that_changed_since_it_was_opened_is_not_saved_over() {
+        let (mut group, [mut zero, mut one]) = huts();
+        let group = &mut group;
+        let seen = one.open(group, 0).expect("agreement").expect("shown");
+        assert_eq!(zero.save(group, 0, seen, b"Wren"), Ok(true));
+        one.packet_came(group, &sent(&mut zero)).expect("agreement");
+        assert_eq!(one.save(group, 0, seen, b"Robin"), Ok(false));
+        zero.packet_came(group, &sent(&mut one)).expect("agreement");
+        one.packet_came(group, &sent(&mut zero)).expect("agreement");
+        assert!(group.laptop(1).shows_valid(0));
+        assert_eq!(one.save(group, 0, seen, b"Robin"), Ok(false));
     }
 }

@@ -33,5 +33,6 @@ pub use options::{Command, HELP};
 pub use report::Report;
 pub use settings::Settings;
 
-/// The simulation's clock. A tick is what the reader likes: ten seconds, say.
+/// The simulation's clock. The guide's tick is a second; nothing here rests on
+/// that.
 pub(crate) type Tick = u32;

@@ -70,8 +70,9 @@ impl Link {
         self.healed = true;
     }
 
-    pub fn is_silent(&self) -> bool {
-        self.air.is_empty()
+    /// No packet is longer on its way, in ticks.
+    pub fn longest(&self) -> Tick {
+        HELD * self.settings.delay
     }
 
     /// A packet goes on air.
@@ -129,7 +130,7 @@ impl Link {
     fn fly(&mut self, now: Tick, heard: Heard) {
         let held = !self.healed && self.rng.chance(HELD_BACK, 100);
         let most = if held {
-            HELD * self.settings.delay
+            self.longest()
         } else {
             self.settings.delay
         };
@@ -169,7 +170,7 @@ mod tests {
         assert_eq!((c.packets, c.bytes, c.copies), (1000, 3000, 3000));
         assert_eq!(heard, c.copies - c.lost + c.repeated);
         assert!((800..1000).contains(&c.lost) && (170..250).contains(&c.repeated) && c.late > 500);
-        assert!(link.is_silent());
+        assert!(link.air.is_empty());
     }
 
     #[test]

@@ -71,7 +71,7 @@ fn played(settings: &Settings) -> Result<Report, Box<Failure>> {
     let result = run(settings, |tick| {
         if terminal && tick % 50 == 0 {
             eprint!(
-                "\rseed {}, tick {tick} of about {}  ",
+                "\rseed {}, tick {tick}; the link heals at {}  ",
                 settings.seed, settings.ticks
             );
             // A terminal that does not take it is no reason to stop.

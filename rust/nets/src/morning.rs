@@ -4,7 +4,7 @@ use cetskobi::{Laptop, Members};
 
 use crate::failure::{Cause, Failure};
 use crate::group::Group;
-use crate::hut::{Done, Hut};
+use crate::hut::{Done, Hut, WAIT_VAL};
 use crate::link::Link;
 use crate::plan::Plan;
 use crate::report::Report;
@@ -13,13 +13,9 @@ use crate::settings::{Part, Settings};
 use crate::settled::{self, Settled};
 use crate::Tick;
 
-/// Once the link has healed, and the last view and the last save are made, all
-/// must be settled, and no bird still wait for a record that does not hang,
-/// within so many ticks and so many times the link's delay.
-const GRACE: Tick = 1000;
-const GRACE_DELAYS: Tick = 50;
-/// So often it is looked whether all is settled.
-const LOOK: Tick = 16;
+/// So many calms after the link has healed, the last view is in and the last
+/// save is made, nothing may change any more.
+const CALMS: Tick = 10;
 
 /// Plays one morning; `progress` is told each tick.
 ///
@@ -75,7 +71,7 @@ impl Morning {
         self.arrivals()?;
         self.ringers()?;
         if self.group.now == self.settings.ticks {
-            self.heal()?;
+            self.link.heal();
         }
         for n in self.plan.awake(self.group.now) {
             self.huts[usize::from(n)].tick(&mut self.group)?;
@@ -84,22 +80,14 @@ impl Morning {
         Ok(())
     }
 
-    /// Views that reach a laptop now. When a late one has its view, the others
-    /// are told to send their VALs again.
+    /// Views that reach a laptop now.
     fn views(&mut self) -> Done {
         let now = self.group.now;
         let awake = self.plan.awake(now);
-        for issue in self.plan.issues.iter().filter(|i| i.tick == now) {
-            if !awake.contains(issue.laptop) {
-                continue;
-            }
+        let issues = self.plan.issues.iter();
+        for issue in issues.filter(|i| i.tick == now && awake.contains(i.laptop)) {
             let hut = &mut self.huts[usize::from(issue.laptop)];
             hut.view_came(&mut self.group, issue.epoch, issue.view)?;
-            if self.plan.late.contains(issue.laptop) {
-                for n in awake {
-                    self.huts[usize::from(n)].remind(&mut self.group)?;
-                }
-            }
         }
         Ok(())
     }
@@ -126,15 +114,6 @@ impl Morning {
         self.ringers.tick(group, huts, usable)
     }
 
-    /// The link heals: everybody goes over the records once.
-    fn heal(&mut self) -> Done {
-        self.link.heal();
-        for n in self.plan.awake(self.group.now) {
-            self.huts[usize::from(n)].go_over(&mut self.group)?;
-        }
-        Ok(())
-    }
-
     fn send(&mut self) {
         let now = self.group.now;
         for n in self.plan.awake(now) {
@@ -145,31 +124,30 @@ impl Morning {
         }
     }
 
-    /// Whether the morning is over: None as long as it goes on.
+    /// Whether the morning is over: None as long as it goes on. It ends when
+    /// nothing has changed for a calm, in which every hut has sent all that it
+    /// sends again, and all of it was heard.
     fn end(&self) -> Result<Option<Settled>, Cause> {
         let now = self.group.now;
+        let calm = WAIT_VAL + self.link.longest();
         let last_view = self.plan.issues.last().map_or(0, |i| i.tick);
         let healed = self.settings.ticks.max(last_view);
-        let grace = GRACE + GRACE_DELAYS * self.settings.delay;
-        let over = now >= healed.max(self.ringers.last_save) + grace;
-        let quiet = now > healed && self.link.is_silent() && now.is_multiple_of(LOOK);
-        if !quiet && !over {
-            return Ok(None);
+        if now < healed.max(self.group.last_change) + calm {
+            let bound = healed.max(self.ringers.last_save) + CALMS * calm;
+            let record = self.group.last_changed;
+            return match now < bound {
+                true => Ok(None),
+                false => Err(Cause::Restless { record }),
+            };
         }
         let members = self.plan.members.into_iter();
         let members: Vec<&Laptop> = members.map(|n| self.group.laptop(n)).collect();
-        match settled::look(&self.group, &members) {
-            Err(Cause::Unsettled { .. }) if !over => Ok(None),
-            Err(cause) => Err(cause),
-            Ok(s) => {
-                let waiting = self.ringers.waiting().into_iter();
-                match waiting.filter(|r| !s.hung.contains(r)).min() {
-                    None => Ok(Some(s)),
-                    // Its record is valid everywhere, so it can be saved.
-                    Some(record) if over => Err(Cause::Unsaved { record }),
-                    Some(_) => Ok(None),
-                }
-            }
+        let settled = settled::look(&self.group, &members)?;
+        let waiting = self.ringers.waiting().into_iter();
+        match waiting.filter(|r| !settled.hung.contains(r)).min() {
+            None => Ok(Some(settled)),
+            // Its record is valid everywhere, so it can be saved.
+            Some(record) => Err(Cause::Unsaved { record }),
         }
     }
 
@@ -184,6 +162,7 @@ impl Morning {
             saved: self.ringers.saved,
             waiting: self.ringers.waiting().len(),
             settled,
+            last_change: self.group.last_change,
             ticks: self.group.now,
         }
     }
@@ -195,5 +174,20 @@ impl Morning {
             events: self.group.history.of(cause.record()),
             cause,
         }
+    }
+}
+
+#[cfg(test)]
+mod tests {
+    use super::*;
+
+    /// A morning past the bound, in which a record has just changed.
+    #[test]
+    fn records_that_change_without_end_are_a_failure() {
+        let mut morning = Morning::new(&Settings::default());
+        morning.group.now = 100_000;
+        morning.group.last_change = 99_999;
+        morning.group.last_changed = 7;
+        assert_eq!(morning.end(), Err(Cause::Restless { record: 7 }));
     }
 }

@@ -11,7 +11,7 @@ A morning at the nets: laptops on the proved engine over a poor radio link.
 Agreement is checked after every event; exit status 1 if it ever fails, 2 for
 wrong options.
 
-  --seed S         the beginning of all random numbers    (10, or CETSKOBI_SEED)
+  --seed S         the beginning of all random numbers    (111, or CETSKOBI_SEED)
   --seeds N        N mornings, from the seed on, one line each
   --laptops N      2 to 16                                (11)
   --records N      1 to 4096                              (4096)

@@ -24,6 +24,7 @@ pub struct Report {
     pub(crate) saved: usize,
     pub(crate) waiting: usize,
     pub(crate) settled: Settled,
+    pub(crate) last_change: Tick,
     pub(crate) ticks: Tick,
 }
 
@@ -207,7 +208,12 @@ impl Report {
         };
         let remark = format!("records in invalid-write whose last writer was struck off{which}");
         line(f, "hung", self.hung() as u64, &remark)?;
-        line(f, "ticks", self.ticks.into(), "")
+        let remark = format!(
+            "the link healed at {}, and nothing changed after {}",
+            grouped(self.settings.ticks.into()),
+            grouped(self.last_change.into())
+        );
+        line(f, "ticks", self.ticks.into(), &remark)
     }
 }
 

@@ -1,6 +1,7 @@
-//! The ringers: each bird's record is opened, and saved once it was read.
+//! The ringers: each bird's record is opened, and saved if it is still as it
+//! was shown.
 
-use cetskobi::Members;
+use cetskobi::{Members, Timestamp};
 use model::rng::Rng;
 
 use crate::agreement::Disagreement;
@@ -15,7 +16,8 @@ use crate::Tick;
 struct Visit {
     bird: Bird,
     due: Tick,
-    opened: bool,
+    /// The record's timestamp when it was opened.
+    seen: Option<Timestamp>,
 }
 
 /// The birds that are still to come or in the hand.
@@ -34,7 +36,7 @@ impl Ringers {
         let visit = |bird: &Bird| Visit {
             bird: *bird,
             due: bird.tick,
-            opened: false,
+            seen: None,
         };
         Ringers {
             visits: birds.iter().map(visit).collect(),
@@ -55,7 +57,7 @@ impl Ringers {
         for mut visit in std::mem::take(&mut self.visits) {
             while !usable.contains(visit.bird.laptop) {
                 visit.bird.laptop = (visit.bird.laptop + 1) % huts.len() as u8;
-                visit.opened = false;
+                visit.seen = None;
             }
             let hut = &mut huts[usize::from(visit.bird.laptop)];
             if visit.due > group.now || !self.go_on(group, hut, &mut visit)? {
@@ -76,18 +78,21 @@ impl Ringers {
         let Bird {
             record, recapture, ..
         } = visit.bird;
-        if !visit.opened {
-            visit.opened = hut.open(group, record)?;
-            visit.due += if visit.opened { MEASURING } else { PATIENCE };
+        let Some(seen) = visit.seen else {
+            visit.seen = hut.open(group, record)?;
+            visit.due += match visit.seen {
+                Some(_) => MEASURING,
+                None => PATIENCE,
+            };
             return Ok(false);
-        }
+        };
         let text = text::of_bird(&mut self.rng, recapture);
-        let saved = hut.save(group, record, &text)?;
+        let saved = hut.save(group, record, seen, &text)?;
         if saved {
             self.saved += 1;
             self.last_save = group.now;
         } else {
-            visit.opened = false;
+            visit.seen = None;
             visit.due += PATIENCE;
         }
         Ok(saved)

@@ -43,7 +43,7 @@ pub struct Settings {
 impl Default for Settings {
     fn default() -> Settings {
         Settings {
-            seed: 10,
+            seed: 111,
             laptops: 11,
             records: Record::COUNT_MAX,
             rings: 600,

@@ -58,11 +58,14 @@ fn same_text(group: &Group, members: &[&Laptop], i: usize) -> Result<(), Cause> 
 /// waiting itself.
 fn hangs(members: &[&Laptop], records: &[Record]) -> bool {
     let pairs = || members.iter().zip(records);
-    let is_waiting = |r: &Record| matches!(r.state, State::Invalid | State::InvalidWrite);
+    let waits = |r: &Record| matches!(r.state, State::Invalid | State::InvalidWrite);
+    let sends_val = |l: &Laptop, r: &Record| r.state == State::Valid && r.writer == l.number();
+    let val_comes = |t| pairs().any(|(l, r)| sends_val(l, r) && r.timestamp == t);
     let mut silent = Members::default();
     loop {
         let more: Members = pairs()
-            .filter(|(l, r)| is_hung(l, r) || is_waiting(r) && silent.contains(r.writer))
+            .filter(|(l, r)| is_hung(l, r) || waits(r) && silent.contains(r.writer))
+            .filter(|(_, r)| !val_comes(r.timestamp))
             .map(|(l, _)| l.number())
             .collect();
         if more == silent {
@@ -146,13 +149,16 @@ mod tests {
         assert_eq!(looked(&saved()), Err(cause));
     }
 
+    /// A record's state, its last writer, and whose save it is by its timestamp.
+    type Left = (State, u8, u8);
+
     /// Laptops 0, 1, .. of a view {0,1,2}, as no event need have left them; 5
     /// was struck off.
-    fn left(records: [(State, u8); 3]) -> bool {
-        let laptop = |(number, (state, writer)): (u8, (State, u8))| {
+    fn left(records: [Left; 3]) -> bool {
+        let laptop = |(number, (state, writer, tie)): (u8, Left)| {
             let r = Record {
                 state,
-                timestamp: SAVED,
+                timestamp: Timestamp { version: 1, tie },
                 writer,
                 written: SAVED,
                 acks: Members::default(),
@@ -183,35 +189,46 @@ mod tests {
         }
     }
 
-    const HUNG: (State, u8) = (State::InvalidWrite, 5);
+    const HUNG: Left = (State::InvalidWrite, 5, 5);
+    /// Here 5's save is valid, and there 2's.
+    const VALID: [Left; 2] = [(State::Valid, 5, 5), (State::Valid, 2, 2)];
 
     #[test]
     fn a_record_that_hangs() {
         assert!(left([HUNG, HUNG, HUNG]));
-        assert!(left([HUNG, (State::Valid, 2), (State::Valid, 2)]));
-        // The VAL of 0, whose own save was overtaken, never comes; nor that of
-        // 1, which waits for it.
-        for waiting in [State::Invalid, State::InvalidWrite] {
-            assert!(left([HUNG, (waiting, 0), (State::Valid, 2)]));
-            assert!(left([HUNG, (waiting, 0), (waiting, 1)]));
+        for valid in VALID {
+            assert!(left([HUNG, valid, valid]));
+            // The VAL of 0, whose own save was overtaken, never comes; nor that
+            // of 1, which waits for it.
+            for waiting in [State::Invalid, State::InvalidWrite] {
+                assert!(left([HUNG, (waiting, 0, 0), valid]));
+                assert!(left([HUNG, (waiting, 0, 0), (waiting, 1, 1)]));
+            }
         }
     }
 
     #[test]
     fn a_laptop_that_waits_beside_a_hung_one_is_not_settled() {
         for stuck in [
-            (State::Write, 1),
-            (State::Replay, 1),
+            (State::Write, 1, 1),
+            (State::Replay, 1, 5),
             // It could replay.
-            (State::Invalid, 5),
+            (State::Invalid, 5, 5),
             // Laptop 2 could send its VAL again.
-            (State::Invalid, 2),
-            (State::InvalidWrite, 2),
+            (State::Invalid, 2, 2),
+            (State::InvalidWrite, 2, 2),
             // No laptop waits for itself.
-            (State::Invalid, 1),
+            (State::Invalid, 1, 1),
         ] {
-            assert!(!left([HUNG, stuck, (State::Valid, 2)]), "{stuck:?}");
+            for valid in VALID {
+                assert!(!left([HUNG, stuck, valid]), "{stuck:?}");
+            }
         }
+    }
+
+    #[test]
+    fn the_val_of_a_replay_frees_a_hung_laptop() {
+        assert!(!left([HUNG, (State::Valid, 1, 5), (State::Valid, 2, 2)]));
     }
 
     #[test]
