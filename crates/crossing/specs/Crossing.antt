@@ -1,6 +1,6 @@
 -- How identities, messages and answers cross as numbers.
 use Prim.Native.Nat.{ℕ}
-use mathlib.Core.Bool.{Bool, true, false}
+use mathlib.Core.Bool.{cond}
 use lib.Dec.{eqb}
 use Rattle.hermes.specs.declared.message.Message.{Message}
 use Rattle.hermes.specs.declared.message.Message.the-variants.{Inv, Ack, Val}
@@ -54,15 +54,11 @@ admissionOut (admission.Refused k) old = record { number = k; replica = old }
 -- ---- messages that came from outside
 
 -- a kind that is none of the three is taken for VAL with a tie-breaker of 255, which question 12 refuses
-abbrev pub pickMessage : Bool → Message → Message → Message
-pickMessage true a b = a
-pickMessage false a b = b
-
 abbrev pub messageIn : ℕ → ℕ → ℕ → Message
 messageIn kind version tie =
-    pickMessage (eqb kind 1) (Inv (record { version = version; tie = tie }))
-    (pickMessage (eqb kind 2) (Ack (record { version = version; tie = tie }))
-    (pickMessage (eqb kind 3) (Val (record { version = version; tie = tie })) (Val (record { version = version; tie = 255 }))))
+    cond (eqb kind 1) (Inv (record { version = version; tie = tie }))
+    (cond (eqb kind 2) (Ack (record { version = version; tie = tie }))
+    (cond (eqb kind 3) (Val (record { version = version; tie = tie })) (Val (record { version = version; tie = 255 }))))
 
 abbrev pub receivedIn : CetskobiMessage → Received
 receivedIn m = record { sender = m .sender; epoch = m .epoch; message = messageIn (m .kind) (m .version) (m .tie) }

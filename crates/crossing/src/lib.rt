@@ -9,7 +9,6 @@ pub use numbers::CetskobiRead;
 pub use numbers::CetskobiReplica;
 pub use numbers::admission_out;
 pub use numbers::answer_out;
-pub use numbers::message_in;
 pub use numbers::number_out;
 pub use numbers::received_in;
 pub use numbers::replica_of;

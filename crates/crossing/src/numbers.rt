@@ -130,7 +130,7 @@ pub fn admission_out(a: Admission, old: CetskobiReplica) -> CetskobiAdmission
 }
 
 // A message that came from outside. A kind that is none of the three becomes one that question 12 refuses.
-pub fn message_in(kind: u8, version: u32, tie: u8) -> Message
+fn message_in(kind: u8, version: u32, tie: u8) -> Message
     ensures { λ m. ⌜ m ≡ messageIn kind version tie ⌝ }
 {
     let t = Timestamp {

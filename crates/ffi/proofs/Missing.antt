@@ -1,8 +1,8 @@
 -- An exported event on a number where no record stands: question 4 or 5 says no, whatever the event, and nothing has changed.
 use Prim.Native.Nat.{ℕ, suc, _≤_}
-use mathlib.Core.Path.{_≡_, refl, sym, ap, _∙_}
+use mathlib.Core.Path.{_≡_, refl, sym, _∙_}
 use mathlib.Core.Bool.{Bool, true, false, cond, false≢true}
-use mathlib.Core.List.{List, [], _∷_}
+use mathlib.Core.List.{List, _∷_}
 use mathlib.Core.Logic.{_⊎_, inl, inr}
 use lib.ListN.{length}
 use lib.Seq.{set-getD}
@@ -11,20 +11,17 @@ use Rattle.hermes.specs.declared.record.Record.{Record}
 use Rattle.hermes.specs.declared.event.Replica.{Replica}
 use Rattle.hermes.specs.declared.event.Event.{Event}
 use Rattle.hermes.specs.declared.event.Event.the-variants as event
-use Rattle.hermes.specs.declared.event.Answer.the-variants as answer
 use Rattle.hermes.specs.Guards.{Question, ask, firstNo, question1, question2, question3, question4, question5}
 use Rattle.hermes.specs.Record.{freshRecord}
-use Rattle.hermes.specs.Order.{higher}
 use Rattle.hermes.specs.Event.{own, refusal, moved, effect}
-use Rattle.hermes.specs.Node.{Outcome, recordAt, effectOf, apply}
-use Rattle.hermes.proofs.Apply.{refusalOf}
+use Rattle.hermes.specs.Node.{recordAt, apply}
 use Rattle.record_bytes.specs.declared.reading.Found.the-variants as found
-use Rattle.record_bytes.specs.Layout.{unsound, countOf, tableOf, bytesAfter, find}
+use Rattle.record_bytes.specs.Layout.{unsound, countOf, tableOf, find}
 use Rattle.record_bytes.proofs.Lent.{length-table}
 use Rattle.record_bytes.proofs.Finding.{found-missing}
 use Rattle.crossing.specs.declared.numbers.CetskobiReplica.{CetskobiReplica}
 use Rattle.crossing.specs.declared.numbers.CetskobiAnswer.{CetskobiAnswer}
-use Rattle.crossing.specs.Crossing.{replicaOf, answerOut}
+use Rattle.crossing.specs.Crossing.{replicaOf}
 use Rattle.ffi.specs.Events.{nodeOf, missing, Done}
 
 -- the first no of questions 1 to 5, less one, where the fourth or the fifth says no
@@ -50,12 +47,6 @@ module _ (me : Replica) (count bytes i : ℕ) (r : Record) where
   refuses h e n = five (question1 me .yes) (question2 count bytes .yes) (question3 me .yes) (question4 i count .yes) (question5 me r .yes) (own me r e n) h
 
 module _ (me : CetskobiReplica) (bytes store : List ℕ) (i : ℕ) (none : find bytes i ≡ found.Missing) where
-  who : Replica
-  who = replicaOf me
-
-  k : ℕ
-  k = stops (replicaOf me) (length (tableOf bytes)) (length store) i (recordAt (tableOf bytes) i)
-
   no : (question4 i (length (tableOf bytes)) .yes ≡ false) ⊎ (question5 (replicaOf me) (recordAt (tableOf bytes) i) .yes ≡ false)
   no = go (found-missing bytes i none)
     where

@@ -1,7 +1,7 @@
 -- What the exported functions say of a kind is what hermes says of the message that left: who gets it, and the bytes that it takes along.
 use Prim.Native.Nat.{ℕ, zero, suc}
 use mathlib.Core.Path.{_≡_, refl, ap}
-use mathlib.Core.Bool.{Bool, true, false}
+use mathlib.Core.Bool.{Bool, true, false, cond}
 use mathlib.Core.List.{List}
 use lib.Dec.{eqb, ltb}
 use lib.ListN.{length}
@@ -11,7 +11,6 @@ use Rattle.hermes.specs.declared.record.State.{State}
 use Rattle.hermes.specs.declared.record.State.the-variants as state
 use Rattle.hermes.specs.declared.message.Message.{Message}
 use Rattle.hermes.specs.declared.message.Message.the-variants.{Inv, Ack, Val}
-use Rattle.hermes.specs.declared.message.Outgoing.{Outgoing}
 use Rattle.hermes.specs.declared.message.Outgoing.the-variants.{None, Sent}
 use Rattle.hermes.specs.declared.message.Received.{Received}
 use Rattle.hermes.specs.declared.event.Replica.{Replica}
@@ -26,8 +25,8 @@ use Rattle.hermes.specs.Event.{leavingBody, recipients, sentBy, send, Step, ste
 use Rattle.hermes.specs.Node.{Node, recordAt, recordOf, leaving, apply}
 use Rattle.record_bytes.specs.Layout.{tableOf}
 use Rattle.crossing.specs.declared.numbers.CetskobiAnswer.{CetskobiAnswer}
-use Rattle.crossing.specs.Crossing.{pickMessage, answerOut}
-use Rattle.ffi.specs.Leaving.{pickLeft, leftOf, cameFrom, recipientsOf, bodyOf, Delivered, PartAt}
+use Rattle.crossing.specs.Crossing.{answerOut}
+use Rattle.ffi.specs.Leaving.{leftOf, cameFrom, recipientsOf, bodyOf, Delivered, PartAt}
 use Rattle.ffi.specs.Events.{Done}
 use Rattle.ffi.proofs.Parts.{cut, no-part}
 
@@ -42,7 +41,7 @@ beyond = record { version = 0; tie = 255 }
 -- an INV and a VAL go to all others
 pub to-others : (me : Replica) (sender : ℕ) (inv val : Bool)
     → without (me .view) (me .number)
-    ≡ recipients me (Deliver (cameFrom sender)) (Sent (pickMessage inv (Inv stamp) (pickMessage false (Ack stamp) (pickMessage val (Val stamp) (Val beyond)))) (record { sender = 0; epoch = 0; index = 0 }))
+    ≡ recipients me (Deliver (cameFrom sender)) (Sent (cond inv (Inv stamp) (cond false (Ack stamp) (cond val (Val stamp) (Val beyond)))) (record { sender = 0; epoch = 0; index = 0 }))
 to-others me sender true val = refl
 to-others me sender false true = refl
 to-others me sender false false = refl
@@ -52,7 +51,7 @@ pub nothing-along : (bytes store : List ℕ) (i kind : ℕ) → eqb kind 1 ≡ f
 nothing-along bytes store i kind h = rw h (go (eqb kind 0) (ltb 3 kind) (eqb kind 2) (eqb kind 3))
   where
     go : (none unknown ack val : Bool)
-        → PartAt store i (leavingBody (pickLeft none None (pickLeft unknown None (Sent (pickMessage false (Inv stamp) (pickMessage ack (Ack stamp) (pickMessage val (Val stamp) (Val beyond)))) (record { sender = 0; epoch = 0; index = i })))) (recordAt (tableOf bytes) i) store) 0
+        → PartAt store i (leavingBody (cond none None (cond unknown None (Sent (cond false (Inv stamp) (cond ack (Ack stamp) (cond val (Val stamp) (Val beyond)))) (record { sender = 0; epoch = 0; index = i })))) (recordAt (tableOf bytes) i) store) 0
     go true unknown ack val = no-part store i
     go false true ack val = no-part store i
     go false false true val = no-part store i

@@ -2,13 +2,12 @@
 use Prim.Native.Nat.{ℕ}
 use mathlib.Core.Path.{_≡_}
 use mathlib.Core.List.{List, []}
-use lib.ListN.{length}
 use Rattle.hermes.specs.declared.event.Event.{Event}
 use Rattle.hermes.specs.declared.event.Event.the-variants.{Read}
 use Rattle.hermes.specs.declared.event.Moved.{Moved}
 use Rattle.hermes.specs.Order.{higher}
 use Rattle.hermes.specs.Event.{moved, numberOf}
-use Rattle.hermes.specs.Node.{Node, lent, recordAt, effectOf, apply, read}
+use Rattle.hermes.specs.Node.{Node, lent, effectOf, apply, read}
 use Rattle.crossing.specs.declared.numbers.CetskobiReplica.{CetskobiReplica}
 use Rattle.crossing.specs.declared.numbers.CetskobiAnswer.{CetskobiAnswer}
 use Rattle.crossing.specs.declared.numbers.CetskobiRead.{CetskobiRead}

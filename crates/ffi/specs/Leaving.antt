@@ -1,7 +1,7 @@
 -- What leaves an event, for a caller that has its kind: who gets it, and the bytes that it takes along.
 use Prim.Native.Nat.{ℕ, _*_}
 use mathlib.Core.Path.{_≡_}
-use mathlib.Core.Bool.{Bool, true, false}
+use mathlib.Core.Bool.{cond}
 use mathlib.Core.List.{List}
 use lib.Dec.{eqb, ltb}
 use lib.ListN.{length, take, drop}
@@ -17,14 +17,10 @@ use Rattle.hermes.specs.Node.{recordAt}
 use Rattle.record_bytes.specs.Layout.{tableOf}
 use Rattle.crossing.specs.Crossing.{messageIn}
 
-abbrev pub pickLeft : Bool → Outgoing → Outgoing → Outgoing
-pickLeft true a b = a
-pickLeft false a b = b
-
 -- a message of this kind about record i, stamped 0; of kind 0 and of an unknown kind nothing
 abbrev pub leftOf : ℕ → ℕ → Outgoing
 leftOf kind i =
-    pickLeft (eqb kind 0) None (pickLeft (ltb 3 kind) None (Sent (messageIn kind 0 0) (record { sender = 0; epoch = 0; index = i })))
+    cond (eqb kind 0) None (cond (ltb 3 kind) None (Sent (messageIn kind 0 0) (record { sender = 0; epoch = 0; index = i })))
 
 -- a message that came from this sender
 abbrev pub cameFrom : ℕ → Received

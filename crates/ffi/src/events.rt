@@ -9,7 +9,6 @@ use crossing::CetskobiMessage;
 use crossing::CetskobiRead;
 use crossing::CetskobiReplica;
 use hermes::Moved;
-use hermes::Record;
 use record_bytes::Found;
 
 // The end of an event on record i: its answer, and the bytes of the table.

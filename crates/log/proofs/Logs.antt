@@ -14,7 +14,8 @@ use Rattle.hermes.specs.declared.message.Message.{Message}
 use Rattle.hermes.specs.declared.message.Message.the-variants.{Inv, Ack, Val}
 use Rattle.hermes.specs.Run.{Logged, missing, found, find}
 use Rattle.log.specs.declared.memory.Envelope.{Envelope}
-use Rattle.log.specs.Log.{kindOf, timestampOf, messageOf, encode, decode, decodeAll, Fits, kept, envelopeAt, hasPlace, Appended, loggedAt, upTo, logOf, Stored}
+use Rattle.packet.specs.Entry.{kindOf, timestampOf, messageOf}
+use Rattle.log.specs.Log.{encode, decode, decodeAll, Fits, kept, envelopeAt, hasPlace, Appended, loggedAt, upTo, logOf, Stored}
 
 left-true : (a b : Bool) → a && b ≡ true → a ≡ true
 left-true true b h = refl

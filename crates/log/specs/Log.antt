@@ -6,29 +6,13 @@ use mathlib.Core.List.{List, [], _∷_, _++_}
 use lib.ListN.{length, take, drop, getD}
 use lib.Dec.{ltb, leb, eqb}
 use lib.Seq.{paste}
-use Rattle.hermes.specs.declared.timestamp.Timestamp.{Timestamp}
 use Rattle.hermes.specs.declared.message.Header.{Header}
 use Rattle.hermes.specs.declared.message.Message.{Message}
-use Rattle.hermes.specs.declared.message.Message.the-variants.{Inv, Ack, Val}
 use Rattle.hermes.specs.Run.{Logged}
+use Rattle.packet.specs.Entry.{kindOf, timestampOf, messageOf}
 use Rattle.log.specs.declared.memory.Envelope.{Envelope}
 
--- ---- a message as six words: kind, sender, epoch, version, tie-breaker, length of the body
-
--- 01, "kind (1 INV, 2 ACK, 3 VAL)"
-abbrev pub kindOf : Message → ℕ
-kindOf (Inv t) = 1
-kindOf (Ack t) = 2
-kindOf (Val t) = 3
-
-abbrev pub timestampOf : Message → Timestamp
-timestampOf (Inv t) = t
-timestampOf (Ack t) = t
-timestampOf (Val t) = t
-
--- any number is a kind
-abbrev pub messageOf : ℕ → Timestamp → Message
-messageOf k t = cond (eqb k 1) (Inv t) (cond (eqb k 2) (Ack t) (Val t))
+-- ---- a message as six words: kind, as in a packet, sender, epoch, version, tie-breaker, length of the body; any number is a kind
 
 abbrev pub encode : Envelope → List ℕ
 encode e = kindOf (e .message) ∷ e .sender ∷ e .epoch ∷ timestampOf (e .message) .version ∷ timestampOf (e .message) .tie ∷ e .len ∷ []
@@ -46,7 +30,7 @@ pub record Fits (e : Envelope) : Type 0 where
   pub sender : e .sender < 256
   pub tie : timestampOf (e .message) .tie < 256
 
--- a message as it is logged, with its body
+-- a message as it is logged, with the length of its body
 abbrev pub envelopeOf : Message → Header → List ℕ → Envelope
 envelopeOf m h body = record { sender = h .sender; epoch = h .epoch; message = m; len = length body }
 
@@ -56,7 +40,7 @@ envelopeOf m h body = record { sender = h .sender; epoch = h .epoch; message = m
 abbrev pub kept : ℕ → List ℕ → ℕ → List ℕ → List ℕ
 kept width l n part = paste l (width * n) part (length part)
 
--- the words of message k; where they end before it, zeros
+-- message k, out of its words; where these end before it, out of zeros
 unfoldable pub envelopeAt : List ℕ → ℕ → Envelope
 envelopeAt heads k = cond (leb (length heads / 6) k) (decode 0 0 0 0 0 0) (decodeAll (take 6 (drop (6 * k) heads)))
 
@@ -87,7 +71,7 @@ upTo (suc n) f = upTo n f ++ (f n ∷ [])
 unfoldable pub logOf : List ℕ → List ℕ → ℕ → List Logged
 logOf heads bodies sent = upTo sent (loggedAt heads bodies)
 
--- the log as every line leaves it: room for 256 messages, and every body in its place
+-- the player's log, as each of its lines leaves it: room for 256 messages, and every body in its place
 pub record Stored (heads bodies : List ℕ) (sent : ℕ) : Type 0 where
   pub slots : length heads ≡ 1536
   pub space : length bodies ≡ 49152

@@ -13,7 +13,7 @@ use Rattle.hermes.specs.Order.{higher}
 use Rattle.hermes.specs.Record.{freshRecord}
 use Rattle.hermes.specs.Event.{sentBy}
 use Rattle.hermes.specs.Node.{newcomer, Start, start}
-use Rattle.hermes.specs.Run.{Entry, Group, Result, nothing, event, result, run}
+use Rattle.hermes.specs.Run.{Entry, Group, Result, nothing, event, result}
 use Rattle.hermes.specs.Agreement.{Started, AsIssued, Entries}
 use Rattle.hermes.proofs.Agreement.{run-append, agreement}
 use Rattle.script.specs.Command.{lineOf, textOf}

@@ -1,4 +1,4 @@
--- An answer line (01, "Each later line prints one line: answer, state letter, version, tie-breaker, log number of the message that left or `-`").
+-- The line of an answer (01, "Each later line prints one line: answer, state letter, version, tie-breaker, log number of the message that left or `-`"), and the line `?`.
 use Prim.Native.Nat.{ℕ, _+_}
 use mathlib.Core.Path.{_≡_}
 use mathlib.Core.Bool.{cond}

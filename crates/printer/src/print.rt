@@ -1,4 +1,4 @@
-// Answer lines, printed into the lent output from an index on.
+// The lines of an answer and of `?`, printed into the lent output from an index on.
 ghost use mathlib.Core.Path.{_≡_};
 ghost use Prim.Native.Nat.{_+_, _≤_};
 ghost use mathlib.Core.List.{[], _∷_, _++_};

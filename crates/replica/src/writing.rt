@@ -1,6 +1,5 @@
 // Write.
 ghost use mathlib.Core.Path.{_≡_};
-ghost use lib.ListN.{length};
 ghost use Rattle.hermes.specs.Order.{higher};
 ghost use Rattle.hermes.specs.Event.{common, own, effect};
 ghost use Rattle.hermes.specs.declared.event.Event.the-variants.{Write};

@@ -7,6 +7,7 @@ mod starting;
 pub use events::apply;
 pub use leaving::body;
 pub use membership::view;
+pub use outgoing::recipients;
 pub use reading::read;
 pub use reading::read_number;
 pub use starting::start;

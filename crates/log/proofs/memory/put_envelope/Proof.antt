@@ -2,7 +2,7 @@
 use native.Mathlib.Omega.{arith}
 use lib.ListN.{length-set}
 use Prim.Native.Nat.{_*_, _<_}
-use Rattle.log.specs.Log.{kindOf, timestampOf}
+use Rattle.packet.specs.Entry.{kindOf, timestampOf}
 use Rattle.log.proofs.Logs.{six-stores}
 use borrow.Author.Needs.{needs}
 use Rattle.log.proofs.memory.put_envelope.Statement.{statement}
