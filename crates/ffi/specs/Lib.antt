@@ -1,4 +1,2 @@
 pub mod Leaving
 pub mod Events
-pub mod Admission
-pub mod Packets

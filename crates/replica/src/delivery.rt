@@ -8,8 +8,6 @@ ghost use Rattle.hermes.specs.Event.{common, own, effect, decide, invStep};
 ghost use Rattle.hermes.specs.Guards.{question10, question11, question12};
 ghost use Rattle.hermes.specs.declared.event.Event.the-variants.{Deliver};
 ghost use Rattle.guards.specs.Cascade.{asked};
-use crate::ends;
-use crate::value;
 use guards::Asked;
 use hermes::Message;
 use hermes::Moved;
@@ -82,10 +80,10 @@ fn take_inv(
 {
     let ack = outgoing::send(me, i, Message::Ack(t));
     if t.later(r.timestamp) {
-        value::place(store, i, value);
-        return ends::accepted(ack, r.take_invalidation(t, sender, value.len() as u8));
+        outcome::place(store, i, value);
+        return outcome::accepted(ack, r.take_invalidation(t, sender, value.len() as u8));
     }
-    ends::accepted(ack, r)
+    outcome::accepted(ack, r)
 }
 
 // Delivery of a message about record i, r, with its value bytes.
@@ -108,7 +106,7 @@ pub fn deliver(
     let message = m.message;
     match message {
         Message::Inv(t) => take_inv(me, i, r1, store, t, m.sender, value),
-        Message::Ack(_) => ends::accepted(Outgoing::None, r1.acknowledge(m.sender)),
-        Message::Val(_) => ends::accepted(Outgoing::None, r1.validate()),
+        Message::Ack(_) => outcome::accepted(Outgoing::None, r1.acknowledge(m.sender)),
+        Message::Val(_) => outcome::accepted(Outgoing::None, r1.validate()),
     }
 }

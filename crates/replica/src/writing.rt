@@ -4,8 +4,6 @@ ghost use Rattle.hermes.specs.Order.{higher};
 ghost use Rattle.hermes.specs.Event.{common, own, effect};
 ghost use Rattle.hermes.specs.declared.event.Event.the-variants.{Write};
 ghost use Rattle.guards.specs.Cascade.{asked};
-use crate::ends;
-use crate::value;
 use guards::Asked;
 use hermes::Message;
 use hermes::Moved;
@@ -46,8 +44,8 @@ pub fn write(
     let Asked::Passed(r1) = a else {
         return guards::stopped(a, r);
     };
-    value::place(store, i, value);
+    outcome::place(store, i, value);
     let next = r1.write(me.number, value.len() as u8);
     let t = next.timestamp;
-    ends::accepted(outgoing::send(me, i, Message::Inv(t)), next)
+    outcome::accepted(outgoing::send(me, i, Message::Inv(t)), next)
 }

@@ -1,7 +1,7 @@
 -- `replica::events::step` meets its contract.
 use Rattle.hermes.specs.Order.{higher}
 use Rattle.hermes.specs.declared.event.Event.the-variants as event
-use Rattle.replica.proofs.Outcomes.{quiet}
+use Rattle.outcome.proofs.Outcomes.{quiet}
 use mathlib.Core.Path.{refl}
 use borrow.Author.Needs.{needs}
 use Rattle.replica.proofs.events.step.Statement.{statement}

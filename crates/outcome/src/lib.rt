@@ -1,0 +1,6 @@
+// How an event ends, and the bytes of a value.
+mod ends;
+mod value;
+
+pub use ends::accepted;
+pub use value::place;
