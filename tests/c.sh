@@ -3,7 +3,7 @@
 # stored.
 cd "$(dirname "$0")/.." || exit 2
 sh tests/need cc || exit 1
-sh tests/archive || exit 1
+sh tools/archive || exit 1
 dir=$(mktemp -d) || exit 2
 trap 'rm -rf "$dir"' EXIT
 bad=0
@@ -14,14 +14,14 @@ compile() { # STANDARD ARGUMENT..
     cc -std="$standard" -Wall -Wextra -Wpedantic -Werror -O2 -Iinclude "$@" || bad=1
 }
 
-# Both archives whole: they share no name. The example needs no player.
-compile c11 tests/c/every_function.c -Wl,--whole-archive target/staticlib/libffi.a target/staticlib/libplaying.a -Wl,--no-whole-archive \
+# The archive whole: its members share no name.
+compile c11 tests/c/every_function.c -Wl,--whole-archive target/staticlib/libcetskobi.a -Wl,--no-whole-archive \
     -o "$dir/every_function"
-compile c99 examples/c/two_laptops.c target/staticlib/libffi.a -o "$dir/two_laptops"
+compile c99 examples/c/two_laptops.c target/staticlib/libcetskobi.a -o "$dir/two_laptops"
 # The guide's code, with a program that plays the guide's morning.
 awk '/^```c$/ { in_c = 1; next } /^```$/ { in_c = 0 } in_c' docs/GUIDE.md >"$dir/guide_code.c"
 [ -s "$dir/guide_code.c" ] || bad=1
-compile c99 -I"$dir" tests/c/guide.c target/staticlib/libffi.a -o "$dir/guide"
+compile c99 -I"$dir" tests/c/guide.c target/staticlib/libcetskobi.a -o "$dir/guide"
 [ $bad = 0 ] || exit 1
 
 for name in $(grep -o 'cetskobi_[a-z_]*(' include/cetskobi.h | sort -u); do

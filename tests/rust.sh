@@ -2,7 +2,7 @@
 # The Rust crates on the archives: the wrapper's tests, the model against the papers, the engine against the model.
 cd "$(dirname "$0")/.." || exit 2
 sh tests/need cargo || exit 1
-sh tests/archive || exit 1
+sh tools/archive || exit 1
 # One seed for all of them; the model's own tests call it MODEL_SEED.
 [ -z "${CETSKOBI_SEED-}" ] || export MODEL_SEED="$CETSKOBI_SEED"
 CARGO_TARGET_DIR=target/rust cargo test --quiet --offline --release --manifest-path rust/Cargo.toml --workspace

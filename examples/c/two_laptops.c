@@ -1,6 +1,6 @@
 /* Two laptops keep one ring record in step by packets, although one packet is lost and one comes twice.
  * From the repository's root (rust/cetskobi/examples/two_laptops.rs tells the same in Rust):
- *   rt staticlib ffi && cc -O2 examples/c/two_laptops.c -Iinclude target/staticlib/libffi.a -o target/two_laptops && target/two_laptops
+ *   sh tools/archive && cc -O2 examples/c/two_laptops.c -Iinclude target/staticlib/libcetskobi.a -o target/two_laptops && target/two_laptops
  */
 #include "cetskobi.h"
 #include <stdio.h>

@@ -10,10 +10,10 @@ use lib.Dec.{leb, ltb}
 use lib.ListN.{length}
 use lib.Seq.{take-length}
 use Rattle.hermes.proofs.Tests.{either, neither, and-false}
-use Rattle.packet.specs.declared.entry.Entry.{Entry}
-use Rattle.packet.specs.declared.answer.Written.the-variants as answer
-use Rattle.packet.specs.Writing.{summed, totalOf, allGood, question24, question25, writeRefusal, written}
-use Rattle.packet.proofs.Writing.{accepted}
+use Rattle.packet_format.specs.declared.entry.Entry.{Entry}
+use Rattle.packet_format.specs.declared.answer.Written.the-variants as answer
+use Rattle.packet_format.specs.Writing.{summed, totalOf, allGood, question24, question25, writeRefusal, written}
+use Rattle.packet_format.proofs.Writing.{accepted}
 use Rattle.packet_writer.specs.declared.question.Asked.{Asked}
 use Rattle.packet_writer.specs.declared.question.Asked.the-variants.{Passed, Refused}
 use Rattle.packet_writer.specs.Asking.{asked}

@@ -8,19 +8,19 @@ use native.Mathlib.Numerals.{add-one}
 use native.Mathlib.Omega.{arith}
 use lib.ListN.{length, take, drop, getD, set}
 use lib.Seq.{sets, sets-eq, length-sets, length-take-le, take-all}
-use Rattle.packet.specs.declared.entry.Entry.{Entry}
-use Rattle.packet.specs.declared.entry.Fields.{Fields}
-use Rattle.packet.specs.Bytes.{be}
-use Rattle.packet.specs.Entry.{fieldsFor, entryBytes, good, noEntry}
-use Rattle.packet.specs.Reading.{entryAt}
-use Rattle.packet.specs.Writing.{summed, contents, totalOf, encode, allGood}
+use Rattle.packet_format.specs.declared.entry.Entry.{Entry}
+use Rattle.packet_format.specs.declared.entry.Fields.{Fields}
+use Rattle.packet_format.specs.Bytes.{be}
+use Rattle.packet_format.specs.Entry.{fieldsFor, entryBytes, good, noEntry}
+use Rattle.packet_format.specs.Reading.{entryAt}
+use Rattle.packet_format.specs.Writing.{summed, contents, totalOf, encode, allGood}
 use Rattle.hermes.proofs.Tests.{both}
-use Rattle.packet.proofs.Entries.{good-parts}
-use Rattle.packet.proofs.Contents.{length-contents}
-use Rattle.packet.proofs.RoundTrip.{length-encode}
-use Rattle.entries.specs.Words.{fieldsAt, entriesFrom}
-use Rattle.entries.proofs.Places.{length-entries}
-use Rattle.entries.proofs.Fit.{good-message, fields-message}
+use Rattle.packet_format.proofs.Entries.{good-parts}
+use Rattle.packet_format.proofs.Contents.{length-contents}
+use Rattle.packet_format.proofs.RoundTrip.{length-encode}
+use Rattle.packet_words.specs.Words.{fieldsAt, entriesFrom}
+use Rattle.packet_words.proofs.Places.{length-entries}
+use Rattle.packet_words.proofs.Fit.{good-message, fields-message}
 use Rattle.packet_writer.specs.declared.question.Asked.the-variants.{Passed, Refused}
 use Rattle.packet_writer.specs.Asking.{asked}
 use Rattle.packet_writer.proofs.Stores.{sets-then}

@@ -7,9 +7,9 @@ use native.Mathlib.Numerals.{add-one}
 use native.Mathlib.Omega.{arith}
 use lib.ListN.{length, take, getD, set}
 use lib.Seq.{sets, take-suc, length-take-le, take-all}
-use Rattle.packet.specs.declared.entry.Fields.{Fields}
-use Rattle.packet.specs.Bytes.{be}
-use Rattle.packet.specs.Entry.{entryBytes}
+use Rattle.packet_format.specs.declared.entry.Fields.{Fields}
+use Rattle.packet_format.specs.Bytes.{be}
+use Rattle.packet_format.specs.Entry.{entryBytes}
 
 sets-append : (d : List ℕ) (at : ℕ) (a b : List ℕ) → sets (sets d at a) (at + length a) b ≡ sets d at (a ++ b)
 sets-append d at [] b = ap (λ (n : ℕ). sets d n b) (add-zero at)

@@ -1,8 +1,8 @@
 -- What the writer's first loop answers; it serves the inner functions of this crate alone.
 use mathlib.Core.Bool.{cond}
 use mathlib.Core.List.{List}
-use Rattle.packet.specs.declared.entry.Entry.{Entry}
-use Rattle.packet.specs.Writing.{summed, allGood}
+use Rattle.packet_format.specs.declared.entry.Entry.{Entry}
+use Rattle.packet_format.specs.Writing.{summed, allGood}
 use Rattle.packet_writer.specs.declared.question.Asked.{Asked}
 use Rattle.packet_writer.specs.declared.question.Asked.the-variants.{Passed, Refused}
 

@@ -4,15 +4,15 @@ ghost use mathlib.Core.Bool.{true};
 ghost use Prim.Native.Nat.{_+_, _*_, _≤_, _<_};
 ghost use lib.ListN.{length};
 ghost use lib.Seq.{sets};
-ghost use Rattle.packet.specs.Entry.{entryBytes, good};
-ghost use Rattle.packet.specs.Reading.{entryAt};
-ghost use Rattle.packet.specs.Writing.{contents, allGood};
-ghost use Rattle.entries.specs.Words.{fieldsAt, entriesFrom};
+ghost use Rattle.packet_format.specs.Entry.{entryBytes, good};
+ghost use Rattle.packet_format.specs.Reading.{entryAt};
+ghost use Rattle.packet_format.specs.Writing.{contents, allGood};
+ghost use Rattle.packet_words.specs.Words.{fieldsAt, entriesFrom};
 use crate::output::put2;
 use crate::output::put4;
-use entries::WORDS;
-use packet::ENTRY_BYTES;
-use packet::HEADER_BYTES;
+use packet_words::WORDS;
+use packet_format::ENTRY_BYTES;
+use packet_format::HEADER_BYTES;
 
 // The 16 bytes of a good message's entry, whose body begins at `at`.
 // Each word is read just before it is stored: the compiler then makes one store of its bytes.

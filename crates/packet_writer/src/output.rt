@@ -3,7 +3,7 @@ ghost use mathlib.Core.Path.{_≡_};
 ghost use Prim.Native.Nat.{_+_, _≤_, _<_};
 ghost use lib.ListN.{length};
 ghost use lib.Seq.{sets};
-ghost use Rattle.packet.specs.Bytes.{be};
+ghost use Rattle.packet_format.specs.Bytes.{be};
 
 // Two bytes, big-endian.
 pub(crate) fn put2(out: &mut [u8], at: usize, n: usize)

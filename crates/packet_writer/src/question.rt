@@ -2,12 +2,12 @@
 ghost use mathlib.Core.Path.{_≡_};
 ghost use Prim.Native.Nat.{_+_, _*_, _≤_};
 ghost use lib.ListN.{length};
-ghost use Rattle.packet.specs.Entry.{good};
-ghost use Rattle.entries.specs.Words.{fieldsAt, entriesFrom};
+ghost use Rattle.packet_format.specs.Entry.{good};
+ghost use Rattle.packet_words.specs.Words.{fieldsAt, entriesFrom};
 ghost use Rattle.packet_writer.specs.Asking.{asked};
-use entries::WORDS;
+use packet_words::WORDS;
 use hermes::Record;
-use packet::Fields;
+use packet_format::Fields;
 
 // Passed with the summed length of the bodies, or refused.
 pub(crate) enum Asked {

@@ -1,25 +1,25 @@
 // The writer.
 ghost use mathlib.Core.Path.{_≡_};
 ghost use lib.ListN.{length};
-ghost use Rattle.packet.specs.Writing.{outputOf};
-ghost use Rattle.entries.specs.Words.{messagesIn, packed};
+ghost use Rattle.packet_format.specs.Writing.{outputOf};
+ghost use Rattle.packet_words.specs.Words.{messagesIn, packed};
 use crate::contents::put_contents;
 use crate::output::put_all;
 use crate::output::put2;
 use crate::question::Asked;
 use crate::question::ask;
-use packet::ENTRY_BYTES;
-use packet::HEADER_BYTES;
-use packet::RULE;
-use packet::TOTAL_MAX;
-use packet::Written;
+use packet_format::ENTRY_BYTES;
+use packet_format::HEADER_BYTES;
+use packet_format::RULE;
+use packet_format::TOTAL_MAX;
+use packet_format::Written;
 
 // A packet of the messages that the words hold, whose bodies stand end to end, written to the front of `out`.
 pub fn write(words: &[u32], bodies: &[u8], out: &mut [u8]) -> Written
     ensures answer { λ r. ⌜ r ≡ packed (now (words .entry)) (now (bodies .entry)) (length (now (out .entry))) ⌝ }
     ensures output { λ r. ⌜ now (out .exit) ≡ outputOf r (messagesIn (now (words .entry))) (now (bodies .entry)) (now (out .entry)) ⌝ }
 {
-    let count = entries::count_in(words.len());
+    let count = packet_words::count_in(words.len());
     if count < 1 {
         return Written::Refused(24);
     }

@@ -1,7 +1,7 @@
 // Plays the script on standard input: at most 65,536 bytes of it are read.
 ghost use mathlib.Core.Path.{_≡_};
 ghost use lib.ListN.{length};
-use player::Played;
+use play_game::Played;
 
 // Room for whatever an input of 65,536 bytes can print.
 fn output() -> [u8; 1638402]
@@ -14,7 +14,7 @@ fn main() {
     let mut input = io::large_buffer();
     let n = io::read_full(0, &mut input);
     let mut out = output();
-    let played = player::play(&input[..n], &mut out);
+    let played = play_game::play(&input[..n], &mut out);
     let Played::Printed(to) = played else {
         return;
     };

@@ -1,6 +1,6 @@
 //! Two laptops keep one ring record in step by packets, although one packet is lost and one comes twice.
 //! From the repository's root (examples/c/two_laptops.c tells the same in C):
-//!   sh tests/archive
+//!   sh tools/archive
 //!   CARGO_TARGET_DIR=target/rust cargo run --offline --release --quiet --manifest-path rust/Cargo.toml -p cetskobi --example two_laptops
 
 use cetskobi::{packet, Envelope, Laptop, Refusal};

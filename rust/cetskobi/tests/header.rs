@@ -20,6 +20,15 @@ fn source(name: &str) -> String {
         .collect()
 }
 
+/// The source of all crates of the floor that crosses to C.
+fn exports() -> String {
+    let folder = fs::read_dir("../../crates").expect("the crates");
+    let names = folder.map(|entry| entry.expect("an entry").file_name());
+    let names = names.map(|name| name.into_string().expect("a name"));
+    let names = names.filter(|name| name.starts_with("export_"));
+    names.map(|name| source(&name)).collect()
+}
+
 /// A module of the definitions of a crate.
 fn specs(name: &str) -> String {
     fs::read_to_string(format!("../../crates/{name}.antt")).expect("definitions")
@@ -191,15 +200,9 @@ fn header_and_declarations_are_the_same() {
 
 #[test]
 fn declarations_and_exports_are_the_same() {
-    let exports = source("ffi") + &source("playing");
+    let exports = exports();
     assert_eq!(functions(DECLARED, DECLARES), functions(&exports, EXPORTS));
-    assert_eq!(structs(DECLARED), structs(&(exports + &source("crossing"))));
-}
-
-#[test]
-fn the_player_alone_is_in_the_second_archive() {
-    let second = functions(&source("playing"), EXPORTS);
-    assert_eq!(Vec::from_iter(second.keys()), ["cetskobi_play"]);
+    assert_eq!(structs(DECLARED), structs(&exports));
 }
 
 /// The fields of a struct of the header, in their order.
@@ -212,7 +215,7 @@ fn fields(name: &str) -> Vec<(String, String)> {
 /// tests/c has the place of each field.
 #[test]
 fn a_record_has_the_fields_of_its_bytes() {
-    let layout = specs("record_bytes/specs/Layout");
+    let layout = specs("export_records/specs/Layout");
     let line = layout.lines().find(|line| line.starts_with("decode "));
     let line = line.and_then(|line| line.strip_suffix(" ="));
     let names = line.expect("the definition").split(' ').skip(1);
@@ -224,7 +227,7 @@ fn a_record_has_the_fields_of_its_bytes() {
 
 #[test]
 fn a_message_has_the_fields_of_its_words() {
-    let words = specs("entries/specs/Words");
+    let words = specs("packet_words/specs/Words");
     let named = words.lines().filter_map(|line| {
         let (name, place) = line.trim().split_once(" = getD words ")?;
         let place = place.strip_suffix(" 0;")?.trim_start_matches("(at + ");
@@ -283,7 +286,7 @@ fn numbers_are_the_same() {
 /// The numbers that the engine puts into a record's byte 0.
 #[test]
 fn states_are_the_engines() {
-    let source = source("record_bytes");
+    let source = source("export_records");
     let codes = source.lines().filter_map(|line| {
         let (state, code) = line.trim().strip_prefix("State::")?.split_once(" => ")?;
         let code = code.strip_suffix(',')?.parse().ok()?;

@@ -1,9 +1,9 @@
 -- The loop's invariant: which entries stand from byte 4 on, and where the next body begins.
 use Prim.Native.Nat.{_-_, _*_}
 use native.Mathlib.Omega.{arith}
-use Rattle.packet.specs.Reading.{entryAt}
-use Rattle.packet.proofs.Entries.{good-parts}
-use Rattle.entries.specs.Words.{fieldsAt, entriesFrom}
+use Rattle.packet_format.specs.Reading.{entryAt}
+use Rattle.packet_format.proofs.Entries.{good-parts}
+use Rattle.packet_words.specs.Words.{fieldsAt, entriesFrom}
 use Rattle.packet_writer.proofs.Messages.{good-words, Stored, stored-none, stored-more, stored-all}
 use Rattle.packet_writer.proofs.contents.put_contents.Statement.{statement}
 use Rattle.packet_writer.proofs.contents.put_contents.Tie as tie

@@ -2,8 +2,8 @@
 use mathlib.Core.Path.{_∙_}
 use native.Mathlib.Omega.{arith}
 use lib.ListN.{length-set}
-use Rattle.packet.proofs.Entries.{good-parts}
-use Rattle.entries.specs.Words.{fieldsAt}
+use Rattle.packet_format.proofs.Entries.{good-parts}
+use Rattle.packet_words.specs.Words.{fieldsAt}
 use Rattle.packet_writer.proofs.Stores.{entry-stores}
 use borrow.Author.Needs.{needs}
 use Rattle.packet_writer.proofs.contents.put_entry.Statement.{statement}

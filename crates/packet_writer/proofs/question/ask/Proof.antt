@@ -1,9 +1,9 @@
 -- The loop's invariant: the messages passed are good, and the sum is that of their bodies.
 use Prim.Native.Nat.{_-_, _*_}
 use native.Mathlib.Omega.{arith}
-use Rattle.packet.proofs.Entries.{good-parts}
-use Rattle.packet.proofs.Tests.{yes, no}
-use Rattle.entries.specs.Words.{fieldsAt, entriesFrom}
+use Rattle.packet_format.proofs.Entries.{good-parts}
+use Rattle.packet_format.proofs.Tests.{yes, no}
+use Rattle.packet_words.specs.Words.{fieldsAt, entriesFrom}
 use Rattle.packet_writer.proofs.Messages.{Measured, measured-none, measured-more, measured-bad, measured-all}
 use Rattle.packet_writer.proofs.question.ask.Statement.{statement}
 use Rattle.packet_writer.proofs.question.ask.Tie as tie

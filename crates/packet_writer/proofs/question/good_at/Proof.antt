@@ -5,11 +5,11 @@ use Prim.Native.Nat.{_≤_}
 use native.Mathlib.Omega.{arith}
 use borrow.Author.Tests.{eq-eqb, ne-eqb, le-leb}
 use lib.Dec.{leb, eqb}
-use Rattle.packet.specs.declared.entry.Fields.{Fields}
-use Rattle.packet.specs.Entry.{good}
+use Rattle.packet_format.specs.declared.entry.Fields.{Fields}
+use Rattle.packet_format.specs.Entry.{good}
 use Rattle.hermes.proofs.Tests.{and-true}
-use Rattle.packet.proofs.Entries.{not-good}
-use Rattle.entries.specs.Words.{fieldsAt}
+use Rattle.packet_format.proofs.Entries.{not-good}
+use Rattle.packet_words.specs.Words.{fieldsAt}
 use borrow.Author.Needs.{needs}
 use Rattle.packet_writer.proofs.question.good_at.Statement.{statement}
 use Rattle.packet_writer.proofs.question.good_at.Tie as tie

@@ -5,11 +5,11 @@ use Prim.Native.Nat.{_+_}
 use native.Mathlib.Omega.{arith}
 use lib.ListN.{length, length-set}
 use lib.Seq.{sets}
-use Rattle.packet.specs.declared.entry.Entry.{Entry}
-use Rattle.packet.specs.Reading.{entryAt}
-use Rattle.packet.specs.Writing.{contents, totalOf, allGood, outputOf}
-use Rattle.entries.specs.Words.{messagesIn}
-use Rattle.entries.proofs.Places.{counted}
+use Rattle.packet_format.specs.declared.entry.Entry.{Entry}
+use Rattle.packet_format.specs.Reading.{entryAt}
+use Rattle.packet_format.specs.Writing.{contents, totalOf, allGood, outputOf}
+use Rattle.packet_words.specs.Words.{messagesIn}
+use Rattle.packet_words.proofs.Places.{counted}
 use Rattle.packet_writer.specs.Asking.{asked}
 use Rattle.packet_writer.proofs.Messages.{packet-stored}
 use Rattle.packet_writer.proofs.Answers.{passed, refused, roomy, empty, bad, uneven, unroomy, written-whole}

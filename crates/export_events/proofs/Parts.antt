@@ -1,0 +1,18 @@
+-- Parts of the store that begin at 192 times a record's number.
+use Prim.Native.Nat.{ℕ, zero, suc, _*_}
+use mathlib.Core.Path.{_≡_, refl, ap}
+use mathlib.Core.List.{List, [], _∷_}
+use lib.ListN.{length, take, drop}
+use Rattle.export_events.specs.Leaving.{PartAt}
+
+take-length : (n : ℕ) (xs : List ℕ) → take (length (take n xs)) xs ≡ take n xs
+take-length zero xs = refl
+take-length (suc n) [] = refl
+take-length (suc n) (x ∷ xs) = ap (λ (l : List ℕ). x ∷ l) (take-length n xs)
+
+-- a cut of so many bytes, or of as many as there are
+pub cut : (store : List ℕ) (i n : ℕ) → PartAt store i (take n (drop (192 * i) store)) (length (take n (drop (192 * i) store)))
+cut store i n = record { len = refl; part = take-length n (drop (192 * i) store) }
+
+pub no-part : (store : List ℕ) (i : ℕ) → PartAt store i [] 0
+no-part store i = record { len = refl; part = refl }

@@ -1,0 +1,6 @@
+mod admission;
+
+pub use admission::cetskobi_start;
+pub use admission::cetskobi_view;
+pub use export_numbers::CetskobiAdmission;
+pub use export_numbers::CetskobiReplica;

@@ -1,0 +1,175 @@
+// How identities, messages and answers cross as numbers.
+ghost use mathlib.Core.Path.{_≡_};
+ghost use Rattle.export_numbers.specs.Crossing.{replicaOf, identityOf, answering, messageOut, outgoingOut, answerOut, admissionOut, messageIn, receivedIn};
+ghost use Rattle.hermes.specs.Event.{numberOf};
+use hermes::Admission;
+use hermes::Answer;
+use hermes::Message;
+use hermes::Outgoing;
+use hermes::Received;
+use hermes::Replica;
+use hermes::Timestamp;
+
+// The identity of a replica.
+#[repr(C)]
+pub struct CetskobiReplica {
+    pub number: u8,
+    pub view: u16,
+    pub epoch: u32,
+}
+
+// An answer: 0 or the number of the question that said no; and the message that leaves, of kind 0 none, 1 INV, 2 ACK, 3 VAL.
+#[repr(C)]
+pub struct CetskobiAnswer {
+    pub number: u8,
+    pub kind: u8,
+    pub tie: u8,
+    pub version: u32,
+}
+
+// A message as it is delivered: of kind 1 INV, 2 ACK, 3 VAL.
+#[repr(C)]
+pub struct CetskobiMessage {
+    pub kind: u8,
+    pub sender: u8,
+    pub tie: u8,
+    pub epoch: u32,
+    pub version: u32,
+}
+
+// The answer to a read: 0 or the number of the question that said no, and how many bytes of the store are the value.
+#[repr(C)]
+pub struct CetskobiRead {
+    pub number: u8,
+    pub len: usize,
+}
+
+// The answer to a fresh start and to a view: 0 or the number of the question that said no, and the identity from then on.
+#[repr(C)]
+pub struct CetskobiAdmission {
+    pub replica: CetskobiReplica,
+    pub number: u8,
+}
+
+pub fn replica_of(me: CetskobiReplica) -> Replica
+    ensures { λ r. ⌜ r ≡ replicaOf me ⌝ }
+{
+    Replica {
+        number: me.number,
+        epoch: me.epoch,
+        view: me.view,
+    }
+}
+
+// An answer, by its numbers.
+fn answering(number: u8, kind: u8, tie: u8, version: u32) -> CetskobiAnswer
+    ensures { λ a. ⌜ a ≡ answering number kind tie version ⌝ }
+{
+    CetskobiAnswer {
+        number: number,
+        kind: kind,
+        tie: tie,
+        version: version,
+    }
+}
+
+fn message_out(m: Message) -> CetskobiAnswer
+    ensures { λ a. ⌜ a ≡ messageOut m ⌝ }
+{
+    match m {
+        Message::Inv(t) => answering(0, 1, t.tie, t.version),
+        Message::Ack(t) => answering(0, 2, t.tie, t.version),
+        Message::Val(t) => answering(0, 3, t.tie, t.version),
+    }
+}
+
+fn outgoing_out(o: Outgoing) -> CetskobiAnswer
+    ensures { λ a. ⌜ a ≡ outgoingOut o ⌝ }
+{
+    match o {
+        Outgoing::None => answering(0, 0, 0, 0),
+        Outgoing::Sent(m, _) => message_out(m),
+    }
+}
+
+pub fn answer_out(a: Answer) -> CetskobiAnswer
+    ensures { λ r. ⌜ r ≡ answerOut a ⌝ }
+{
+    match a {
+        Answer::Accepted(o) => outgoing_out(o),
+        Answer::Refused(k) => answering(k, 0, 0, 0),
+    }
+}
+
+fn identity_of(me: Replica) -> CetskobiReplica
+    ensures { λ r. ⌜ r ≡ identityOf me ⌝ }
+{
+    CetskobiReplica {
+        number: me.number,
+        view: me.view,
+        epoch: me.epoch,
+    }
+}
+
+pub fn admission_out(a: Admission, old: CetskobiReplica) -> CetskobiAdmission
+    ensures { λ r. ⌜ r ≡ admissionOut a old ⌝ }
+{
+    match a {
+        Admission::Admitted(me) => {
+            let next = identity_of(me);
+            CetskobiAdmission {
+                number: 0,
+                replica: next,
+            }
+        }
+        Admission::Refused(k) => CetskobiAdmission {
+            number: k,
+            replica: old,
+        },
+    }
+}
+
+// A message that came from outside. A kind that is none of the three becomes one that question 12 refuses.
+fn message_in(kind: u8, version: u32, tie: u8) -> Message
+    ensures { λ m. ⌜ m ≡ messageIn kind version tie ⌝ }
+{
+    let t = Timestamp {
+        version: version,
+        tie: tie,
+    };
+    if kind == 1 {
+        return Message::Inv(t);
+    }
+    if kind == 2 {
+        return Message::Ack(t);
+    }
+    if kind == 3 {
+        return Message::Val(t);
+    }
+    let beyond = Timestamp {
+        version: version,
+        tie: 255,
+    };
+    Message::Val(beyond)
+}
+
+pub fn received_in(m: CetskobiMessage) -> Received
+    ensures { λ r. ⌜ r ≡ receivedIn m ⌝ }
+{
+    let message = message_in(m.kind, m.version, m.tie);
+    Received {
+        sender: m.sender,
+        epoch: m.epoch,
+        message: message,
+    }
+}
+
+// The number of an answer.
+pub fn number_out(a: Answer) -> u8
+    ensures { λ k. ⌜ k ≡ numberOf a ⌝ }
+{
+    match a {
+        Answer::Accepted(_) => 0,
+        Answer::Refused(k) => k,
+    }
+}

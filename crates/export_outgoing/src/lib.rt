@@ -1,0 +1,5 @@
+mod leaving;
+
+pub use export_numbers::CetskobiReplica;
+pub use leaving::cetskobi_body;
+pub use leaving::cetskobi_recipients;

@@ -1,0 +1,150 @@
+-- One entry there and back: its 16 bytes and its fields, its fields and its message.
+use mathlib.Core.Path.{_≡_, refl, sym, _∙_}
+use mathlib.Core.Bool.{Bool, true, false, cond}
+use mathlib.Core.List.{List, [], _∷_, _++_}
+use Prim.Native.Nat.{ℕ, _^_, _≤_, _<_}
+use native.Mathlib.Omega.{arith}
+use borrow.Author.Tests.{leb-true, eqb-true, eqb-false}
+use lib.Dec.{leb, eqb}
+use lib.ListN.{length, drop, getD}
+use Rattle.hermes.specs.declared.timestamp.Timestamp.{Timestamp}
+use Rattle.hermes.specs.declared.message.Message.{Message}
+use Rattle.hermes.specs.declared.message.Message.the-variants.{Inv, Ack, Val}
+use Rattle.packet_format.specs.declared.entry.Entry.{Entry}
+use Rattle.packet_format.specs.declared.entry.Fields.{Fields}
+use Rattle.packet_format.specs.Bytes.{window, Bytes}
+use Rattle.packet_format.specs.Entry.{fieldsOf, entryBytes, kindOf, timestampOf, messageOf, entryOf, fieldsFor, bodied, good, Fits}
+use Rattle.hermes.proofs.Tests.{both, is-false}
+use Rattle.packet_format.proofs.Width.{num-be, window-drop, be-window, window-lt}
+
+-- the fields fit their widths
+pub record Sized (f : Fields) : Type 0 where
+  pub epoch : f .epoch < 256 ^ 4
+  pub index : f .index < 256 ^ 2
+  pub version : f .version < 256 ^ 4
+  pub offset : f .offset < 256 ^ 2
+
+-- fields written are read
+pub fields-back : (f : Fields) (rest : List ℕ) → Sized f → fieldsOf (entryBytes f ++ rest) ≡ f
+unfolding entryBytes
+fields-back f rest s =
+    λ i.
+    record {
+      kind = f .kind;
+      sender = f .sender;
+      epoch = num-be 4 (f .epoch) (s .epoch) i;
+      index = num-be 2 (f .index) (s .index) i;
+      version = num-be 4 (f .version) (s .version) i;
+      tie = f .tie;
+      offset = num-be 2 (f .offset) (s .offset) i;
+      len = f .len;
+    }
+
+pub drop-entry : (f : Fields) (rest : List ℕ) → drop 16 (entryBytes f ++ rest) ≡ rest
+unfolding entryBytes
+drop-entry f rest = refl
+
+pub length-entry : (f : Fields) → length (entryBytes f) ≡ 16
+unfolding entryBytes
+length-entry f = refl
+
+-- 16 bytes from the four numbers among them, and what follows
+glue : List ℕ → List ℕ → List ℕ → List ℕ → List ℕ → List ℕ
+glue q a b c d = (getD q 0 0 ∷ getD q 1 0 ∷ a ++ b ++ c ++ getD q 12 0 ∷ d ++ getD q 15 0 ∷ []) ++ drop 16 q
+
+-- bytes read are written
+pub bytes-back : (q : List ℕ) → 16 ≤ length q → Bytes q → entryBytes (fieldsOf q) ++ drop 16 q ≡ q
+unfolding entryBytes glue
+bytes-back q h b =
+    let e : entryBytes (fieldsOf q) ++ drop 16 q ≡ window q 0 16 ++ drop 16 q =
+    λ i. glue q (be-window q 2 4 b i) (be-window q 6 2 b i) (be-window q 8 4 b i) (be-window q 13 2 b i) in
+    e ∙ sym (window-drop q 0 16 h)
+
+-- a message made into fields is read from them
+pub entry-back : (e : Entry) (at : ℕ) → entryOf (fieldsFor e at) ≡ e
+entry-back e at = λ i. record { header = e .header; message = go (e .message) i; len = e .len }
+  where
+    go : (m : Message) → messageOf (kindOf m) (timestampOf m) ≡ m
+    go (Inv t) = refl
+    go (Ack t) = refl
+    go (Val t) = refl
+
+-- what `good` tells that the laws use
+pub record Good (f : Fields) : Type 0 where
+  pub low : 1 ≤ f .kind
+  pub high : f .kind ≤ 3
+  pub sender : f .sender ≤ 15
+  pub tie : f .tie ≤ 15
+  pub index : f .index ≤ 4095
+  pub len : f .len ≤ 192
+
+pub good-parts : (f : Fields) → good f ≡ true → Good f
+unfolding good
+good-parts f h =
+    let s6 = both _ (bodied f) h in
+    let s5 = both _ (leb (f .len) 192) (s6 .0) in
+    let s4 = both _ (leb (f .index) 4095) (s5 .0) in
+    let s3 = both _ (leb (f .tie) 15) (s4 .0) in
+    let s2 = both _ (leb (f .sender) 15) (s3 .0) in
+    let s1 = both (leb 1 (f .kind)) (leb (f .kind) 3) (s2 .0) in
+    record {
+      low = leb-true _ _ (s1 .0);
+      high = leb-true _ _ (s1 .1);
+      sender = leb-true _ _ (s2 .1);
+      tie = leb-true _ _ (s3 .1);
+      index = leb-true _ _ (s4 .1);
+      len = leb-true _ _ (s5 .1);
+    }
+
+pub not-good : (f : Fields) → (Good f → ⊥) → false ≡ good f
+not-good f n = sym (is-false (good f) (λ h. n (good-parts f h)))
+
+-- an offset is no part of `good`
+pub good-offset : (e : Entry) (a b : ℕ) → good (fieldsFor e a) ≡ good (fieldsFor e b)
+unfolding good
+good-offset e a b = refl
+
+kind-back : (k : ℕ) (t : Timestamp) → 1 ≤ k → k ≤ 3 → kindOf (messageOf k t) ≡ k
+kind-back k t a b = go (eqb k 1) refl (eqb k 2) refl
+  where
+    go : (x : Bool) → eqb k 1 ≡ x → (y : Bool) → eqb k 2 ≡ y → kindOf (cond x (Inv t) (cond y (Ack t) (Val t))) ≡ k
+    go true e y f = sym (eqb-true k 1 e)
+    go false e true f = sym (eqb-true k 2 f)
+    go false e false f = omega (arith, a, b, eqb-false k 1 e, eqb-false k 2 f)
+
+stamp-back : (k : ℕ) (t : Timestamp) → timestampOf (messageOf k t) ≡ t
+stamp-back k t = go (eqb k 1) (eqb k 2)
+  where
+    go : (x y : Bool) → timestampOf (cond x (Inv t) (cond y (Ack t) (Val t))) ≡ t
+    go true y = refl
+    go false true = refl
+    go false false = refl
+
+-- fields of a known kind that a message is read from are its fields
+pub message-back : (f : Fields) (at : ℕ) → 1 ≤ f .kind → f .kind ≤ 3 → f .offset ≡ at → fieldsFor (entryOf f) at ≡ f
+message-back f at low high o =
+    let t : Timestamp = record { version = f .version; tie = f .tie } in
+    λ i.
+    record {
+      kind = kind-back (f .kind) t low high i;
+      sender = f .sender;
+      epoch = f .epoch;
+      index = f .index;
+      version = stamp-back (f .kind) t i .version;
+      tie = stamp-back (f .kind) t i .tie;
+      offset = sym o i;
+      len = f .len;
+    }
+
+-- what is read of bytes fits
+pub fits-read : (q : List ℕ) → Bytes q → Fits (entryOf (fieldsOf q))
+fits-read q b =
+    let f = fieldsOf q in
+    record {
+      epoch = window-lt q 2 4 b;
+      version = rw (stamp-back (f .kind) (record { version = f .version; tie = f .tie })) (window-lt q 8 4 b);
+    }
+
+pub sized : (e : Entry) (at : ℕ) → Fits e → good (fieldsFor e 0) ≡ true → at < 256 ^ 2 → Sized (fieldsFor e at)
+sized e at s g h =
+    record { epoch = s .epoch; index = omega (arith, good-parts (fieldsFor e 0) g); version = s .version; offset = h }

@@ -1,0 +1,130 @@
+-- The walk of the contents table turn by turn, and the answer of a fetch from its four questions.
+use mathlib.Core.Path.{_≡_, refl, sym, ap, _∙_}
+use mathlib.Core.Bool.{Bool, true, false, _&&_}
+use mathlib.Core.List.{List}
+use Prim.Native.Nat.{ℕ, zero, suc, _+_, _*_, _-_, _≤_, _<_}
+use native.Mathlib.Nat.{not-suc-le-zero, le-of-eq}
+use native.Mathlib.Numerals.{sub-one}
+use native.Mathlib.Omega.{arith}
+use borrow.Author.Tests.{eq-eqb, le-leb, lt-leb, lt-ltb, le-ltb, leb-true, eqb-true}
+use lib.Dec.{eqb, leb}
+use lib.ListN.{length, take, drop, getD, length-drop}
+use lib.Seq.{take-all, drop-drop}
+use Rattle.packet_format.specs.declared.entry.Fields.{Fields}
+use Rattle.packet_format.specs.declared.answer.Fetched.the-variants.{Found, Refused}
+use Rattle.packet_format.specs.Bytes.{num, window}
+use Rattle.packet_format.specs.Entry.{fieldsOf, entryOf, good}
+use Rattle.packet_format.specs.Reading.{countOf, entryAt, question20, question22, walk, fetchRefusal, fetchedAs, fetched, numberOf}
+use Rattle.hermes.proofs.Tests.{both}
+
+-- a part to the end is what is left after the start
+pub part-to-end : (p : List ℕ) (a : ℕ) → take (length p - a) (drop a p) ≡ drop a p
+part-to-end p a = take-all (length p - a) (drop a p) (le-of-eq (length-drop a p))
+
+walk-step : (left : ℕ) (q : List ℕ) (at total : ℕ) → 0 < left
+    → walk left q at total ≡ (good (fieldsOf q) && eqb (fieldsOf q .offset) at && walk (left - 1) (drop 16 q) (at + fieldsOf q .len) total)
+unfolding walk
+walk-step zero q at total h = absurd (not-suc-le-zero h)
+walk-step (suc n) q at total h = rw (sub-one (suc n))
+
+-- a turn over the entry at pos, whose fields f were read from the part that begins there: g is what `good` answered, b the turn's test
+pub turn : (p : List ℕ) (count k pos at total : ℕ) (f : Fields) (g b : Bool) → k < count → f ≡ fieldsOf (take (length p - pos) (drop pos p))
+    → g ≡ good f → (g && eqb (f .offset) at) ≡ b
+    → walk (count - k) (drop pos p) at total ≡ (b && walk (count - (k + 1)) (drop (pos + 16) p) (at + f .len) total)
+turn p count k pos at total f g b h ef eg eb =
+    let more : 0 < count - k = omega arith in
+    let less : count - k - 1 ≡ count - (k + 1) = omega arith in
+    walk-step (count - k) (drop pos p) at total more
+    ∙ ap (λ (x : Fields). good x && eqb (x .offset) at && walk (count - k - 1) (drop 16 (drop pos p)) (at + x .len) total) (sym (ef ∙ ap fieldsOf (part-to-end p pos)))
+    ∙ (λ i. sym eg i && eqb (f .offset) at && walk (less i) (drop-drop 16 pos p i) (at + f .len) total)
+    ∙ ap (λ (x : Bool). x && walk (count - (k + 1)) (drop (pos + 16) p) (at + f .len) total) eb
+
+walk-done : (left : ℕ) (q : List ℕ) (at total : ℕ) → left ≤ 0 → walk left q at total ≡ eqb at total
+unfolding walk
+walk-done zero q at total h = refl
+walk-done (suc n) q at total h = absurd (not-suc-le-zero h)
+
+-- after k entries: the next stands at pos, its body is to begin at `at`, and what is left to ask
+pub record Walked (p : List ℕ) (count k pos at : ℕ) : Type 0 where
+  pub below : k ≤ count
+  pub place : pos ≡ 4 + 16 * k
+  pub small : at + 255 * (count - k) ≤ 17348
+  pub rest : walk count (drop 4 p) (entryAt count) (length p) ≡ walk (count - k) (drop pos p) at (length p)
+
+-- the walk's end
+pub walked-all : (p : List ℕ) (count k pos at : ℕ) → Walked p count k pos at → count ≤ k → eqb at (length p) ≡ walk count (drop 4 p) (entryAt count) (length p)
+walked-all p count k pos at w h =
+    let none : count - k ≤ 0 = omega arith in
+    sym (w .rest ∙ walk-done (count - k) (drop pos p) at (length p) none)
+
+-- ---- question 20
+
+-- the parts of question 20
+pub record Header (p : List ℕ) : Type 0 where
+  pub long : 4 ≤ length p
+  pub first : getD p 0 0 ≡ 1
+  pub some : 1 ≤ countOf p
+  pub few : countOf p ≤ 64
+  pub total : num (window p 2 2) ≡ length p
+  pub short : length p ≤ 1400
+
+pub header : (p : List ℕ) → question20 p .yes ≡ true → Header p
+header p h =
+    let s5 = both _ (leb (length p) 1400) h in
+    let s4 = both _ (eqb (num (window p 2 2)) (length p)) (s5 .0) in
+    let s3 = both _ (leb (countOf p) 64) (s4 .0) in
+    let s2 = both _ (leb 1 (countOf p)) (s3 .0) in
+    let s1 = both (leb 4 (length p)) (eqb (getD p 0 0) 1) (s2 .0) in
+    record {
+      long = leb-true _ _ (s1 .0);
+      first = eqb-true _ _ (s1 .1);
+      some = leb-true _ _ (s2 .1);
+      few = leb-true _ _ (s3 .1);
+      total = eqb-true _ _ (s4 .1);
+      short = leb-true _ _ (s5 .1);
+    }
+
+pub header-yes : (p : List ℕ) → Header p → question20 p .yes ≡ true
+header-yes p h =
+    simp (le-leb _ _ (h .long), eq-eqb _ _ (h .first), le-leb _ _ (h .some), le-leb _ _ (h .few), eq-eqb _ _ (h .total), le-leb _ _ (h .short))
+
+-- the last five parts are asked once there are 4 bytes
+pub header-rest : (p : List ℕ) (total : ℕ) → 4 ≤ length p → total ≡ num (window p 2 2)
+    → (eqb (getD p 0 0) 1 && leb 1 (countOf p) && leb (countOf p) 64 && eqb total (length p) && leb (length p) 1400) ≡ question20 p .yes
+header-rest p total h e = simp (le-leb _ _ h, e)
+
+-- ---- the answer of a fetch
+
+module _ (p : List ℕ) (i : ℕ) where
+  pub fetch-20 : question20 p .yes ≡ false → Refused 20 ≡ fetched p i
+  unfolding fetched fetchRefusal
+  fetch-20 a = simp a
+
+  module _ (a : question20 p .yes ≡ true) where
+    pub fetch-21 : length p < entryAt (countOf p) → Refused 21 ≡ fetched p i
+    unfolding fetched fetchRefusal
+    fetch-21 b = simp (a, lt-leb _ _ b)
+
+    module _ (b : entryAt (countOf p) ≤ length p) where
+      pub fetch-22 : question22 p .yes ≡ false → Refused 22 ≡ fetched p i
+      unfolding fetched fetchRefusal
+      fetch-22 d = simp (a, le-leb _ _ b, d)
+
+      module _ (d : question22 p .yes ≡ true) where
+        pub fetch-23 : countOf p ≤ i → Refused 23 ≡ fetched p i
+        unfolding fetched fetchRefusal
+        fetch-23 e = simp (a, le-leb _ _ b, d, le-ltb _ _ e)
+
+        pub fetch-0 : i < countOf p → (f : Fields) → f ≡ fieldsOf (take (length p - entryAt i) (drop (entryAt i) p)) → Found (entryOf f) (f .offset) ≡ fetched p i
+        unfolding fetched fetchRefusal
+        fetch-0 l f e =
+            simp (a, le-leb _ _ b, d, lt-ltb _ _ l) (ap (λ (x : Fields). Found (entryOf x) (x .offset)) (e ∙ ap fieldsOf (part-to-end p (entryAt i))))
+
+-- the number of an answer is that of the first question that said no
+pub fetched-number : (p : List ℕ) (i : ℕ) → numberOf (fetched p i) ≡ fetchRefusal p i
+unfolding fetched
+fetched-number p i = go (fetchRefusal p i) (fieldsOf (drop (entryAt i) p))
+  where
+    go : (k : ℕ) (f : Fields) → numberOf (fetchedAs k f) ≡ k
+    go zero f = refl
+    go (suc k) f = refl

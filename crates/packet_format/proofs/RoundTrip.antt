@@ -1,0 +1,216 @@
+-- Demand 2 of packets: a packet written reads back as the same messages, and an accepted packet is the one that the writer makes of its messages.
+use mathlib.Core.Path.{_≡_, refl, sym, ap, _∙_}
+use mathlib.Core.Bool.{Bool, true, false, cond}
+use mathlib.Core.List.{List, _∷_, _++_}
+use Prim.Native.Nat.{ℕ, zero, suc, _+_, _*_, _^_, _≤_, _<_}
+use native.Mathlib.Omega.{arith}
+use borrow.Author.Tests.{leb-true}
+use lib.ListN.{length, take, drop, getD, length-drop, length-append}
+use lib.Seq.{drop-drop, drop-at, take-at, length-take-le}
+use Rattle.packet_format.specs.declared.entry.Entry.{Entry}
+use Rattle.packet_format.specs.declared.entry.Fields.{Fields}
+use Rattle.packet_format.specs.declared.answer.Fetched.the-variants.{Found, Refused}
+use Rattle.packet_format.specs.declared.answer.Written.the-variants.{Total}
+use Rattle.packet_format.specs.Bytes.{be, window, Bytes}
+use Rattle.packet_format.specs.Entry.{fieldsOf, fieldsFor, noEntry, AllFit}
+use Rattle.packet_format.specs.Reading.{countOf, entryAt, messagesIn, bodiesIn, question20, question21, question22, question23, walk, fetchRefusal, fetchedAs, fetched, bodyOf}
+use Rattle.packet_format.specs.Writing.{summed, contents, totalOf, encode, allGood, written, outputOf}
+use Rattle.packet_format.specs.RoundTrip.{ReadsBack, WrittenReadsBack, Rewritten, AcceptedIsWritten}
+use Rattle.packet_format.proofs.Width.{num-be, window-drop, be-window}
+use Rattle.packet_format.proofs.Writing.{Accepts, accepts, accepted, total-yes}
+use Rattle.packet_format.proofs.Reading.{part-to-end, Header, header, header-yes, fetch-23, fetch-0}
+use Rattle.packet_format.proofs.Entries.{entry-back}
+use Rattle.packet_format.proofs.Contents.{length-contents, length-entries, bytes-drop, fit-entries, walk-contents, entry-at, contents-walk}
+
+-- ---- what is written is read
+
+pub length-encode : (rule : ℕ) (es : List Entry) (bodies : List ℕ) → length (encode rule es bodies) ≡ totalOf (length es) bodies
+unfolding encode
+length-encode rule es bodies =
+    let h = length-append (contents (entryAt (length es)) es) bodies in
+    let t = length-contents es (entryAt (length es)) in
+    omega arith
+
+-- what the writer accepts, of the messages es that are written
+record Writable (es : List Entry) (bodies : List ℕ) : Type 0 where
+  good : allGood es ≡ true
+  some : 1 ≤ length es
+  few : length es ≤ 64
+  exact : summed es ≡ length bodies
+  short : totalOf (length es) bodies ≤ 1400
+
+module _ (es : List Entry) (bodies : List ℕ) (w : Writable es bodies) where
+  header-encode : Header (encode 1 es bodies)
+  unfolding encode
+  header-encode =
+      let n = length-encode 1 es bodies in
+      let t : totalOf (length es) bodies < 256 ^ 2 = omega (arith, w .short) in
+      record {
+        long = omega arith;
+        first = refl;
+        some = w .some;
+        few = w .few;
+        total = num-be 2 (totalOf (length es) bodies) t ∙ sym n;
+        short = omega (arith, w .short);
+      }
+
+  walk-encode : AllFit es → question22 (encode 1 es bodies) .yes ≡ true
+  unfolding encode
+  walk-encode s =
+      ap (walk (length es) (contents (entryAt (length es)) es ++ bodies) (entryAt (length es)))
+      (length-encode 1 es bodies ∙ ap (λ (k : ℕ). entryAt (length es) + k) (sym (w .exact)))
+      ∙ walk-contents es (entryAt (length es)) bodies s (w .good) (omega (arith, w .short, w .exact))
+
+count-encode : (rule : ℕ) (es : List Entry) (bodies : List ℕ) → countOf (encode rule es bodies) ≡ length es
+unfolding encode
+count-encode rule es bodies = refl
+
+-- behind the header of a written packet
+drop-header : (rule : ℕ) (es : List Entry) (bodies : List ℕ) (a : ℕ) → drop (4 + a) (encode rule es bodies) ≡ drop a (contents (entryAt (length es)) es ++ bodies)
+unfolding encode
+drop-header rule es bodies a = sym (drop-drop a 4 (encode rule es bodies))
+
+-- behind its contents table
+drop-contents : (rule : ℕ) (es : List Entry) (bodies : List ℕ) (a : ℕ) → drop (entryAt (length es) + a) (encode rule es bodies) ≡ drop a bodies
+drop-contents rule es bodies a =
+    sym (drop-drop a (entryAt (length es)) (encode rule es bodies))
+    ∙ ap (drop a)
+    (drop-header rule es bodies (16 * length es) ∙ drop-at (contents (entryAt (length es)) es) bodies (16 * length es) (length-contents es (entryAt (length es))))
+
+encode-reads-back : (es : List Entry) (bodies : List ℕ) → Writable es bodies → AllFit es → ReadsBack (encode 1 es bodies) es bodies
+unfolding encode
+encode-reads-back es bodies w s =
+    record {
+      message = message;
+      body = λ i l. ap (bodyOf p) (message i l) ∙ ap (take (getD es i noEntry .len)) (drop-contents 1 es bodies (summed (take i es)));
+      beyond = λ i l. sym (fetch-23 p i yes20 yes21 yes22 l);
+    }
+  where
+    p : List ℕ
+    p = encode 1 es bodies
+
+    yes20 : question20 p .yes ≡ true
+    yes20 = header-yes p (header-encode es bodies w)
+
+    yes21 : entryAt (countOf p) ≤ length p
+    yes21 = omega (arith, count-encode 1 es bodies, length-encode 1 es bodies)
+
+    yes22 : question22 p .yes ≡ true
+    yes22 = walk-encode es bodies w s
+
+    message : (i : ℕ) → i < length es → fetched p i ≡ Found (getD es i noEntry) (entryAt (length es) + summed (take i es))
+    message i l =
+        let at = entryAt (length es) + summed (take i es) in
+        let e = getD es i noEntry in
+        let f : fieldsOf (drop (entryAt i) p) ≡ fieldsFor e at =
+        ap fieldsOf (drop-header 1 es bodies (16 * i)) ∙ entry-at es i (entryAt (length es)) bodies s (w .good) (omega (arith, w .short, w .exact)) l in
+        sym (fetch-0 p i yes20 yes21 yes22 l (fieldsFor e at) (sym (ap fieldsOf (part-to-end p (entryAt i)) ∙ f))) ∙ ap (λ (x : Entry). Found x at) (entry-back e at)
+
+-- a packet written reads back as the same messages
+pub written-reads-back : WrittenReadsBack
+unfolding outputOf
+written-reads-back ms count bodies out n l s h =
+    let es = take count ms in
+    let t = total-yes ms count bodies (length out) n h in
+    let a = accepts ms count bodies (length out) (t .0) in
+    let k : length es ≡ count = length-take-le count ms l in
+    let m : length (encode 1 es bodies) ≡ n = length-encode 1 es bodies ∙ ap (λ (x : ℕ). totalOf x bodies) k ∙ t .1 in
+    let w : Writable es bodies =
+    record {
+      good = a .good;
+      some = omega (arith, a .some);
+      few = omega (arith, a .few);
+      exact = a .exact;
+      short = omega (arith, a .short);
+    } in
+    rw (take-at (encode 1 es bodies) (drop n out) n m) (encode-reads-back es bodies w s)
+
+-- ---- what is read is written
+
+-- the questions of a fetch that all said yes
+all-passed : (a b c d : Bool) → _≡_ {A = ℕ} (cond a (cond b (cond c (cond d 0 23) 22) 21) 20) 0 → (a ≡ true) × (b ≡ true) × (c ≡ true) × (d ≡ true)
+all-passed true true true true h = (refl, refl, refl, refl)
+all-passed true true true false h = absurd (omega (arith, h))
+all-passed true true false d h = absurd (omega (arith, h))
+all-passed true false c d h = absurd (omega (arith, h))
+all-passed false b c d h = absurd (omega (arith, h))
+
+found-zero : (k : ℕ) (f : Fields) (e : Entry) (at : ℕ) → fetchedAs k f ≡ Found e at → k ≡ 0
+found-zero zero f e at h = refl
+found-zero (suc k) f e at h = let z : _≡_ {A = ℕ} 0 1 = cc in absurd (omega arith)
+
+-- what an accepted fetch tells of its packet
+record Read (p : List ℕ) : Type 0 where
+  header : Header p
+  whole : entryAt (countOf p) ≤ length p
+  walked : question22 p .yes ≡ true
+
+read : (p : List ℕ) (i : ℕ) (e : Entry) (at : ℕ) → fetched p i ≡ Found e at → Read p
+unfolding fetched fetchRefusal
+read p i e at h =
+    let z = found-zero (fetchRefusal p i) (fieldsOf (drop (entryAt i) p)) e at h in
+    let s = all-passed (question20 p .yes) (question21 p .yes) (question22 p .yes) (question23 p i .yes) z in
+    record { header = header p (s .0); whole = leb-true _ _ (s .1); walked = s .2 }
+
+module _ (p : List ℕ) (b : Bytes p) (r : Read p) where
+  read-contents : (contents (entryAt (countOf p)) (messagesIn p) ++ drop (16 * countOf p) (drop 4 p) ≡ drop 4 p)
+      × (entryAt (countOf p) + summed (messagesIn p) ≡ length p)
+      × (allGood (messagesIn p) ≡ true)
+  read-contents =
+      contents-walk (countOf p) (drop 4 p) (entryAt (countOf p)) (length p) (simp length-drop (omega (arith, r .whole))) (bytes-drop 4 p b) (r .walked)
+
+  -- an accepted packet is that of its messages
+  encode-read : encode 1 (messagesIn p) (bodiesIn p) ≡ p
+  unfolding encode
+  encode-read =
+      let n = countOf p in
+      let es = messagesIn p in
+      let rest = bodiesIn p in
+      let k : length es ≡ n = length-entries n (drop 4 p) in
+      let two : be 2 (length p) ≡ window p 2 2 = ap (be 2) (sym (r .header .total)) ∙ be-window p 2 2 b in
+      let tail : contents (entryAt n) es ++ rest ≡ drop 4 p =
+      ap (λ (l : List ℕ). contents (entryAt n) es ++ l) (sym (drop-drop (16 * n) 4 p)) ∙ read-contents .0 in
+      let total : totalOf (length es) rest ≡ length p = omega (arith, length-drop (entryAt n) p, r .whole) in
+      let e1 : encode 1 es rest ≡ 1 ∷ n ∷ be 2 (length p) ++ contents (entryAt n) es ++ rest =
+      λ i. 1 ∷ k i ∷ be 2 (total i) ++ contents (entryAt (k i)) es ++ rest in
+      let e2 : 1 ∷ n ∷ be 2 (length p) ++ contents (entryAt n) es ++ rest ≡ window p 0 4 ++ drop 4 p =
+      λ i. sym (r .header .first) i ∷ n ∷ two i ++ tail i in
+      e1 ∙ e2 ∙ sym (window-drop p 0 4 (r .header .long))
+
+  writable-read : Writable (messagesIn p) (bodiesIn p)
+  writable-read =
+      let k = length-entries (countOf p) (drop 4 p) in
+      let d = length-drop (entryAt (countOf p)) p in
+      record {
+        good = read-contents .2;
+        some = omega (arith, r .header .some);
+        few = omega (arith, r .header .few);
+        exact = omega (arith, read-contents .1, r .whole);
+        short = omega (arith, r .header .short, r .whole);
+      }
+
+-- an accepted packet is the one that the writer makes of its messages
+pub accepted-is-written : AcceptedIsWritten
+unfolding outputOf
+accepted-is-written p i e at ms out b h same l =
+    let r = read p i e at h in
+    let n = countOf p in
+    let w = writable-read p b r in
+    let k : length (messagesIn p) ≡ n = length-entries n (drop 4 p) in
+    let d = length-drop (entryAt n) p in
+    let total : totalOf n (bodiesIn p) ≡ length p = omega (arith, r .whole) in
+    let a : Accepts ms n (bodiesIn p) (length out) =
+    record {
+      some = omega (arith, w .some);
+      few = omega (arith, w .few);
+      good = ap allGood same ∙ w .good;
+      exact = ap summed same ∙ w .exact;
+      short = omega (arith, w .short);
+      fits = omega (arith, l);
+    } in
+    let made = encode-read p b r in
+    record {
+      answer = accepted ms n (bodiesIn p) (length out) a ∙ ap Total total;
+      output = ap (λ (es : List Entry). encode 1 es (bodiesIn p) ++ drop (length p) out) same ∙ ap (λ (q : List ℕ). q ++ drop (length p) out) made;
+      reads = rw made at (encode-reads-back (messagesIn p) (bodiesIn p) w (fit-entries n (drop 4 p) (bytes-drop 4 p b)));
+    }

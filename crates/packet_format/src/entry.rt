@@ -1,0 +1,109 @@
+// The entries of a packet's contents table.
+ghost use mathlib.Core.Path.{_≡_};
+ghost use Prim.Native.Nat.{_≤_};
+ghost use lib.ListN.{length};
+ghost use Rattle.packet_format.specs.Entry.{fieldsOf, messageOf, entryOf, good};
+use crate::numbers::num2;
+use crate::numbers::num4;
+use hermes::Header;
+use hermes::Message;
+use hermes::Record;
+use hermes::Timestamp;
+
+// A message in a packet, and the length of its body.
+pub struct Entry {
+    pub header: Header,
+    pub message: Message,
+    pub len: u8,
+}
+
+// An entry's fields as numbers, in the order of their bytes.
+pub struct Fields {
+    pub kind: u8,
+    pub sender: u8,
+    pub epoch: u32,
+    pub index: usize,
+    pub version: u32,
+    pub tie: u8,
+    pub offset: usize,
+    pub len: u8,
+}
+
+impl Fields {
+    // The kinds: INV is the first, VAL the last.
+    pub const INV: u8 = 1;
+
+    pub const ACK: u8 = 2;
+
+    pub const VAL: u8 = 3;
+
+    // The greatest number of a record.
+    pub const INDEX_MAX: usize = 4095;
+
+    // The most bytes of a body.
+    pub const BODY_MAX: u8 = 192;
+
+    // Are the fields as question 22 asks, the offset aside?
+    pub fn good(self) -> bool
+        ensures { λ r. ⌜ r ≡ good self ⌝ }
+    {
+        (Self::INV <= self.kind)
+            & (self.kind <= Self::VAL)
+            & (self.sender <= Record::NUMBER_MAX)
+            & (self.tie <= Record::NUMBER_MAX)
+            & (self.index <= Self::INDEX_MAX)
+            & (self.len <= Self::BODY_MAX)
+            & ((self.kind == Self::INV) | (self.len == 0))
+    }
+}
+
+// The fields of the 16 bytes at the front of `bytes`.
+pub(crate) fn fields_of(bytes: &[u8]) -> Fields
+    requires { ⌜ 16 ≤ length (now bytes) ⌝ }
+    ensures { λ r. ⌜ r ≡ fieldsOf (now (bytes .entry)) ⌝ }
+{
+    Fields {
+        kind: bytes[0],
+        sender: bytes[1],
+        epoch: num4(bytes[2], bytes[3], bytes[4], bytes[5]),
+        index: num2(bytes[6], bytes[7]),
+        version: num4(bytes[8], bytes[9], bytes[10], bytes[11]),
+        tie: bytes[12],
+        offset: num2(bytes[13], bytes[14]),
+        len: bytes[15],
+    }
+}
+
+// The message of a known kind.
+fn message_of(kind: u8, timestamp: Timestamp) -> Message
+    ensures { λ r. ⌜ r ≡ messageOf kind timestamp ⌝ }
+{
+    if kind == Fields::INV {
+        return Message::Inv(timestamp);
+    }
+    if kind == Fields::ACK {
+        return Message::Ack(timestamp);
+    }
+    Message::Val(timestamp)
+}
+
+// The entry that fields stand for.
+pub(crate) fn entry_of(f: Fields) -> Entry
+    ensures { λ r. ⌜ r ≡ entryOf f ⌝ }
+{
+    let header = Header {
+        sender: f.sender,
+        epoch: f.epoch,
+        index: f.index,
+    };
+    let timestamp = Timestamp {
+        version: f.version,
+        tie: f.tie,
+    };
+    let message = message_of(f.kind, timestamp);
+    Entry {
+        header: header,
+        message: message,
+        len: f.len,
+    }
+}

@@ -1,0 +1,46 @@
+-- Question 22 may be asked of the words themselves: where it says yes they are the fields of the message that they stand for.
+use Prim.Native.Nat.{ℕ, _*_, _<_}
+use mathlib.Core.Path.{_≡_, refl, ap}
+use mathlib.Core.Bool.{Bool, true, false}
+use mathlib.Core.List.{List}
+use native.Mathlib.Omega.{arith}
+use borrow.Author.Tests.{le-ltb, ltb-true, ltb-false}
+use lib.Dec.{ltb}
+use lib.ListN.{getD}
+use Rattle.packet_format.specs.declared.entry.Fields.{Fields}
+use Rattle.packet_format.specs.Entry.{entryOf, fieldsFor, good, noEntry}
+use Rattle.packet_format.proofs.Entries.{good-parts, not-good, message-back}
+use Rattle.packet_words.specs.Words.{orUnfit, entryIn, fieldsAt, entryAt, entriesFrom}
+use Rattle.packet_words.proofs.Places.{message-at}
+
+-- question 22 says the same of the words and of their message
+good-fit : (f : Fields) → good (fieldsFor (entryIn f) 0) ≡ good f
+unfolding entryIn good
+good-fit f = go (ltb (f .kind) 1) (ltb 3 (f .kind)) (ltb 255 (f .sender)) (ltb 255 (f .tie)) (ltb 255 (f .len)) refl refl refl refl refl
+  where
+    go : (a b c d e : Bool) → ltb (f .kind) 1 ≡ a → ltb 3 (f .kind) ≡ b → ltb 255 (f .sender) ≡ c → ltb 255 (f .tie) ≡ d → ltb 255 (f .len) ≡ e
+        → good (fieldsFor (orUnfit a (orUnfit b (orUnfit c (orUnfit d (orUnfit e (entryOf f)))))) 0) ≡ good f
+    go true b c d e p q r s t = not-good f (λ g. omega (arith, ltb-true (f .kind) 1 p))
+    go false true c d e p q r s t = not-good f (λ g. omega (arith, ltb-true 3 (f .kind) q))
+    go false false true d e p q r s t = not-good f (λ g. omega (arith, ltb-true 255 (f .sender) r))
+    go false false false true e p q r s t = not-good f (λ g. omega (arith, ltb-true 255 (f .tie) s))
+    go false false false false true p q r s t = not-good f (λ g. omega (arith, ltb-true 255 (f .len) t))
+    go false false false false false p q r s t =
+        ap good (message-back f (f .offset) (ltb-false (f .kind) 1 p) (ltb-false 3 (f .kind) q) refl)
+
+-- where it says yes, words are the fields of their message
+fields-fit : (words : List ℕ) (w at : ℕ) → good (fieldsAt words w 0) ≡ true → fieldsFor (entryAt words w) at ≡ fieldsAt words w at
+unfolding entryIn
+fields-fit words w at h =
+    let f = fieldsAt words w at in
+    let g = good-parts (fieldsAt words w 0) h in
+    simp (le-ltb (f .kind) 1 (g .low), le-ltb 3 (f .kind) (g .high), le-ltb 255 (f .sender) (omega arith), le-ltb 255 (f .tie) (omega arith), le-ltb 255 (f .len) (omega arith))
+    (message-back f at (g .low) (g .high) refl)
+
+-- the same of message k of n, at its words
+module _ (n : ℕ) (words : List ℕ) (k : ℕ) (more : k < n) where
+  pub good-message : good (fieldsFor (getD (entriesFrom n 0 words) k noEntry) 0) ≡ good (fieldsAt words (7 * k) 0)
+  good-message = rw (message-at n words k more) (good-fit (fieldsAt words (7 * k) 0))
+
+  pub fields-message : (at : ℕ) → good (fieldsAt words (7 * k) 0) ≡ true → fieldsFor (getD (entriesFrom n 0 words) k noEntry) at ≡ fieldsAt words (7 * k) at
+  fields-message at g = rw (message-at n words k more) (fields-fit words (7 * k) at g)

@@ -1,0 +1,13 @@
+-- `play_game::cluster::Member::fresh` meets its contract.
+use borrow.Author.Needs.{needs}
+use Rattle.play_game.proofs.cluster.Member.fresh.Statement.{statement}
+use Rattle.play_game.proofs.cluster.Member.fresh.Tie as tie
+
+fresh-requires : tie.Need-fresh-requires
+fresh-requires c κs = search needs
+
+returns : tie.Need-returns
+returns c = rw (c .fresh .ensures)
+
+pub fresh-spec : {M : Type 1} → statement M
+fresh-spec = tie.close (tie.spec fresh-requires returns)

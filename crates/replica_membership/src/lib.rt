@@ -1,0 +1,68 @@
+// Membership: the fresh start of a replica, and its change of view.
+ghost use mathlib.Core.Path.{_≡_};
+ghost use Rattle.hermes.specs.Node.{admit, firstRecord, view, viewQuestions};
+ghost use Rattle.replica_guards.specs.Cascade.{asked};
+ghost use Rattle.replica_membership.specs.Admitted.{admissionBy};
+use replica_guards::Asked;
+use hermes::Admission;
+use hermes::Record;
+use hermes::Replica;
+
+// An admission, by what its questions answered.
+fn admission(a: Asked, me: Replica) -> Admission
+    ensures { λ r. ⌜ r ≡ admissionBy a me ⌝ }
+{
+    match a {
+        Asked::Refused(k) => Admission::Refused(k),
+        Asked::Passed(_) => Admission::Admitted(me),
+    }
+}
+
+// The record that a fresh start fills the table with.
+pub fn fresh_record(view: u16) -> Record
+    ensures { λ r. ⌜ r ≡ firstRecord view ⌝ }
+{
+    Record::fresh(replica_members::lowest(view))
+}
+
+// A fresh start with so many records and bytes of store: is it admitted?
+pub fn admit(number: u8, view: u16, count: usize, bytes: usize) -> Admission
+    ensures { λ a. ⌜ a ≡ admit number view count bytes ⌝ }
+{
+    let me = Replica {
+        number: number,
+        epoch: 0,
+        view: view,
+    };
+    admission(replica_guards::at_start(me, count, bytes, fresh_record(view)), me)
+}
+
+fn asks_view(me: Replica, epoch: u32, set: u16, r: Record) -> Asked
+    ensures { λ a. ⌜ a ≡ asked (viewQuestions me epoch set) r ⌝ }
+{
+    let a = replica_guards::question1(me, r);
+    let Asked::Passed(r1) = a else {
+        return a;
+    };
+    let b = replica_guards::question3(me, r1);
+    let Asked::Passed(r2) = b else {
+        return b;
+    };
+    let c = replica_guards::question18(me, epoch, r2);
+    let Asked::Passed(r3) = c else {
+        return c;
+    };
+    replica_guards::question19(me, set, r3)
+}
+
+// A change to this epoch and view. Its questions look at no record: a fresh one passes through them.
+pub fn view(me: Replica, epoch: u32, set: u16) -> Admission
+    ensures { λ a. ⌜ a ≡ view me epoch set ⌝ }
+{
+    let next = Replica {
+        number: me.number,
+        epoch: epoch,
+        view: set,
+    };
+    admission(asks_view(me, epoch, set, fresh_record(set)), next)
+}

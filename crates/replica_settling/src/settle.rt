@@ -1,0 +1,94 @@
+// Replay, validate and resend.
+ghost use mathlib.Core.Path.{_≡_};
+ghost use mathlib.Core.List.{[]};
+ghost use Rattle.hermes.specs.Order.{higher};
+ghost use Rattle.hermes.specs.Event.{common, own, moved, resent};
+ghost use Rattle.hermes.specs.declared.event.Event.the-variants.{Replay, Validate, Resend};
+ghost use Rattle.replica_guards.specs.Cascade.{asked};
+use replica_guards::Asked;
+use hermes::Message;
+use hermes::Moved;
+use hermes::Outgoing;
+use hermes::Record;
+use hermes::Replica;
+use hermes::State;
+use hermes::Timestamp;
+
+// A replay of record i, r.
+pub fn replay(me: Replica, count: usize, bytes: usize, i: usize, r: Record) -> Moved
+    ensures { λ m. ⌜ m ≡ moved higher me count bytes i r Replay [] ⌝ }
+{
+    let a = asks_replay(me, count, bytes, i, r);
+    let Asked::Passed(r1) = a else {
+        return replica_guards::stopped(a, r);
+    };
+    let t = r1.timestamp;
+    replica_outcome::accepted(replica_outgoing::send(me, i, Message::Inv(t)), r1.replay(me.number))
+}
+
+fn asks_replay(me: Replica, count: usize, bytes: usize, i: usize, r: Record) -> Asked
+    ensures { λ a. ⌜ a ≡ asked (common me count bytes i r (own me r Replay 0)) r ⌝ }
+{
+    let a = replica_guards::every(me, count, bytes, i, r);
+    let Asked::Passed(r1) = a else {
+        return a;
+    };
+    replica_guards::question16(me, r1)
+}
+
+// A validation of record i, r.
+pub fn validate(me: Replica, count: usize, bytes: usize, i: usize, r: Record) -> Moved
+    ensures { λ m. ⌜ m ≡ moved higher me count bytes i r Validate [] ⌝ }
+{
+    let a = asks_validate(me, count, bytes, i, r);
+    let Asked::Passed(r1) = a else {
+        return replica_guards::stopped(a, r);
+    };
+    let t = r1.timestamp;
+    replica_outcome::accepted(replica_outgoing::send(me, i, Message::Val(t)), r1.validate())
+}
+
+fn asks_validate(me: Replica, count: usize, bytes: usize, i: usize, r: Record) -> Asked
+    ensures { λ a. ⌜ a ≡ asked (common me count bytes i r (own me r Validate 0)) r ⌝ }
+{
+    let a = replica_guards::every(me, count, bytes, i, r);
+    let Asked::Passed(r1) = a else {
+        return a;
+    };
+    replica_guards::question15(me, r1)
+}
+
+// What is sent again of record i.
+fn again(me: Replica, i: usize, s: State, t: Timestamp) -> Outgoing
+    ensures { λ o. ⌜ o ≡ resent me i s t ⌝ }
+{
+    match s {
+        State::Valid => replica_outgoing::send(me, i, Message::Val(t)),
+        State::Invalid => Outgoing::None,
+        State::InvalidWrite => Outgoing::None,
+        State::Write => replica_outgoing::send(me, i, Message::Inv(t)),
+        State::Replay => replica_outgoing::send(me, i, Message::Inv(t)),
+    }
+}
+
+// A resend of what record i, r last sent.
+pub fn resend(me: Replica, count: usize, bytes: usize, i: usize, r: Record) -> Moved
+    ensures { λ m. ⌜ m ≡ moved higher me count bytes i r Resend [] ⌝ }
+{
+    let a = asks_resend(me, count, bytes, i, r);
+    let Asked::Passed(r1) = a else {
+        return replica_guards::stopped(a, r);
+    };
+    let s = r1.state;
+    replica_outcome::accepted(again(me, i, s, r1.timestamp), r1)
+}
+
+fn asks_resend(me: Replica, count: usize, bytes: usize, i: usize, r: Record) -> Asked
+    ensures { λ a. ⌜ a ≡ asked (common me count bytes i r (own me r Resend 0)) r ⌝ }
+{
+    let a = replica_guards::every(me, count, bytes, i, r);
+    let Asked::Passed(r1) = a else {
+        return a;
+    };
+    replica_guards::question17(me, r1)
+}
