@@ -16,7 +16,7 @@ use Rattle.hermes.specs.Node.{recordAt, effectOf, apply}
 use Rattle.replica_outcome.proofs.Outcomes.{quiet}
 use Rattle.export_numbers.specs.declared.numbers.CetskobiReplica.{CetskobiReplica}
 use Rattle.export_numbers.specs.declared.numbers.CetskobiAnswer.{CetskobiAnswer}
-use Rattle.export_numbers.specs.declared.numbers.CetskobiRead.{CetskobiRead}
+use Rattle.export_numbers.specs.declared.numbers.CetskobiReading.{CetskobiReading}
 use Rattle.export_numbers.specs.Crossing.{replicaOf, answerOut}
 use Rattle.export_records.specs.declared.reading.Found.{Found}
 use Rattle.export_records.specs.declared.reading.Found.the-variants.{Here}
@@ -72,7 +72,7 @@ part-read store i (suc k) n = no-part store i
 
 module _ (me : CetskobiReplica) (bytes : List ℕ) (i : ℕ) (who : Replica) (count : ℕ) (r : Record) (t : Taken me bytes i who count r) where
   -- a read: its number and its part
-  pub read-done : (store : List ℕ) (a : Answer) (part : List ℕ) (p : CetskobiRead)
+  pub read-done : (store : List ℕ) (a : Answer) (part : List ℕ) (p : CetskobiReading)
       → a ≡ moved higher who count (length store) i r event.Read [] .answer → p .number ≡ numberOf a
       → part ≡ readPart who count i r store → p .len ≡ length part → ReadDone (nodeOf me bytes store) i p
   unfolding apply readPart

@@ -10,7 +10,7 @@ use Rattle.hermes.specs.Event.{moved, numberOf}
 use Rattle.hermes.specs.Node.{Node, lent, effectOf, apply, read}
 use Rattle.export_numbers.specs.declared.numbers.CetskobiReplica.{CetskobiReplica}
 use Rattle.export_numbers.specs.declared.numbers.CetskobiAnswer.{CetskobiAnswer}
-use Rattle.export_numbers.specs.declared.numbers.CetskobiRead.{CetskobiRead}
+use Rattle.export_numbers.specs.declared.numbers.CetskobiReading.{CetskobiReading}
 use Rattle.export_numbers.specs.Crossing.{replicaOf, answerOut}
 use Rattle.export_events.specs.Leaving.{PartAt}
 use Rattle.export_records.specs.Layout.{unsound, countOf, tableOf, bytesAfter, tableAfter}
@@ -37,6 +37,6 @@ pub record Done (n : Node) (before : List ℕ) (i : ℕ) (e : Event) (v : List �
   pub store : store′ ≡ apply higher n i e v .node .store
 
 -- 01, Read: its number, and the value as that part of the store that begins at 192 times the record's number; of a refused read the empty part
-pub record ReadDone (n : Node) (i : ℕ) (p : CetskobiRead) : Type 0 where
+pub record ReadDone (n : Node) (i : ℕ) (p : CetskobiReading) : Type 0 where
   pub number : p .number ≡ numberOf (apply higher n i Read [] .answer)
   pub part : PartAt (n .store) i (read n i) (p .len)

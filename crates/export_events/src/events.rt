@@ -6,10 +6,10 @@ ghost use Rattle.export_numbers.specs.Crossing.{receivedIn};
 ghost use Rattle.export_events.specs.Events.{nodeOf, missing, Finished, Done, ReadDone};
 use export_numbers::CetskobiAnswer;
 use export_numbers::CetskobiMessage;
-use export_numbers::CetskobiRead;
+use export_numbers::CetskobiReading;
 use export_numbers::CetskobiReplica;
-use hermes::Moved;
 use export_records::Found;
+use hermes::Moved;
 
 // The end of an event on record i: its answer, and the bytes of the table.
 fn finish(table: &mut [u8], i: usize, m: Moved) -> CetskobiAnswer
@@ -141,7 +141,7 @@ pub extern "C" fn cetskobi_read(
     table: &[u8],
     store: &[u8],
     i: usize,
-) -> CetskobiRead
+) -> CetskobiReading
     ensures { λ p. ⌜ ReadDone (nodeOf me (now (table .entry)) (now (store .entry))) i p ⌝ }
 {
     let who = export_numbers::replica_of(me);
@@ -150,7 +150,7 @@ pub extern "C" fn cetskobi_read(
     let answer = replica_reading::read_number(who, count, store.len(), i, r);
     let number = export_numbers::number_out(answer);
     let part = replica_reading::read(who, count, i, r, store);
-    CetskobiRead {
+    CetskobiReading {
         number: number,
         len: part.len(),
     }

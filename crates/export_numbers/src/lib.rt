@@ -5,7 +5,7 @@ mod packets;
 pub use numbers::CetskobiAdmission;
 pub use numbers::CetskobiAnswer;
 pub use numbers::CetskobiMessage;
-pub use numbers::CetskobiRead;
+pub use numbers::CetskobiReading;
 pub use numbers::CetskobiReplica;
 pub use numbers::admission_out;
 pub use numbers::answer_out;

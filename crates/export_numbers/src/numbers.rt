@@ -39,7 +39,7 @@ pub struct CetskobiMessage {
 
 // The answer to a read: 0 or the number of the question that said no, and how many bytes of the store are the value.
 #[repr(C)]
-pub struct CetskobiRead {
+pub struct CetskobiReading {
     pub number: u8,
     pub len: usize,
 }

@@ -1,10 +1,13 @@
 -- What the exported functions say of a kind is what hermes says of the message that left: who gets it, and the bytes that it takes along.
-use Prim.Native.Nat.{ℕ, zero, suc}
-use mathlib.Core.Path.{_≡_, refl, ap}
-use mathlib.Core.Bool.{Bool, true, false, cond}
+use Prim.Native.Nat.{ℕ, zero, suc, _+_, _*_, _/_, _<_, _≤_}
+use mathlib.Core.Path.{_≡_, refl, sym, ap, _∙_}
+use mathlib.Core.Bool.{Bool, true, false, cond, not, _&&_, _||_}
 use mathlib.Core.List.{List}
-use lib.Dec.{eqb, ltb}
-use lib.ListN.{length}
+use native.Mathlib.Omega.{arith}
+use lib.Dec.{eqb, ltb, leb}
+use lib.ListN.{length, take, drop, length-drop}
+use lib.Seq.{length-take-le}
+use borrow.Author.Tests.{ltb-true, leb-true, le-leb, lt-ltb, le-ltb}
 use Rattle.hermes.specs.declared.timestamp.Timestamp.{Timestamp}
 use Rattle.hermes.specs.declared.record.Record.{Record}
 use Rattle.hermes.specs.declared.record.State.{State}
@@ -23,12 +26,21 @@ use Rattle.hermes.specs.Order.{higher, later}
 use Rattle.hermes.specs.Store.{valueAt}
 use Rattle.hermes.specs.Event.{leavingBody, recipients, sentBy, send, Step, step, movedBy, deliverStep, invStep, resent, refusal, effect}
 use Rattle.hermes.specs.Node.{Node, recordAt, recordOf, leaving, apply}
-use Rattle.export_records.specs.Layout.{tableOf}
+use Rattle.export_records.specs.Layout.{countOf, tableOf}
+use Rattle.export_records.proofs.Lent.{length-table}
 use Rattle.export_numbers.specs.declared.numbers.CetskobiAnswer.{CetskobiAnswer}
 use Rattle.export_numbers.specs.Crossing.{answerOut}
-use Rattle.export_events.specs.Leaving.{leftOf, cameFrom, recipientsOf, bodyOf, Delivered, PartAt}
+use Rattle.hermes.specs.declared.message.Outgoing.{Outgoing}
+use Rattle.hermes.specs.Order.{sameTimestamp}
+use Rattle.hermes.specs.Node.{Outcome}
+use Rattle.hermes.proofs.Tests.{both}
+use Rattle.hermes.proofs.Order.{equal-same}
+use Rattle.hermes.proofs.Guards.{slot-fits}
+use Rattle.hermes.proofs.Apply.{Applied, refused, accepted, applied, first-five, sound-step, stepOf, done}
+use Rattle.export_outgoing.specs.Leaving.{leftOf, cameFrom, recipientsOf, Delivered, along, stampOf, holds, alongOf, AlongAt}
+use Rattle.export_events.specs.Leaving.{PartAt}
 use Rattle.export_events.specs.Events.{Done}
-use Rattle.export_events.proofs.Parts.{cut, no-part}
+use Rattle.export_events.proofs.Parts.{no-part}
 
 -- ---- the kinds that the code tells apart
 
@@ -46,9 +58,13 @@ to-others me sender true val = refl
 to-others me sender false true = refl
 to-others me sender false false = refl
 
+-- so many bytes of a record whose 192 are there
+whole : (store : List ℕ) (i n : ℕ) → n ≤ 192 → i < length store / 192 → PartAt store i (valueAt i n store) n
+whole store i n a b = record { len = sym (length-take-le n (drop (192 * i) store) (simp length-drop (omega arith))); part = refl }
+
 -- what is no INV takes nothing along
-pub nothing-along : (bytes store : List ℕ) (i kind : ℕ) → eqb kind 1 ≡ false → PartAt store i (bodyOf bytes store i kind) 0
-nothing-along bytes store i kind h = rw h (go (eqb kind 0) (ltb 3 kind) (eqb kind 2) (eqb kind 3))
+pub nothing-along : (bytes store : List ℕ) (i : ℕ) (left : CetskobiAnswer) → eqb (left .kind) 1 ≡ false → AlongAt store i (alongOf bytes store i left) 0
+nothing-along bytes store i left h = rw h (go (eqb (left .kind) 0) (ltb 3 (left .kind)) (eqb (left .kind) 2) (eqb (left .kind) 3))
   where
     go : (none unknown ack val : Bool)
         → PartAt store i (leavingBody (cond none None (cond unknown None (Sent (cond false (Inv stamp) (cond ack (Ack stamp) (cond val (Val stamp) (Val beyond)))) (record { sender = 0; epoch = 0; index = i })))) (recordAt (tableOf bytes) i) store) 0
@@ -58,10 +74,35 @@ nothing-along bytes store i kind h = rw h (go (eqb kind 0) (ltb 3 kind) (eqb kin
     go false false false true = no-part store i
     go false false false false = no-part store i
 
--- an INV takes its record's part of the store along
-pub part-left : (bytes store : List ℕ) (i kind : ℕ) (r : Record) (part : List ℕ) → kind ≡ 1 → r ≡ recordAt (tableOf bytes) i → part ≡ valueAt i (r .len) store
-    → PartAt store i (bodyOf bytes store i kind) (length part)
-part-left bytes store i kind r part hk hr hp = rw (hk, hp, hr) (cut store i (recordAt (tableOf bytes) i .len))
+-- ---- an INV: the record at its number, r, and whether that holds its text
+
+module _ (bytes store : List ℕ) (i : ℕ) (left : CetskobiAnswer) (inv : left .kind ≡ 1) where
+  pub text-gone : holds (tableOf bytes) store i (stampOf left) ≡ false → AlongAt store i (alongOf bytes store i left) 18446744073709551615
+  text-gone h = rw (inv, h)
+
+  pub past-end : countOf (length bytes) ≤ i → AlongAt store i (alongOf bytes store i left) 18446744073709551615
+  past-end h = text-gone (rw (length-table bytes, le-ltb _ _ h))
+
+  module _ (r : Record) (below : i < countOf (length bytes)) (er : r ≡ recordAt (tableOf bytes) i) where
+    inside : ltb i (length (tableOf bytes)) ≡ true
+    inside = rw (length-table bytes) (lt-ltb _ _ below)
+
+    -- the test of the code
+    test : (same : Bool) → same ≡ sameTimestamp (stampOf left) (r .timestamp)
+        → holds (tableOf bytes) store i (stampOf left) ≡ (same && (leb (r .len) 192 && ltb i (length store / 192)))
+    test same e = rw (inside, e, er)
+
+    pub text-here : (same : Bool) → same ≡ sameTimestamp (stampOf left) (r .timestamp) → (same && (leb (r .len) 192 && ltb i (length store / 192))) ≡ true
+        → AlongAt store i (alongOf bytes store i left) (r .len)
+    text-here same e h =
+        let (a, b) = both same (leb (r .len) 192 && ltb i (length store / 192)) h in
+        let (c, d) = both (leb (r .len) 192) (ltb i (length store / 192)) b in
+        let p : PartAt store i (valueAt i (r .len) store) (r .len) = whole store i (r .len) (leb-true _ _ c) (ltb-true _ _ d) in
+        rw (inv, test same e ∙ h, ← er) p
+
+    pub not-here : (same : Bool) → same ≡ sameTimestamp (stampOf left) (r .timestamp) → (same && (leb (r .len) 192 && ltb i (length store / 192))) ≡ false
+        → AlongAt store i (alongOf bytes store i left) 18446744073709551615
+    not-here same e h = text-gone (test same e ∙ h)
 
 -- ---- what left an event
 
@@ -110,17 +151,72 @@ module _ (me : Replica) (i sender : ℕ) where
   answers zero r e s h = h
   answers (suc k) r e s h = (refl, λ table store. refl)
 
+-- ---- the text of what left is held by the record that its event left
+
+-- an INV has its record's timestamp
+abbrev Stamped : Outgoing → Record → Type 0
+Stamped None r = Unit
+Stamped (Sent (Inv t) h) r = t ≡ r .timestamp
+Stamped (Sent (Ack t) h) r = Unit
+Stamped (Sent (Val t) h) r = Unit
+
+module _ (me : Replica) (i : ℕ) (r : Record) (v : List ℕ) where
+  again-stamped : (s : State) → Stamped (resent me i s (r .timestamp)) r
+  again-stamped state.Valid = tt
+  again-stamped state.Invalid = tt
+  again-stamped state.InvalidWrite = tt
+  again-stamped state.Write = refl
+  again-stamped state.Replay = refl
+
+  delivered-stamped : (sender : ℕ) (x : Message) → Stamped (deliverStep higher me i r sender x v .sent) (deliverStep higher me i r sender x v .after)
+  delivered-stamped sender (Inv t) = go (later higher t (r .timestamp))
+    where
+      go : (b : Bool) → Stamped (invStep b me i r t sender v .sent) (invStep b me i r t sender v .after)
+      go true = tt
+      go false = tt
+  delivered-stamped sender (Ack t) = tt
+  delivered-stamped sender (Val t) = tt
+
+  stamped : (e : Event) → Stamped (step higher me i r e v .sent) (step higher me i r e v .after)
+  stamped Read = tt
+  stamped Write = refl
+  stamped Replay = refl
+  stamped (Deliver m) = delivered-stamped (m .sender) (m .message)
+  stamped Validate = tt
+  stamped Resend = again-stamped (r .state)
+
+-- what left is no INV, or the memory holds its text
+abbrev Held : Answer → ℕ → List Record → List ℕ → Type 0
+Held a i table store = (not (eqb (answerOut a .kind) 1) || holds table store i (stampOf (answerOut a))) ≡ true
+
+held : (o : Outgoing) (i : ℕ) (table : List Record) (store : List ℕ) (r : Record) → Stamped o r → recordAt table i ≡ r → i < length table → r .len ≤ 192 → 192 * i + 192 ≤ length store
+    → Held (Accepted o) i table store
+held None i table store r s e a b c = refl
+held (Sent (Inv t) h) i table store r s e a b c =
+    let room : i < length store / 192 = omega arith in
+    let short : recordAt table i .len ≤ 192 = rw e b in
+    let same : t ≡ recordAt table i .timestamp = s ∙ ap (λ (x : Record). x .timestamp) (sym e) in
+    rw (lt-ltb _ _ a, equal-same t (recordAt table i .timestamp) same, le-leb _ _ short, lt-ltb _ _ room)
+held (Sent (Ack t) h) i table store r s e a b c = refl
+held (Sent (Val t) h) i table store r s e a b c = refl
+
+holding : (n : Node) (i : ℕ) (e : Event) (v : List ℕ) (o : Outcome) → Applied higher n i e v o → Held (o .answer) i (o .node .table) (o .node .store)
+holding n i e v o (refused k z p) = rw p
+holding n i e v o (accepted y c p) =
+    let f = first-five n i e v y in
+    rw p (held (stepOf higher n i e v .sent) i (done n i (stepOf higher n i e v) .table) (done n i (stepOf higher n i e v) .store) (stepOf higher n i e v .after) (stamped (n .me) i (recordOf i n) v e) (c .here) (rw (c .count) (f .inside)) (sound-step higher n i e v y .after .short) (rw (c .room) (slot-fits f)))
+
 module _ (n : Node) (i : ℕ) (e : Event) (v : List ℕ) (sender : ℕ) (d : Delivered e sender) where
-  applied : Tells (n .me) e sender i (apply higher n i e v .answer)
+  told : Tells (n .me) e sender i (apply higher n i e v .answer)
   unfolding apply effect
-  applied =
+  told =
       answers (n .me) i sender (refusal (n .me) (length (n .table)) (length (n .store)) i (recordOf i n) e (length v)) (recordOf i n) e (step higher (n .me) i (recordOf i n) e v) (steps (n .me) i sender (recordOf i n) e v d)
 
-  module _ (before : List ℕ) (a : CetskobiAnswer) (bytes′ store′ : List ℕ) (done : Done n before i e v a bytes′ store′) where
+  module _ (before : List ℕ) (a : CetskobiAnswer) (bytes′ store′ : List ℕ) (d′ : Done n before i e v a bytes′ store′) where
     -- cetskobi_recipients, asked with an event's answer, gives those who get what left it
     pub recipients-after : recipientsOf (n .me) (a .kind) sender ≡ recipients (n .me) e (sentBy (apply higher n i e v .answer))
-    recipients-after = rw (done .answer) (applied .0)
+    recipients-after = rw (d′ .answer) (told .0)
 
     -- cetskobi_body, asked with an event's answer on the memory that the event left, gives the bytes that what left it takes along
-    pub body-after : bodyOf bytes′ store′ i (a .kind) ≡ leaving (sentBy (apply higher n i e v .answer)) (apply higher n i e v .node .table) (apply higher n i e v .node .store)
-    body-after = rw (done .answer, done .table, done .store) (applied .1 (apply higher n i e v .node .table) (apply higher n i e v .node .store))
+    pub body-after : alongOf bytes′ store′ i a ≡ along (leaving (sentBy (apply higher n i e v .answer)) (apply higher n i e v .node .table) (apply higher n i e v .node .store))
+    body-after = rw (d′ .answer, d′ .table, d′ .store, holding n i e v (apply higher n i e v) (applied higher n i e v)) (ap along (told .1 (apply higher n i e v .node .table) (apply higher n i e v .node .store)))

@@ -1,8 +1,14 @@
 // What leaves an event, for C and Rust: who gets it, and the bytes that it takes along.
 ghost use mathlib.Core.Path.{_≡_};
 ghost use Rattle.export_numbers.specs.Crossing.{replicaOf};
-ghost use Rattle.export_events.specs.Leaving.{recipientsOf, bodyOf, PartAt};
+ghost use Rattle.export_outgoing.specs.Leaving.{recipientsOf, alongOf, AlongAt};
+use export_numbers::CetskobiAnswer;
 use export_numbers::CetskobiReplica;
+use hermes::Record;
+use hermes::Timestamp;
+
+// The length of a text that is gone. No value has it, and no packet takes it.
+const GONE: usize = 18446744073709551615;
 
 // Who gets a message of this kind: bit n for replica n. Only an ACK asks the sender of the message that was delivered; of an unknown kind it is nobody.
 #[no_mangle]
@@ -21,15 +27,27 @@ pub extern "C" fn cetskobi_recipients(me: CetskobiReplica, kind: u8, sender: u8)
     replica_members::without(me.view, me.number)
 }
 
-// How many bytes at 192 times i a message of this kind about record i takes along, out of the memory that its event left.
+// How many bytes at 192 times i the message that left an event on record i takes along; GONE where the record holds that text no longer.
 #[no_mangle]
-pub extern "C" fn cetskobi_body(table: &[u8], store: &[u8], i: usize, kind: u8) -> usize
-    ensures { λ n. ⌜ PartAt (now (store .entry)) i (bodyOf (now (table .entry)) (now (store .entry)) i kind) n ⌝ }
+pub extern "C" fn cetskobi_body(table: &[u8], store: &[u8], i: usize, left: CetskobiAnswer) -> usize
+    ensures { λ n. ⌜ AlongAt (now (store .entry)) i (alongOf (now (table .entry)) (now (store .entry)) i left) n ⌝ }
 {
-    if kind != 1 {
+    if left.kind != 1 {
         return 0;
     }
+    if export_records::count(table.len()) <= i {
+        return GONE;
+    }
     let r = export_records::record_at(table, i);
-    let part = replica_outgoing::part(store, i, r.len as usize);
-    part.len()
+    let t = Timestamp {
+        version: left.version,
+        tie: left.tie,
+    };
+    let len = r.len as usize;
+    let same = t.same(r.timestamp);
+    let whole = (len <= Record::VALUE_MAX) & (i < store.len() / Record::VALUE_MAX);
+    if same & whole {
+        return len;
+    }
+    GONE
 }

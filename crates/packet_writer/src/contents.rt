@@ -10,9 +10,9 @@ ghost use Rattle.packet_format.specs.Writing.{contents, allGood};
 ghost use Rattle.packet_words.specs.Words.{fieldsAt, entriesFrom};
 use crate::output::put2;
 use crate::output::put4;
-use packet_words::WORDS;
 use packet_format::ENTRY_BYTES;
 use packet_format::HEADER_BYTES;
+use packet_words::WORDS;
 
 // The 16 bytes of a good message's entry, whose body begins at `at`.
 // Each word is read just before it is stored: the compiler then makes one store of its bytes.

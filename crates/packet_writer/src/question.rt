@@ -5,9 +5,9 @@ ghost use lib.ListN.{length};
 ghost use Rattle.packet_format.specs.Entry.{good};
 ghost use Rattle.packet_words.specs.Words.{fieldsAt, entriesFrom};
 ghost use Rattle.packet_writer.specs.Asking.{asked};
-use packet_words::WORDS;
 use hermes::Record;
 use packet_format::Fields;
+use packet_words::WORDS;
 
 // Passed with the summed length of the bodies, or refused.
 pub(crate) enum Asked {

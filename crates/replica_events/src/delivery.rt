@@ -8,7 +8,6 @@ ghost use Rattle.hermes.specs.Event.{common, own, effect, decide, invStep};
 ghost use Rattle.hermes.specs.Guards.{question10, question11, question12};
 ghost use Rattle.hermes.specs.declared.event.Event.the-variants.{Deliver};
 ghost use Rattle.replica_guards.specs.Cascade.{asked};
-use replica_guards::Asked;
 use hermes::Message;
 use hermes::Moved;
 use hermes::Outgoing;
@@ -16,6 +15,7 @@ use hermes::Received;
 use hermes::Record;
 use hermes::Replica;
 use hermes::Timestamp;
+use replica_guards::Asked;
 
 // The questions of every message: 1 to 5, and 10 to 12.
 fn asks_any(

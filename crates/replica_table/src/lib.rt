@@ -6,9 +6,9 @@ mod starting;
 
 pub use events::apply;
 pub use leaving::body;
-pub use replica_membership::view;
-pub use replica_outgoing::recipients;
 pub use reading::read;
 pub use reading::read_number;
+pub use replica_membership::view;
+pub use replica_outgoing::recipients;
 pub use starting::start;
 pub use starting::zero;
