@@ -7,7 +7,7 @@ ghost use Rattle.hermes.specs.Order.{higher, later};
 ghost use Rattle.hermes.specs.Event.{common, own, effect, decide, invStep};
 ghost use Rattle.hermes.specs.Guards.{question10, question11, question12};
 ghost use Rattle.hermes.specs.declared.event.Event.the-variants.{Deliver};
-ghost use Rattle.replica_guards.specs.Cascade.{asked};
+ghost use Rattle.replica_asking.specs.Cascade.{asked};
 use hermes::Message;
 use hermes::Moved;
 use hermes::Outgoing;
@@ -15,7 +15,7 @@ use hermes::Received;
 use hermes::Record;
 use hermes::Replica;
 use hermes::Timestamp;
-use replica_guards::Asked;
+use replica_asking::Asked;
 
 // The questions of every message: 1 to 5, and 10 to 12.
 fn asks_any(
@@ -29,7 +29,7 @@ fn asks_any(
 ) -> Asked
     ensures { λ a. ⌜ a ≡ asked (common me count bytes i r (question10 me m ∷ question11 me m ∷ question12 m n ∷ [])) r ⌝ }
 {
-    let a = replica_guards::every(me, count, bytes, i, r);
+    let a = replica_asking::every(me, count, bytes, i, r);
     let Asked::Passed(r1) = a else {
         return a;
     };
@@ -101,7 +101,7 @@ pub fn deliver(
 {
     let a = asks(me, count, store.len(), i, r, m, value.len());
     let Asked::Passed(r1) = a else {
-        return replica_guards::stopped(a, r);
+        return replica_asking::stopped(a, r);
     };
     let message = m.message;
     match message {

@@ -3,17 +3,17 @@ ghost use mathlib.Core.Path.{_≡_};
 ghost use Rattle.hermes.specs.Order.{higher};
 ghost use Rattle.hermes.specs.Event.{common, own, effect};
 ghost use Rattle.hermes.specs.declared.event.Event.the-variants.{Write};
-ghost use Rattle.replica_guards.specs.Cascade.{asked};
+ghost use Rattle.replica_asking.specs.Cascade.{asked};
 use hermes::Message;
 use hermes::Moved;
 use hermes::Record;
 use hermes::Replica;
-use replica_guards::Asked;
+use replica_asking::Asked;
 
 fn asks(me: Replica, count: usize, bytes: usize, i: usize, r: Record, n: usize) -> Asked
     ensures { λ a. ⌜ a ≡ asked (common me count bytes i r (own me r Write n)) r ⌝ }
 {
-    let a = replica_guards::every(me, count, bytes, i, r);
+    let a = replica_asking::every(me, count, bytes, i, r);
     let Asked::Passed(r1) = a else {
         return a;
     };
@@ -42,7 +42,7 @@ pub fn write(
 {
     let a = asks(me, count, store.len(), i, r, value.len());
     let Asked::Passed(r1) = a else {
-        return replica_guards::stopped(a, r);
+        return replica_asking::stopped(a, r);
     };
     replica_outcome::place(store, i, value);
     let next = r1.write(me.number, value.len() as u8);

@@ -13,7 +13,7 @@ use Rattle.hermes.specs.Guards.{Question, firstNo}
 use Rattle.hermes.specs.Node.{admissionOf}
 use Rattle.hermes.proofs.Tests.{both}
 use Rattle.hermes.proofs.Guards.{positive}
-use Rattle.replica_guards.specs.Cascade.{asked, next}
+use Rattle.replica_asking.specs.Cascade.{asked, next}
 use Rattle.replica_membership.specs.Admitted.{admissionBy}
 
 refused-admission : (k : ℕ) (me : Replica) → 0 < k → admission.Refused k ≡ admissionOf k me

@@ -3,8 +3,8 @@
 use Rattle.hermes.specs.declared.event.Replica.{Replica}
 use Rattle.hermes.specs.declared.event.Admission.{Admission}
 use Rattle.hermes.specs.declared.event.Admission.the-variants as admission
-use Rattle.replica_guards.specs.declared.Asked.{Asked}
-use Rattle.replica_guards.specs.declared.Asked.the-variants.{Passed, Refused}
+use Rattle.replica_asking.specs.declared.Asked.{Asked}
+use Rattle.replica_asking.specs.declared.Asked.the-variants.{Passed, Refused}
 
 -- an admission: the identity after a yes to every question, the number after a no
 abbrev pub admissionBy : Asked → Replica → Admission

@@ -1,12 +1,12 @@
 // Membership: the fresh start of a replica, and its change of view.
 ghost use mathlib.Core.Path.{_≡_};
 ghost use Rattle.hermes.specs.Node.{admit, firstRecord, view, viewQuestions};
-ghost use Rattle.replica_guards.specs.Cascade.{asked};
+ghost use Rattle.replica_asking.specs.Cascade.{asked};
 ghost use Rattle.replica_membership.specs.Admitted.{admissionBy};
 use hermes::Admission;
 use hermes::Record;
 use hermes::Replica;
-use replica_guards::Asked;
+use replica_asking::Asked;
 
 // An admission, by what its questions answered.
 fn admission(a: Asked, me: Replica) -> Admission
@@ -35,7 +35,7 @@ pub fn admit(number: u8, view: u16, count: usize, bytes: usize) -> Admission
         view: view,
     };
     admission(
-        replica_guards::at_start(me, count, bytes, fresh_record(view)),
+        replica_asking::at_start(me, count, bytes, fresh_record(view)),
         me,
     )
 }
@@ -43,11 +43,11 @@ pub fn admit(number: u8, view: u16, count: usize, bytes: usize) -> Admission
 fn asks_view(me: Replica, epoch: u32, set: u16, r: Record) -> Asked
     ensures { λ a. ⌜ a ≡ asked (viewQuestions me epoch set) r ⌝ }
 {
-    let a = replica_guards::question1(me, r);
+    let a = replica_asking::question1(me, r);
     let Asked::Passed(r1) = a else {
         return a;
     };
-    let b = replica_guards::question3(me, r1);
+    let b = replica_asking::question3(me, r1);
     let Asked::Passed(r2) = b else {
         return b;
     };

@@ -12,10 +12,10 @@ use Rattle.hermes.specs.declared.event.Event.the-variants.{Read, Write, Replay,
 use Rattle.hermes.specs.Guards.{Question}
 use Rattle.hermes.specs.Event.{Step, kept, partOf, common, own, refusal, movedBy, storedBy, storing, decide, moved, effect, readStep, replayStep, validateStep, resendStep}
 use Rattle.hermes.proofs.Guards.{positive-own}
-use Rattle.replica_guards.specs.declared.Asked.{Asked}
-use Rattle.replica_guards.specs.declared.Asked.the-variants.{Passed, Refused}
-use Rattle.replica_guards.specs.Cascade.{asked, stoppedBy}
-use Rattle.replica_guards.proofs.Cascade.{passed-none, passed-same, refused-first}
+use Rattle.replica_asking.specs.declared.Asked.{Asked}
+use Rattle.replica_asking.specs.declared.Asked.the-variants.{Passed, Refused}
+use Rattle.replica_asking.specs.Cascade.{asked, stoppedBy}
+use Rattle.replica_asking.proofs.Cascade.{passed-none, passed-same, refused-first}
 
 module _ (me : Replica) (count bytes i : ℕ) (r : Record) (e : Event) (n : ℕ) where
   abbrev questions : List Question

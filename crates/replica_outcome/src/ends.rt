@@ -1,4 +1,4 @@
-// The end of an accepted event; that of a refused one is `replica_guards::stopped`.
+// The end of an accepted event; that of a refused one is `replica_asking::stopped`.
 ghost use mathlib.Core.Path.{_≡_};
 ghost use Rattle.hermes.specs.declared.event.Answer.the-variants.{Accepted};
 use hermes::Answer;

@@ -4,18 +4,18 @@ ghost use mathlib.Core.List.{[]};
 ghost use Rattle.hermes.specs.Order.{higher};
 ghost use Rattle.hermes.specs.Event.{common, own, moved, readPart};
 ghost use Rattle.hermes.specs.declared.event.Event.the-variants.{Read};
-ghost use Rattle.replica_guards.specs.Cascade.{asked};
+ghost use Rattle.replica_asking.specs.Cascade.{asked};
 use hermes::Answer;
 use hermes::Moved;
 use hermes::Outgoing;
 use hermes::Record;
 use hermes::Replica;
-use replica_guards::Asked;
+use replica_asking::Asked;
 
 fn asks(me: Replica, count: usize, bytes: usize, i: usize, r: Record) -> Asked
     ensures { λ a. ⌜ a ≡ asked (common me count bytes i r (own me r Read 0)) r ⌝ }
 {
-    let a = replica_guards::every(me, count, bytes, i, r);
+    let a = replica_asking::every(me, count, bytes, i, r);
     let Asked::Passed(r1) = a else {
         return a;
     };
@@ -28,7 +28,7 @@ pub fn read_event(me: Replica, count: usize, bytes: usize, i: usize, r: Record) 
 {
     let a = asks(me, count, bytes, i, r);
     let Asked::Passed(r1) = a else {
-        return replica_guards::stopped(a, r);
+        return replica_asking::stopped(a, r);
     };
     replica_outcome::accepted(Outgoing::None, r1)
 }

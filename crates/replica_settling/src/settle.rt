@@ -4,7 +4,7 @@ ghost use mathlib.Core.List.{[]};
 ghost use Rattle.hermes.specs.Order.{higher};
 ghost use Rattle.hermes.specs.Event.{common, own, moved, resent};
 ghost use Rattle.hermes.specs.declared.event.Event.the-variants.{Replay, Validate, Resend};
-ghost use Rattle.replica_guards.specs.Cascade.{asked};
+ghost use Rattle.replica_asking.specs.Cascade.{asked};
 use hermes::Message;
 use hermes::Moved;
 use hermes::Outgoing;
@@ -12,7 +12,7 @@ use hermes::Record;
 use hermes::Replica;
 use hermes::State;
 use hermes::Timestamp;
-use replica_guards::Asked;
+use replica_asking::Asked;
 
 // A replay of record i, r.
 pub fn replay(me: Replica, count: usize, bytes: usize, i: usize, r: Record) -> Moved
@@ -20,7 +20,7 @@ pub fn replay(me: Replica, count: usize, bytes: usize, i: usize, r: Record) -> M
 {
     let a = asks_replay(me, count, bytes, i, r);
     let Asked::Passed(r1) = a else {
-        return replica_guards::stopped(a, r);
+        return replica_asking::stopped(a, r);
     };
     let t = r1.timestamp;
     replica_outcome::accepted(
@@ -32,7 +32,7 @@ pub fn replay(me: Replica, count: usize, bytes: usize, i: usize, r: Record) -> M
 fn asks_replay(me: Replica, count: usize, bytes: usize, i: usize, r: Record) -> Asked
     ensures { λ a. ⌜ a ≡ asked (common me count bytes i r (own me r Replay 0)) r ⌝ }
 {
-    let a = replica_guards::every(me, count, bytes, i, r);
+    let a = replica_asking::every(me, count, bytes, i, r);
     let Asked::Passed(r1) = a else {
         return a;
     };
@@ -45,7 +45,7 @@ pub fn validate(me: Replica, count: usize, bytes: usize, i: usize, r: Record) ->
 {
     let a = asks_validate(me, count, bytes, i, r);
     let Asked::Passed(r1) = a else {
-        return replica_guards::stopped(a, r);
+        return replica_asking::stopped(a, r);
     };
     let t = r1.timestamp;
     replica_outcome::accepted(
@@ -57,7 +57,7 @@ pub fn validate(me: Replica, count: usize, bytes: usize, i: usize, r: Record) ->
 fn asks_validate(me: Replica, count: usize, bytes: usize, i: usize, r: Record) -> Asked
     ensures { λ a. ⌜ a ≡ asked (common me count bytes i r (own me r Validate 0)) r ⌝ }
 {
-    let a = replica_guards::every(me, count, bytes, i, r);
+    let a = replica_asking::every(me, count, bytes, i, r);
     let Asked::Passed(r1) = a else {
         return a;
     };
@@ -83,7 +83,7 @@ pub fn resend(me: Replica, count: usize, bytes: usize, i: usize, r: Record) -> M
 {
     let a = asks_resend(me, count, bytes, i, r);
     let Asked::Passed(r1) = a else {
-        return replica_guards::stopped(a, r);
+        return replica_asking::stopped(a, r);
     };
     let s = r1.state;
     replica_outcome::accepted(again(me, i, s, r1.timestamp), r1)
@@ -92,7 +92,7 @@ pub fn resend(me: Replica, count: usize, bytes: usize, i: usize, r: Record) -> M
 fn asks_resend(me: Replica, count: usize, bytes: usize, i: usize, r: Record) -> Asked
     ensures { λ a. ⌜ a ≡ asked (common me count bytes i r (own me r Resend 0)) r ⌝ }
 {
-    let a = replica_guards::every(me, count, bytes, i, r);
+    let a = replica_asking::every(me, count, bytes, i, r);
     let Asked::Passed(r1) = a else {
         return a;
     };

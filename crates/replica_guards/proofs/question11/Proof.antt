@@ -3,7 +3,7 @@ use mathlib.Core.Path.{refl, _∙_}
 use borrow.Author.Needs.{needs}
 use Rattle.replica_guards.proofs.question11.Statement.{statement}
 use Rattle.replica_guards.proofs.question11.Tie as tie
-use Rattle.replica_guards.proofs.Cascade.{alike, both-alike}
+use Rattle.replica_asking.proofs.Cascade.{alike, both-alike}
 
 has-requires : tie.Need-has-requires
 has-requires c κs = search needs

@@ -4,7 +4,7 @@ use mathlib.Core.Bool.{not}
 use borrow.Author.Needs.{needs}
 use Rattle.replica_guards.proofs.question14.Statement.{statement}
 use Rattle.replica_guards.proofs.question14.Tie as tie
-use Rattle.replica_guards.proofs.Cascade.{alike, both-alike}
+use Rattle.replica_asking.proofs.Cascade.{alike, both-alike}
 
 is-valid-requires : tie.Need-is-valid-requires
 is-valid-requires c κs = search needs

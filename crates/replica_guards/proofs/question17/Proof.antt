@@ -5,7 +5,7 @@ use mathlib.Core.List.{[], _∷_}
 use lib.Dec.{eqb}
 use Rattle.hermes.specs.declared.record.State.the-variants.{Write, Replay}
 use Rattle.hermes.specs.Record.{oneOf}
-use Rattle.replica_guards.proofs.Cascade.{alike}
+use Rattle.replica_asking.proofs.Cascade.{alike}
 use borrow.Author.Needs.{needs}
 use Rattle.replica_guards.proofs.question17.Statement.{statement}
 use Rattle.replica_guards.proofs.question17.Tie as tie

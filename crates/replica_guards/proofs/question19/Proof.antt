@@ -3,7 +3,7 @@ use mathlib.Core.Path.{_∙_}
 use borrow.Author.Needs.{needs}
 use Rattle.replica_guards.proofs.question19.Statement.{statement}
 use Rattle.replica_guards.proofs.question19.Tie as tie
-use Rattle.replica_guards.proofs.Cascade.{alike, both-alike}
+use Rattle.replica_asking.proofs.Cascade.{alike, both-alike}
 
 within-requires : tie.Need-within-requires
 within-requires c κs = search needs

@@ -3,7 +3,7 @@ use mathlib.Core.Path.{_∙_}
 use borrow.Author.Needs.{needs}
 use Rattle.replica_guards.proofs.question6.Statement.{statement}
 use Rattle.replica_guards.proofs.question6.Tie as tie
-use Rattle.replica_guards.proofs.Cascade.{alike}
+use Rattle.replica_asking.proofs.Cascade.{alike}
 
 is-valid-requires : tie.Need-is-valid-requires
 is-valid-requires c κs = search needs

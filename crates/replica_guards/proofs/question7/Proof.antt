@@ -3,7 +3,7 @@ use mathlib.Core.Path.{_∙_}
 use borrow.Author.Needs.{needs}
 use Rattle.replica_guards.proofs.question7.Statement.{statement}
 use Rattle.replica_guards.proofs.question7.Tie as tie
-use Rattle.replica_guards.proofs.Cascade.{alike}
+use Rattle.replica_asking.proofs.Cascade.{alike}
 
 is-idle-requires : tie.Need-is-idle-requires
 is-idle-requires c κs = search needs

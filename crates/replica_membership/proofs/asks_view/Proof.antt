@@ -5,7 +5,7 @@ use mathlib.Core.Path.{sym, _∙_}
 use borrow.Author.Needs.{needs}
 use Rattle.replica_membership.proofs.asks_view.Statement.{statement}
 use Rattle.replica_membership.proofs.asks_view.Tie as tie
-use Rattle.replica_guards.proofs.Cascade.{then, stop}
+use Rattle.replica_asking.proofs.Cascade.{then, stop}
 
 question1-requires : tie.Need-question1-requires
 question1-requires c κs = search needs

@@ -1,7 +1,7 @@
 -- `replica_events::delivery::asks` meets its contract.
 use Rattle.hermes.specs.Event.{common, ofKind}
 use Rattle.hermes.specs.Guards.{question10, question11, question12}
-use Rattle.replica_guards.proofs.Cascade.{then, stop}
+use Rattle.replica_asking.proofs.Cascade.{then, stop}
 use mathlib.Core.List.{[], _∷_}
 use mathlib.Core.Path.{sym, _∙_}
 use borrow.Author.Needs.{needs}

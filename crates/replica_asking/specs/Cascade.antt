@@ -8,8 +8,8 @@ use Rattle.hermes.specs.declared.message.Outgoing.the-variants.{None}
 use Rattle.hermes.specs.declared.event.Moved.{Moved}
 use Rattle.hermes.specs.declared.event.Answer.the-variants as answer
 use Rattle.hermes.specs.Guards.{Question}
-use Rattle.replica_guards.specs.declared.Asked.{Asked}
-use Rattle.replica_guards.specs.declared.Asked.the-variants.{Passed, Refused}
+use Rattle.replica_asking.specs.declared.Asked.{Asked}
+use Rattle.replica_asking.specs.declared.Asked.the-variants.{Passed, Refused}
 
 -- the next answer after a yes, the number after a no
 abbrev pub next : Bool → Asked → ℕ → Asked

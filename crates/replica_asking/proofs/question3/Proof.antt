@@ -1,9 +1,9 @@
--- `replica_guards::question3` meets its contract.
+-- `replica_asking::question3` meets its contract.
 use mathlib.Core.Path.{_∙_}
 use borrow.Author.Needs.{needs}
-use Rattle.replica_guards.proofs.question3.Statement.{statement}
-use Rattle.replica_guards.proofs.question3.Tie as tie
-use Rattle.replica_guards.proofs.Cascade.{alike}
+use Rattle.replica_asking.proofs.question3.Statement.{statement}
+use Rattle.replica_asking.proofs.question3.Tie as tie
+use Rattle.replica_asking.proofs.Cascade.{alike}
 
 has-requires : tie.Need-has-requires
 has-requires c κs = search needs

@@ -1,7 +1,7 @@
--- `replica_guards::stopped` meets its contract.
+-- `replica_asking::stopped` meets its contract.
 use borrow.Author.Needs.{needs}
-use Rattle.replica_guards.proofs.stopped.Statement.{statement}
-use Rattle.replica_guards.proofs.stopped.Tie as tie
+use Rattle.replica_asking.proofs.stopped.Statement.{statement}
+use Rattle.replica_asking.proofs.stopped.Tie as tie
 
 enum-known-a : tie.Need-enum-known-a
 enum-known-a c = search needs

@@ -1,11 +1,11 @@
--- `replica_guards::question5` meets its contract.
+-- `replica_asking::question5` meets its contract.
 use mathlib.Core.Path.{ap, _∙_}
 use mathlib.Core.Bool.{Bool, _&&_, not}
 use lib.Dec.{leb}
-use Rattle.replica_guards.proofs.Cascade.{alike}
+use Rattle.replica_asking.proofs.Cascade.{alike}
 use borrow.Author.Needs.{needs}
-use Rattle.replica_guards.proofs.question5.Statement.{statement}
-use Rattle.replica_guards.proofs.question5.Tie as tie
+use Rattle.replica_asking.proofs.question5.Statement.{statement}
+use Rattle.replica_asking.proofs.question5.Tie as tie
 
 has-requires : tie.Need-has-requires
 has-requires c κs = search needs

@@ -1,11 +1,11 @@
--- `replica_guards::question1` meets its contract.
+-- `replica_asking::question1` meets its contract.
 use mathlib.Core.Path.{ap, _∙_}
 use mathlib.Core.Bool.{Bool, _&&_}
 use lib.Dec.{leb}
-use Rattle.replica_guards.proofs.Cascade.{alike}
+use Rattle.replica_asking.proofs.Cascade.{alike}
 use borrow.Author.Needs.{needs}
-use Rattle.replica_guards.proofs.question1.Statement.{statement}
-use Rattle.replica_guards.proofs.question1.Tie as tie
+use Rattle.replica_asking.proofs.question1.Statement.{statement}
+use Rattle.replica_asking.proofs.question1.Tie as tie
 
 plural-requires : tie.Need-plural-requires
 plural-requires c κs = search needs

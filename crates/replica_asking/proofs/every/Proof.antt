@@ -1,12 +1,12 @@
--- `replica_guards::every` meets its contract.
+-- `replica_asking::every` meets its contract.
 use Rattle.hermes.specs.Guards.{question4, question5}
 use Rattle.hermes.specs.Node.{startQuestions}
 use mathlib.Core.List.{[], _∷_}
 use mathlib.Core.Path.{sym, _∙_}
 use borrow.Author.Needs.{needs}
-use Rattle.replica_guards.proofs.every.Statement.{statement}
-use Rattle.replica_guards.proofs.every.Tie as tie
-use Rattle.replica_guards.proofs.Cascade.{then, stop}
+use Rattle.replica_asking.proofs.every.Statement.{statement}
+use Rattle.replica_asking.proofs.every.Tie as tie
+use Rattle.replica_asking.proofs.Cascade.{then, stop}
 
 at-start-requires : tie.Need-at-start-requires
 at-start-requires c κs = search needs

@@ -1,11 +1,11 @@
--- `replica_guards::at_start` meets its contract.
+-- `replica_asking::at_start` meets its contract.
 use Rattle.hermes.specs.Guards.{question1, question2, question3}
 use mathlib.Core.List.{[], _∷_}
 use mathlib.Core.Path.{sym, _∙_}
 use borrow.Author.Needs.{needs}
-use Rattle.replica_guards.proofs.at_start.Statement.{statement}
-use Rattle.replica_guards.proofs.at_start.Tie as tie
-use Rattle.replica_guards.proofs.Cascade.{then, stop}
+use Rattle.replica_asking.proofs.at_start.Statement.{statement}
+use Rattle.replica_asking.proofs.at_start.Tie as tie
+use Rattle.replica_asking.proofs.Cascade.{then, stop}
 
 question1-requires : tie.Need-question1-requires
 question1-requires c κs = search needs

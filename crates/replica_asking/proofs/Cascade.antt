@@ -10,8 +10,8 @@ use Rattle.hermes.specs.declared.record.Record.{Record}
 use Rattle.hermes.specs.Guards.{Question, ask, firstNo}
 use Rattle.hermes.proofs.Tests.{both}
 use Rattle.hermes.proofs.Guards.{positive}
-use Rattle.replica_guards.specs.declared.Asked.the-variants.{Passed, Refused}
-use Rattle.replica_guards.specs.Cascade.{asked, next}
+use Rattle.replica_asking.specs.declared.Asked.the-variants.{Passed, Refused}
+use Rattle.replica_asking.specs.Cascade.{asked, next}
 
 never : {r : Record} {k : ℕ} → Passed r ≡ Refused k → ⊥
 never e = let z : _≡_ {A = ℕ} 0 1 = cc in omega arith

@@ -1,7 +1,7 @@
--- `replica_guards::question` meets its contract.
+-- `replica_asking::question` meets its contract.
 use borrow.Author.Needs.{needs}
-use Rattle.replica_guards.proofs.question.Statement.{statement}
-use Rattle.replica_guards.proofs.question.Tie as tie
+use Rattle.replica_asking.proofs.question.Statement.{statement}
+use Rattle.replica_asking.proofs.question.Tie as tie
 
 same-requires : tie.Need-same-requires
 same-requires c κs = search needs

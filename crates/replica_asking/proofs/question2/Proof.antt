@@ -1,9 +1,9 @@
--- `replica_guards::question2` meets its contract.
+-- `replica_asking::question2` meets its contract.
 use Rattle.hermes.proofs.Tests.{and-true, and-false}
 use borrow.Author.Tests.{le-leb, lt-leb}
 use borrow.Author.Needs.{needs}
-use Rattle.replica_guards.proofs.question2.Statement.{statement}
-use Rattle.replica_guards.proofs.question2.Tie as tie
+use Rattle.replica_asking.proofs.question2.Statement.{statement}
+use Rattle.replica_asking.proofs.question2.Tie as tie
 
 mul-question : tie.Need-mul-question
 mul-question c = search needs
