@@ -20,7 +20,7 @@ use packet_format::Fetched;
 pub extern "C" fn cetskobi_fetch(packet: &[u8], i: usize) -> CetskobiFetched
     ensures { λ r. ⌜ r ≡ fetchedOut (fetched (now (packet .entry)) i) ⌝ }
 {
-    export_numbers::fetched_out(packet_format::fetch(packet, i))
+    export_numbers::fetched_out(packet_reader::fetch(packet, i))
 }
 
 // A packet of messages, seven words for each, whose bodies stand end to end.
@@ -45,7 +45,7 @@ pub extern "C" fn cetskobi_deliver_packet(
 ) -> CetskobiAnswer
     ensures { λ a. ⌜ Arrived (nodeOf me (now (table .entry)) (now (store .entry))) (now (table .entry)) (now (packet .entry)) (fetched (now (packet .entry)) i) a (now (table .exit)) (now (store .exit)) ⌝ }
 {
-    let fetched = packet_format::fetch(packet, i);
+    let fetched = packet_reader::fetch(packet, i);
     match fetched {
         Fetched::Found(entry, at) => {
             let f = packet_format::fields_for(entry, at);
@@ -56,7 +56,7 @@ pub extern "C" fn cetskobi_deliver_packet(
                 epoch: f.epoch,
                 version: f.version,
             };
-            let value = packet_format::body(packet, fetched);
+            let value = packet_reader::body(packet, fetched);
             export_events::cetskobi_deliver(me, table, store, f.index, message, value)
         }
         Fetched::Refused(k) => export_numbers::answer_out(Answer::Refused(k)),

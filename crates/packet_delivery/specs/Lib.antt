@@ -1,2 +1,1 @@
 pub mod Arrival
-pub mod Arriving

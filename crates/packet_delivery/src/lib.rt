@@ -1,6 +1,66 @@
-// Delivery from a packet: message i is fetched, and delivered with its body.
-mod lent;
-mod one;
+// Delivery from a packet, on one record: message i is fetched, and delivered with its body.
+ghost use mathlib.Core.Path.{_≡_};
+ghost use Rattle.hermes.specs.Order.{higher};
+ghost use Rattle.packet_delivery.specs.Arrival.{arrival, arrivalOf, receivedOf};
+use hermes::Answer;
+use hermes::Moved;
+use hermes::Received;
+use hermes::Record;
+use hermes::Replica;
+use packet_format::Entry;
+use packet_format::Fetched;
 
-pub use lent::receive;
-pub use one::deliver_packet;
+// A packet's message as it is delivered.
+pub fn received(entry: Entry) -> Received
+    ensures { λ m. ⌜ m ≡ receivedOf entry ⌝ }
+{
+    let message = entry.message;
+    Received {
+        sender: entry.header.sender,
+        epoch: entry.header.epoch,
+        message: message,
+    }
+}
+
+// What a fetch from this packet answered is delivered to r, the record that it is about, of replica me with count records and this store.
+// A refused fetch changes nothing.
+fn deliver_fetched(
+    me: Replica,
+    count: usize,
+    r: Record,
+    store: &mut [u8],
+    bytes: &[u8],
+    fetched: Fetched,
+) -> Moved
+    ensures { λ m. ⌜ (m ≡ arrivalOf higher me count r (now (store .entry)) (now (bytes .entry)) fetched .moved)
+        × (now (store .exit) ≡ arrivalOf higher me count r (now (store .entry)) (now (bytes .entry)) fetched .store) ⌝ }
+{
+    match fetched {
+        Fetched::Found(entry, _) => {
+            let value = packet_reader::body(bytes, fetched);
+            let m = received(entry);
+            replica_events::deliver(me, count, entry.header.index, r, store, m, value)
+        }
+        Fetched::Refused(k) => Moved {
+            answer: Answer::Refused(k),
+            after: r,
+        },
+    }
+}
+
+// Message i of a packet is delivered to r, the record that it is about, of replica me with count records and this store.
+// A packet that the reader refuses changes nothing.
+pub fn deliver_packet(
+    me: Replica,
+    count: usize,
+    r: Record,
+    store: &mut [u8],
+    bytes: &[u8],
+    i: usize,
+) -> Moved
+    ensures { λ m. ⌜ (m ≡ arrival higher me count r (now (store .entry)) (now (bytes .entry)) i .moved)
+        × (now (store .exit) ≡ arrival higher me count r (now (store .entry)) (now (bytes .entry)) i .store) ⌝ }
+{
+    let fetched = packet_reader::fetch(bytes, i);
+    deliver_fetched(me, count, r, store, bytes, fetched)
+}

@@ -1,10 +1,6 @@
 // The entries of a packet's contents table.
 ghost use mathlib.Core.Path.{_≡_};
-ghost use Prim.Native.Nat.{_≤_};
-ghost use lib.ListN.{length};
-ghost use Rattle.packet_format.specs.Entry.{fieldsOf, messageOf, entryOf, good};
-use crate::numbers::num2;
-use crate::numbers::num4;
+ghost use Rattle.packet_format.specs.Entry.{messageOf, entryOf, good};
 use hermes::Header;
 use hermes::Message;
 use hermes::Record;
@@ -57,23 +53,6 @@ impl Fields {
     }
 }
 
-// The fields of the 16 bytes at the front of `bytes`.
-pub(crate) fn fields_of(bytes: &[u8]) -> Fields
-    requires { ⌜ 16 ≤ length (now bytes) ⌝ }
-    ensures { λ r. ⌜ r ≡ fieldsOf (now (bytes .entry)) ⌝ }
-{
-    Fields {
-        kind: bytes[0],
-        sender: bytes[1],
-        epoch: num4(bytes[2], bytes[3], bytes[4], bytes[5]),
-        index: num2(bytes[6], bytes[7]),
-        version: num4(bytes[8], bytes[9], bytes[10], bytes[11]),
-        tie: bytes[12],
-        offset: num2(bytes[13], bytes[14]),
-        len: bytes[15],
-    }
-}
-
 // The message of a known kind.
 fn message_of(kind: u8, timestamp: Timestamp) -> Message
     ensures { λ r. ⌜ r ≡ messageOf kind timestamp ⌝ }
@@ -88,7 +67,7 @@ fn message_of(kind: u8, timestamp: Timestamp) -> Message
 }
 
 // The entry that fields stand for.
-pub(crate) fn entry_of(f: Fields) -> Entry
+pub fn entry_of(f: Fields) -> Entry
     ensures { λ r. ⌜ r ≡ entryOf f ⌝ }
 {
     let header = Header {

@@ -1,0 +1,27 @@
+-- `packet_table::event_in` meets its contract.
+use mathlib.Core.Path.{refl}
+use borrow.Author.Needs.{needs}
+use Rattle.packet_table.proofs.event_in.Statement.{statement}
+use Rattle.packet_table.proofs.event_in.Tie as tie
+
+fetch-requires : tie.Need-fetch-requires
+fetch-requires c κs = search needs
+
+enum-known-f : tie.Need-enum-known-f
+enum-known-f c = search needs
+
+received-requires : tie.Need-received-requires
+received-requires c κs = search needs
+
+enum-told : tie.Need-enum-told
+enum-told c = search needs
+
+returns : tie.Need-returns
+returns c = rw (← c .before .before .before .before .fetch .ensures, c .before .before .f .given .1, c .received .ensures) refl
+
+returns-2 : tie.Need-returns-2
+returns-2 c = rw (← c .before .before .fetch .ensures, c .enum-told .given .1) refl
+
+pub event-in-spec : {M : Type 1} → statement M
+event-in-spec =
+    tie.close (tie.spec fetch-requires enum-known-f received-requires enum-told returns returns-2)
