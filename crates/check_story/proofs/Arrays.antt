@@ -26,7 +26,7 @@ use denote.Struct.Laws as SL
 use Rattle.hermes.specs.declared.record.Record.{Record}
 use Rattle.hermes.proofs.record.Record as R
 use Rattle.hermes.proofs.record.Record.Laws as R′
-use Rattle.replica_table.proofs.Walk.{record-val}
+use Rattle.replica_start.proofs.Walk.{record-val}
 use Rattle.check_story.proofs.Lending.{elements, shares-array, shared-back}
 
 -- the values of the two arrays

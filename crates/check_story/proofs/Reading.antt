@@ -22,7 +22,7 @@ use denote.Steps.{nothing}
 use denote.Triple.Spec.{tripleOf}
 use denote.Triple.Statement.{Contract}
 use Rattle.check_story.proofs.Arrays.{tokens, lent-table, lent-store}
-use Rattle.replica_table.proofs.Walk.{replica-val, has-number, has-replica}
+use Rattle.replica_start.proofs.Walk.{replica-val, has-number, has-replica}
 use Rattle.hermes.specs.declared.record.Record.{Record}
 use Rattle.hermes.specs.declared.event.Replica.{Replica}
 use Rattle.hermes.proofs.event.Replica as P

@@ -35,7 +35,7 @@ pub(crate) fn start(
         × ((s .records ≡ start number view records bytes .table)
         × (s .bytes ≡ start number view records bytes .store)) ⌝ }
 {
-    let admission = replica_table::start(number, view, &mut records, &mut bytes);
+    let admission = replica_start::start(number, view, &mut records, &mut bytes);
     Started {
         admission: admission,
         records: records,

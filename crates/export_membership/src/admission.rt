@@ -36,7 +36,7 @@ pub extern "C" fn cetskobi_start(
     match a {
         Admission::Admitted(_) => {
             export_records::fill(table, replica_membership::fresh_record(view));
-            replica_table::zero(store);
+            replica_start::zero(store);
             export_numbers::admission_out(a, old)
         }
         Admission::Refused(_) => export_numbers::admission_out(a, old),

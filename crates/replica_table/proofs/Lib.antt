@@ -1,4 +1,2 @@
 -- What the proofs share.
-pub mod Walk
 pub mod RecordAt
-pub mod Filling

@@ -27,7 +27,7 @@ use denote.Triple.Clauses.{ensured, lasts}
 use Rattle.hermes.specs.declared.record.Record.{Record}
 use Rattle.hermes.specs.Node.{recordAt}
 use Rattle.hermes.proofs.record.Record as R
-use Rattle.replica_table.proofs.Walk.{has-number}
+use Rattle.replica_start.proofs.Walk.{has-number}
 use Rattle.replica_table.proofs.reading.record_at as record-at
 use Rattle.replica_table.proofs.reading.record_at.Symbol.{name as #replica-table·reading·record-at}
 

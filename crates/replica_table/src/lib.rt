@@ -2,7 +2,6 @@
 mod events;
 mod leaving;
 mod reading;
-mod starting;
 
 pub use events::apply;
 pub use leaving::body;
@@ -10,5 +9,3 @@ pub use reading::read;
 pub use reading::read_number;
 pub use replica_membership::view;
 pub use replica_outgoing::recipients;
-pub use starting::start;
-pub use starting::zero;

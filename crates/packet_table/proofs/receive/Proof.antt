@@ -39,7 +39,7 @@ use denote.Triple.Walked.{says, Stays, gave-slice, stay-none, stay-none-slice, w
 use denote.Exit.{yes}
 use denote.Struct.Laws as SL
 use denote.Enum.Laws as EL
-use Rattle.replica_table.proofs.Walk.{replica-val, event-val, the-one, typed-replica, typed-answer, has-number, has-replica, has-event}
+use Rattle.replica_start.proofs.Walk.{replica-val, event-val, the-one, typed-replica, typed-answer, has-number, has-replica, has-event}
 use Rattle.hermes.specs.declared.record.Record.{Record}
 use Rattle.hermes.specs.declared.event.Replica.{Replica}
 use Rattle.hermes.specs.declared.event.Answer.{Answer}

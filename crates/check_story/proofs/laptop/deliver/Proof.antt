@@ -37,7 +37,7 @@ use denote.Triple.Walked.{says, Stays, stay-none, walkOf, goes-none, Walks, ends
 use denote.Exit.{yes}
 use denote.Array.{Array}
 use Rattle.check_story.proofs.Arrays.{records-val, bytes-val, typed-records, typed-bytes, has-records, has-bytes, token, tokens, lent-table, lent-store, lent-part, shares-both, both-back, records-vals, bytes-vals, records-tells, bytes-tells}
-use Rattle.replica_table.proofs.Walk.{replica-val, event-val, outgoing-val, the-one, typed-replica, typed-event, typed-outgoing, type-of, has-replica, has-event, has-outgoing}
+use Rattle.replica_start.proofs.Walk.{replica-val, event-val, outgoing-val, the-one, typed-replica, typed-event, typed-outgoing, type-of, has-replica, has-event, has-outgoing}
 use denote.Struct.Laws as SL
 use denote.Enum.Laws as EL
 use Rattle.hermes.specs.declared.record.Record.{Record}

@@ -35,7 +35,7 @@ use denote.Exit.{yes}
 use denote.Array.{Array}
 use Rattle.check_story.proofs.Arrays.{records-val, bytes-val, typed-records, typed-bytes, has-records, has-bytes, tokens, shares-both, both-back, records-vals, bytes-vals, records-tells, bytes-tells}
 use Rattle.check_story.proofs.Reading.{args, to, asked}
-use Rattle.replica_table.proofs.Walk.{replica-val, answer-val, the-one, typed-replica, typed-answer, type-of, has-replica, has-answer}
+use Rattle.replica_start.proofs.Walk.{replica-val, answer-val, the-one, typed-replica, typed-answer, type-of, has-replica, has-answer}
 use denote.Struct.Laws as SL
 use denote.Enum.Laws as EL
 use Rattle.hermes.specs.declared.record.Record.{Record}

@@ -40,7 +40,7 @@ use mir.Syntax.{tyArray}
 use denote.Array.{Array}
 use Rattle.check_story.proofs.Lending.{lends-array, array-back}
 use Rattle.check_story.proofs.Arrays.{records-fused, bytes-kept, records-field, bytes-field, records-val, bytes-val, typed-records, typed-bytes, room-one, room-all, records-vals, bytes-vals, records-tells, bytes-tells, has-records, has-bytes}
-use Rattle.replica_table.proofs.Walk.{the-one, type-of}
+use Rattle.replica_start.proofs.Walk.{the-one, type-of}
 use denote.Struct.Laws as SL
 use denote.Enum.Laws as EL
 use Rattle.hermes.specs.declared.record.Record.{Record}
@@ -53,10 +53,10 @@ use Rattle.hermes.specs.Node as node
 use Rattle.check_story.specs.declared.laptop.Started.{Started}
 use Rattle.check_story.proofs.laptop.Started as S
 use Rattle.check_story.proofs.laptop.Started.Laws as S′
-use Rattle.replica_table.proofs.start as engine
-use Rattle.replica_table.proofs.start.Symbol as engine-def
-use Rattle.replica_table.proofs.start.Symbol.{name as #replica-table·start}
-use Rattle.replica_table.proofs.start.Met as engine-thm
+use Rattle.replica_start.proofs.start as engine
+use Rattle.replica_start.proofs.start.Symbol as engine-def
+use Rattle.replica_start.proofs.start.Symbol.{name as #replica-start·start}
+use Rattle.replica_start.proofs.start.Met as engine-thm
 use Rattle.check_story.proofs.laptop.start.Key.{name as #check-story·laptop·start}
 use Rattle.check_story.proofs.laptop.start as start
 use Rattle.check_story.proofs.laptop.start.Statement as stated
@@ -124,7 +124,7 @@ module _ {M : Type 1} (𝓤 : URA M) (H : Heap 𝓤) (A : Atoms 𝓤) (W : Given
       has-records ! xs xs-is $ fjoin ! $ owned ! u16 (Is u16) (uint-makes 𝓤 H A W w16) view _ (refl, view-fits) $ fjoin ! $
       owned ! u8 (Is u8) (uint-makes 𝓤 H A W w8) number _ (refl, number-fits) $ fjoin ! $ nothing ! $ done !
 
-  walk : (C : Calls 𝓤 H) (Λ : Loops 𝓤 H) → FmC 𝓤 H (W .laws) C → Triple 𝓤 (C #replica-table·start) (Engine 𝓤 H A mem run) → ent 𝓤 (onEntry 𝓤 H A start.signature tt tt a at)
+  walk : (C : Calls 𝓤 H) (Λ : Loops 𝓤 H) → FmC 𝓤 H (W .laws) C → Triple 𝓤 (C #replica-start·start) (Engine 𝓤 H A mem run) → ent 𝓤 (onEntry 𝓤 H A start.signature tt tt a at)
       (WpFn 𝓤 H C Λ code.function (vint w8 number ∷ vint w16 view ∷ records-val xs ∷ bytes-val bs ∷ []) Post)
   walk C Λ fm known =
       qed W (‵ ftrue ∷ ‵ (owns (u8 ∷ u16 ∷ Array R.the-row 1 ∷ Array u8 192 ∷ []) a at) ∷ []) ∵ keep ! [] $
@@ -169,13 +169,13 @@ module _ {M : Type 1} (𝓤 : URA M) (H : Heap 𝓤) (A : Atoms 𝓤) (W : Given
       keep ! ([]) $ by ! (exits s s-is said))))))))))))))))))))))))))
 
 module _ {M : Type 1} (𝓤 : URA M) (H : Heap 𝓤) (A : Atoms 𝓤) (W : Given 𝓤 H A) (mem : Memory → SProp 𝓤) (run : Routine → Fun 𝓤) where
-  start-walks : (C : Calls 𝓤 H) (Λ : Loops 𝓤 H) → FmC 𝓤 H (W .laws) C → Triple 𝓤 (C #replica-table·start) (Engine 𝓤 H A mem run) → Walks 𝓤 H A start.ended stayed (WpFn 𝓤 H C Λ code.function) (start.clauses 𝓤 H A mem run)
+  start-walks : (C : Calls 𝓤 H) (Λ : Loops 𝓤 H) → FmC 𝓤 H (W .laws) C → Triple 𝓤 (C #replica-start·start) (Engine 𝓤 H A mem run) → Walks 𝓤 H A start.ended stayed (WpFn 𝓤 H C Λ code.function) (start.clauses 𝓤 H A mem run)
   start-walks C Λ fm known = walked 𝓤 H A start.ended stayed (start.clauses 𝓤 H A mem run) (WpFn 𝓤 H C Λ code.function)
       (λ κs. (uint-vals w8, (uint-vals w16, (records-vals, (bytes-vals, tt)))))
       (λ κs. (uint-tells w8, (uint-tells w16, (records-tells, (bytes-tells, tt)))))
       (λ κs qs bounds a g are. via 𝓤 _ (fst∗ 𝓤 _ (emp 𝓤)) (walk 𝓤 H A W mem run (a .0) (a .1 .0) (a .1 .1 .0) (a .1 .1 .1 .0) (are .0 .1) (are .1 .0 .1) (are .1 .1 .0) (are .1 .1 .1 .0) C Λ fm known))
 
-start-meets : {M : Type 1} (𝓤 : URA M) (H : Heap 𝓤) (A : Atoms 𝓤) → Given 𝓤 H A → (mem : Memory → SProp 𝓤) (run : Routine → Fun 𝓤) (𝓣 : Tables 𝓤 H) → Triple 𝓤 (𝓣 .C #replica-table·start) (Engine 𝓤 H A mem run) → Meets 𝓤 H A start.signature (WpFn 𝓤 H (𝓣 .C) (𝓣 .Λ) code.function) (start.spec 𝓤 H A mem run)
+start-meets : {M : Type 1} (𝓤 : URA M) (H : Heap 𝓤) (A : Atoms 𝓤) → Given 𝓤 H A → (mem : Memory → SProp 𝓤) (run : Routine → Fun 𝓤) (𝓣 : Tables 𝓤 H) → Triple 𝓤 (𝓣 .C #replica-start·start) (Engine 𝓤 H A mem run) → Meets 𝓤 H A start.signature (WpFn 𝓤 H (𝓣 .C) (𝓣 .Λ) code.function) (start.spec 𝓤 H A mem run)
 start-meets 𝓤 H A W mem run 𝓣 known =
     walk-meets 𝓤 H A start.ended stayed W
     (goes-none 𝓤 H A W 0 (λ _. u8) yes (λ κs x f. refl), (goes-none 𝓤 H A W 0 (λ _. u16) yes (λ κs x f. refl), (goes-none 𝓤 H A W 0 (λ _. Array R.the-row 1) yes (λ κs x f. refl), (goes-none 𝓤 H A W 0 (λ _. Array u8 192) yes (λ κs x f. refl), tt))))
@@ -187,4 +187,4 @@ start-spec 𝓤 H 𝓜 𝓖 𝓡 =
     entered 𝓤 H (tripleOf 𝓤 H (𝓖 .A) start.signature (start.spec 𝓤 H (𝓖 .A) (𝓜 .mem) (𝓡 .run)))
     (tables 𝓤 H 𝓜 𝓡 code.env .C) (tables 𝓤 H 𝓜 𝓡 code.env .Λ) #check-story·laptop·start code.function (code.unfolded 𝓤 H 𝓜 𝓡)
     (start-meets 𝓤 H (𝓖 .A) (givenOf 𝓤 H 𝓜 𝓖) (𝓜 .mem) (𝓡 .run) (tablesOf 𝓤 H 𝓜 (tables 𝓤 H 𝓜 𝓡 code.env))
-    (cited 𝓤 H (Engine 𝓤 H (𝓖 .A) (𝓜 .mem) (𝓡 .run)) 𝓜 𝓡 code.env #replica-table·start engine-def.routine code.calls-replica-table·start (engine-thm.met 𝓤 H 𝓜 𝓖 𝓡)))
+    (cited 𝓤 H (Engine 𝓤 H (𝓖 .A) (𝓜 .mem) (𝓡 .run)) 𝓜 𝓡 code.env #replica-start·start engine-def.routine code.calls-replica-start·start (engine-thm.met 𝓤 H 𝓜 𝓖 𝓡)))

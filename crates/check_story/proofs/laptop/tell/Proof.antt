@@ -38,7 +38,7 @@ use denote.Exit.{yes}
 use denote.Array.{Array}
 use Rattle.check_story.proofs.Arrays.{records-val, bytes-val, typed-records, typed-bytes, has-records, has-bytes, token, tokens, lent-part, shares-both, both-back, records-vals, bytes-vals, records-tells, bytes-tells}
 use Rattle.check_story.proofs.Reading.{args, to, asked}
-use Rattle.replica_table.proofs.Walk.{replica-val, typed-replica, type-of, has-replica}
+use Rattle.replica_start.proofs.Walk.{replica-val, typed-replica, type-of, has-replica}
 use denote.Struct.Laws as SL
 use Rattle.hermes.specs.declared.record.Record.{Record}
 use Rattle.hermes.specs.declared.event.Replica.{Replica}

@@ -41,7 +41,7 @@ use mir.Syntax.{tyArray}
 use denote.Array.{Array}
 use Rattle.check_story.proofs.Lending.{lends-array, array-back}
 use Rattle.check_story.proofs.Arrays.{records-fused, bytes-kept, records-field, bytes-field, records-val, bytes-val, typed-records, typed-bytes, room-one, room-all, records-vals, bytes-vals, records-tells, bytes-tells, has-records, has-bytes}
-use Rattle.replica_table.proofs.Walk.{replica-val, event-val, the-one, typed-replica, typed-event, type-of, has-number, has-replica, has-event}
+use Rattle.replica_start.proofs.Walk.{replica-val, event-val, the-one, typed-replica, typed-event, type-of, has-number, has-replica, has-event}
 use denote.Struct.Laws as SL
 use denote.Enum.Laws as EL
 use Rattle.hermes.specs.declared.record.Record.{Record}

@@ -43,7 +43,7 @@ use denote.Triple.Clauses.{ensured, lasts}
 use denote.Triple.Table.{entered, cited}
 use denote.Triple.Walked.{says, Stays, stay-slice, gave-slice, stay-none, stay-none-slice, walkOf, goes-slice, goes-gave-slice, goes-none, goes-none-slice, Walks, ends-at, walked, walk-meets}
 use denote.Exit.{yes}
-use Rattle.replica_table.proofs.Walk.{after, placed-at, record-size, inside, scaled, replica-val, record-val, event-val, answer-val, the-one, typed-replica, typed-record, typed-event, typed-answer, has-number, has-replica, has-record, has-event, has-answer}
+use Rattle.replica_start.proofs.Walk.{after, placed-at, record-size, inside, scaled, replica-val, record-val, event-val, answer-val, the-one, typed-replica, typed-record, typed-event, typed-answer, has-number, has-replica, has-record, has-event, has-answer}
 use denote.Struct.Laws as SL
 use denote.Enum.Laws as EL
 use Rattle.hermes.specs.declared.record.Record.{Record}

@@ -35,7 +35,7 @@ use denote.Triple.Clauses.{ensured, lasts}
 use denote.Triple.Table.{entered, cited}
 use denote.Triple.Walked.{says, Stays, stay-none, stay-none-slice, walkOf, goes-none, goes-none-slice, Walks, ends-at, walked, walk-meets}
 use denote.Exit.{yes}
-use Rattle.replica_table.proofs.Walk.{outgoing-val, the-one, typed-record, typed-outgoing, has-outgoing}
+use Rattle.replica_start.proofs.Walk.{outgoing-val, the-one, typed-record, typed-outgoing, has-outgoing}
 use denote.Enum.Laws as EL
 use Rattle.hermes.specs.declared.record.Record.{Record}
 use Rattle.hermes.specs.declared.message.Outgoing.{Outgoing}

@@ -35,7 +35,7 @@ use denote.Triple.Clauses.{ensured, lasts}
 use denote.Triple.Table.{entered, cited}
 use denote.Triple.Walked.{says, Stays, stay-none, stay-none-slice, walkOf, goes-none, goes-none-slice, Walks, ends-at, walked, walk-meets}
 use denote.Exit.{yes}
-use Rattle.replica_table.proofs.Walk.{replica-val, typed-replica, typed-record, has-number, has-replica}
+use Rattle.replica_start.proofs.Walk.{replica-val, typed-replica, typed-record, has-number, has-replica}
 use denote.Struct.Laws as SL
 use Rattle.hermes.specs.declared.record.Record.{Record}
 use Rattle.hermes.specs.declared.event.Replica.{Replica}

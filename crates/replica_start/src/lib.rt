@@ -2,7 +2,7 @@
 ghost use mathlib.Core.Path.{_≡_};
 ghost use lib.ListN.{length, replicate};
 ghost use Rattle.hermes.specs.Node.{admit, firstRecord, start};
-ghost use Rattle.replica_table.specs.Filling.{filledBy, zeroedBy};
+ghost use Rattle.replica_start.specs.Filling.{filledBy, zeroedBy};
 use hermes::Admission;
 use hermes::Record;
 use replica_membership::admit;

@@ -6,8 +6,8 @@ use native.Mathlib.Omega.{arith}
 use borrow.Author.Needs.{needs}
 use lib.ListN.{length, length-set}
 use Rattle.hermes.proofs.Filling.{filled, filled-suc, filled-all}
-use Rattle.replica_table.proofs.starting.zero.Statement.{statement}
-use Rattle.replica_table.proofs.starting.zero.Tie as tie
+use Rattle.replica_start.proofs.zero.Statement.{statement}
+use Rattle.replica_start.proofs.zero.Tie as tie
 
 abbrev Inv-loop : tie.InvT-loop
 Inv-loop store₀ at₀ store at = (at ≤ length store₀) × ((store ≡ filled 0 store₀ at) × (length store ≡ length store₀))

@@ -1,14 +1,14 @@
 use mathlib.Core.Path.{sym, ap, _∙_}
 use Rattle.hermes.specs.declared.event.Admission.{Admission}
-use Rattle.replica_table.specs.Filling.{filledBy, zeroedBy}
+use Rattle.replica_start.specs.Filling.{filledBy, zeroedBy}
 use borrow.Author.Needs.{needs}
-use Rattle.replica_table.proofs.starting.begin.Statement.{statement}
-use Rattle.replica_table.proofs.starting.begin.Tie as tie
-use Rattle.replica_table.proofs.starting.begin.Reads as reads
-use Rattle.replica_table.proofs.starting.begin.Lts as lts
+use Rattle.replica_start.proofs.begin.Statement.{statement}
+use Rattle.replica_start.proofs.begin.Tie as tie
+use Rattle.replica_start.proofs.begin.Reads as reads
+use Rattle.replica_start.proofs.begin.Lts as lts
 use Rattle.replica_membership.proofs.admit.Reads as admit-reads
 use Rattle.replica_membership.proofs.fresh_record.Reads as fresh-record-reads
-use Rattle.replica_table.proofs.starting.zero.Reads as zero-reads
+use Rattle.replica_start.proofs.zero.Reads as zero-reads
 
 -- src/starting.rt:36:9
 admit-requires : tie.Need-admit-requires

@@ -11,7 +11,7 @@ use Rattle.hermes.specs.declared.event.Admission.the-variants.{Admitted, Refuse
 use Rattle.hermes.specs.Guards.{firstNo}
 use Rattle.hermes.specs.Node.{newcomer, startQuestions, admissionOf, admit, firstRecord, begin, start}
 use Rattle.hermes.proofs.Filling.{filled, filled-all}
-use Rattle.replica_table.specs.Filling.{filledBy, zeroedBy}
+use Rattle.replica_start.specs.Filling.{filledBy, zeroedBy}
 
 pub filled-within : (a : Admission) (n : ℕ) → filledBy a n ≤ n
 filled-within (Admitted me) n = omega arith

@@ -46,7 +46,7 @@ use denote.Triple.Clauses.{ensured, lasts}
 use denote.Triple.Table.{entered, cited}
 use denote.Triple.Walked.{says, Stays, stay-slice, gave-slice, stay-none, walkOf, goes-slice, goes-gave-slice, goes-none, Walks, ends-at, walked, walk-meets}
 use denote.Exit.{yes}
-use Rattle.replica_table.proofs.Walk.{first-of, after, placed-at, type-of, record-size, scaled, record-val, the-one, typed-record, has-number, has-record}
+use Rattle.replica_start.proofs.Walk.{first-of, after, placed-at, type-of, record-size, scaled, record-val, the-one, typed-record, has-number, has-record}
 use denote.Struct.Laws as SL
 use denote.Enum.Laws as EL
 use Rattle.hermes.specs.declared.record.Record.{Record}
@@ -57,20 +57,20 @@ use Rattle.hermes.proofs.event.Admission as Ad
 use Rattle.hermes.proofs.event.Admission.Laws as Ad′
 use Rattle.hermes.specs.Node.{admit, firstRecord}
 use Rattle.hermes.specs.Node as node
-use Rattle.replica_table.specs.declared.starting.Begun.{Begun}
+use Rattle.replica_start.specs.declared.Begun.{Begun}
 use Rattle.hermes.proofs.Filling.{filled, filled-suc, start-admission}
-use Rattle.replica_table.specs.Filling.{filledBy, zeroedBy}
-use Rattle.replica_table.proofs.Filling.{filled-within, start-table, start-store}
-use Rattle.replica_table.proofs.starting.Begun as B
-use Rattle.replica_table.proofs.starting.Begun.Laws as B′
-use Rattle.replica_table.proofs.starting.begin as begin
-use Rattle.replica_table.proofs.starting.begin.Symbol as begin-def
-use Rattle.replica_table.proofs.starting.begin.Symbol.{name as #replica-table·starting·begin}
-use Rattle.replica_table.proofs.starting.begin.Met as begin-thm
-use Rattle.replica_table.proofs.starting.start.Key.{name as #replica-table·starting·start}
-use Rattle.replica_table.proofs.starting.start as start
-use Rattle.replica_table.proofs.starting.start.Statement as stated
-use Rattle.replica_table.proofs.starting.start.Code as code
+use Rattle.replica_start.specs.Filling.{filledBy, zeroedBy}
+use Rattle.replica_start.proofs.Filling.{filled-within, start-table, start-store}
+use Rattle.replica_start.proofs.Begun as B
+use Rattle.replica_start.proofs.Begun.Laws as B′
+use Rattle.replica_start.proofs.begin as begin
+use Rattle.replica_start.proofs.begin.Symbol as begin-def
+use Rattle.replica_start.proofs.begin.Symbol.{name as #replica-start·begin}
+use Rattle.replica_start.proofs.begin.Met as begin-thm
+use Rattle.replica_start.proofs.start.Key.{name as #replica-start·start}
+use Rattle.replica_start.proofs.start as start
+use Rattle.replica_start.proofs.start.Statement as stated
+use Rattle.replica_start.proofs.start.Code as code
 
 abbrev stayed : Stays (start.ended .signature .params) (start.ended .kept)
 stayed = (stay-none (λ _. u8) yes, (stay-none (λ _. u16) yes, (stay-slice (0 ∷ []) tt (plain (λ _. R.the-row)), (gave-slice (1 ∷ []) tt (plain (λ _. u8)), tt))))
@@ -291,7 +291,7 @@ module _ {M : Type 1} (𝓤 : URA M) (H : Heap 𝓤) (A : Atoms 𝓤) (W : Given
           (exI 𝓤 (λ (j : ℕ). ex 𝓤 (λ (us : List Record). guard 𝓤 (Facts m j us) (⋆ 𝓤 H A (At j us)))) 0)))
           (loop-rule 𝓤 H (W .laws) 𝓣 _<_ (Nat·lt-wfRel .wf) En turn Left Inv turns m)
 
-  walk : (𝓣 : Tables 𝓤 H) → Triple 𝓤 (𝓣 .C #replica-table·starting·begin) (Begin 𝓤 H A mem run) → ent 𝓤 (onEntry 𝓤 H A start.signature (κ₀, (κ₁, tt)) (q₀, (q₁, tt)) a at)
+  walk : (𝓣 : Tables 𝓤 H) → Triple 𝓤 (𝓣 .C #replica-start·begin) (Begin 𝓤 H A mem run) → ent 𝓤 (onEntry 𝓤 H A start.signature (κ₀, (κ₁, tt)) (q₀, (q₁, tt)) a at)
       (WpFn 𝓤 H (𝓣 .C) (𝓣 .Λ) code.function (vint w8 number ∷ vint w16 view ∷ v₀ ∷ v₁ ∷ []) Post)
   walk 𝓣 known-begin =
       qed W ((‵ (flft κ₀ q₀) ⊛ tok₁) ∷ ‵ (owns (u8 ∷ u16 ∷ MutSlice (named 0) κ₀ R.the-row ∷ MutSlice (named 1) κ₁ u8 ∷ []) a at) ∷ []) ∵
@@ -320,7 +320,7 @@ module _ {M : Type 1} (𝓤 : URA M) (H : Heap 𝓤) (A : Atoms 𝓤) (W : Given
       keep ! (0 ∷ 19 ∷ 11 ∷ 9 ∷ 7 ∷ 25 ∷ 21 ∷ 31 ∷ 29 ∷ 27 ∷ 23 ∷ 17 ∷ 15 ∷ 13 ∷ 1 ∷ 2 ∷ 3 ∷ 32 ∷ 30 ∷ 28 ∷ 26 ∷ 24 ∷ 22 ∷ 20 ∷ 18 ∷ 16 ∷ 14 ∷ 12 ∷ 10 ∷ 8 ∷ 4 ∷ 5 ∷ []) $ by ! (loops c (zs .1 .1 .1 .0) said same w is 𝓣 l0 l1 l2 l3 l4 l5 l6 l7 l8 l9 l10 l11 l12))))))))))))))))))))
 
 module _ {M : Type 1} (𝓤 : URA M) (H : Heap 𝓤) (A : Atoms 𝓤) (W : Given 𝓤 H A) (mem : Memory → SProp 𝓤) (run : Routine → Fun 𝓤) where
-  start-walks : (𝓣 : Tables 𝓤 H) → Triple 𝓤 (𝓣 .C #replica-table·starting·begin) (Begin 𝓤 H A mem run) → Walks 𝓤 H A start.ended stayed (WpFn 𝓤 H (𝓣 .C) (𝓣 .Λ) code.function) (start.clauses 𝓤 H A mem run)
+  start-walks : (𝓣 : Tables 𝓤 H) → Triple 𝓤 (𝓣 .C #replica-start·begin) (Begin 𝓤 H A mem run) → Walks 𝓤 H A start.ended stayed (WpFn 𝓤 H (𝓣 .C) (𝓣 .Λ) code.function) (start.clauses 𝓤 H A mem run)
   start-walks 𝓣 known-begin = walked 𝓤 H A start.ended stayed (start.clauses 𝓤 H A mem run) (WpFn 𝓤 H (𝓣 .C) (𝓣 .Λ) code.function)
       (λ κs. (uint-vals w8, (uint-vals w16, (slice-vals, (slice-vals, tt)))))
       (λ κs. (uint-tells w8, (uint-tells w16, (mut-slice-tells (named 0) (κs .0) R.the-row, (mut-slice-tells (named 1) (κs .1 .0) u8, tt)))))
@@ -328,7 +328,7 @@ module _ {M : Type 1} (𝓤 : URA M) (H : Heap 𝓤) (A : Atoms 𝓤) (W : Given
       (walk 𝓤 H A W mem run (κs .0) (κs .1 .0) (qs .0) (qs .1 .0) (a .0) (a .1 .0) (a .1 .1 .0 .ptr .0) (a .1 .1 .0 .ptr .1) (a .1 .1 .0 .name) (a .1 .1 .0 .now) (a .1 .1 .1 .0 .ptr) (a .1 .1 .1 .0 .name) (a .1 .1 .1 .0 .now)
       (are .0 .1) (are .1 .0 .1) (are .1 .1 .0 .0 .1) (are .1 .1 .1 .0 .0 .1) 𝓣 known-begin))
 
-start-meets : {M : Type 1} (𝓤 : URA M) (H : Heap 𝓤) (A : Atoms 𝓤) → Given 𝓤 H A → (mem : Memory → SProp 𝓤) (run : Routine → Fun 𝓤) (𝓣 : Tables 𝓤 H) → Triple 𝓤 (𝓣 .C #replica-table·starting·begin) (Begin 𝓤 H A mem run)
+start-meets : {M : Type 1} (𝓤 : URA M) (H : Heap 𝓤) (A : Atoms 𝓤) → Given 𝓤 H A → (mem : Memory → SProp 𝓤) (run : Routine → Fun 𝓤) (𝓣 : Tables 𝓤 H) → Triple 𝓤 (𝓣 .C #replica-start·begin) (Begin 𝓤 H A mem run)
     → Meets 𝓤 H A start.signature (WpFn 𝓤 H (𝓣 .C) (𝓣 .Λ) code.function) (start.spec 𝓤 H A mem run)
 start-meets 𝓤 H A W mem run 𝓣 known-begin =
     walk-meets 𝓤 H A start.ended stayed W
@@ -340,6 +340,6 @@ pub start-spec : {M : Type 1} → stated.statement M
 unfolding code.routine tablesOf
 start-spec 𝓤 H 𝓜 𝓖 𝓡 =
     entered 𝓤 H (tripleOf 𝓤 H (𝓖 .A) start.signature (start.spec 𝓤 H (𝓖 .A) (𝓜 .mem) (𝓡 .run)))
-    (tables 𝓤 H 𝓜 𝓡 code.env .C) (tables 𝓤 H 𝓜 𝓡 code.env .Λ) #replica-table·starting·start code.function (code.unfolded 𝓤 H 𝓜 𝓡)
+    (tables 𝓤 H 𝓜 𝓡 code.env .C) (tables 𝓤 H 𝓜 𝓡 code.env .Λ) #replica-start·start code.function (code.unfolded 𝓤 H 𝓜 𝓡)
     (start-meets 𝓤 H (𝓖 .A) (givenOf 𝓤 H 𝓜 𝓖) (𝓜 .mem) (𝓡 .run) (tablesOf 𝓤 H 𝓜 (tables 𝓤 H 𝓜 𝓡 code.env))
-    (cited 𝓤 H (Begin 𝓤 H (𝓖 .A) (𝓜 .mem) (𝓡 .run)) 𝓜 𝓡 code.env #replica-table·starting·begin begin-def.routine code.calls-replica-table·starting·begin (begin-thm.met 𝓤 H 𝓜 𝓖 𝓡)))
+    (cited 𝓤 H (Begin 𝓤 H (𝓖 .A) (𝓜 .mem) (𝓡 .run)) 𝓜 𝓡 code.env #replica-start·begin begin-def.routine code.calls-replica-start·begin (begin-thm.met 𝓤 H 𝓜 𝓖 𝓡)))
