@@ -17,9 +17,9 @@
  * calls on different memory may run at once. A call needs at most CETSKOBI_STACK bytes of stack, cetskobi_play CETSKOBI_PLAY_STACK;
  * measured are 248 bytes and 59 KiB, and 3 KiB more where the loader looks for memcpy at the first call (tests/c/stack.c).
  *
- * Versions. A version is major.minor.patch. Within a major version names, numbers, layouts, signatures and the answers to what is accepted
- * and refused today stay, and a minor version may add to them: functions, refusals (26 to 37 are announced), kinds and states. So have a
- * default for numbers that you do not know. While the major version is 0 a minor version may change all of this; CHANGELOG.md says what. */
+ * Versions. A version is major.minor.patch. Within one major version what is here stays: names, numbers, layouts, signatures, and what is
+ * accepted and refused. A minor version may add functions, refusals (26 to 37 are announced), kinds and states: have a default for numbers
+ * that you do not know. While the major version is 0, a minor version may also change what is here; CHANGELOG.md says what. */
 #ifndef CETSKOBI_H
 #define CETSKOBI_H
 
@@ -172,7 +172,8 @@ struct cetskobi_admission {
     uint8_t number;
 };
 
-/* Events on record i. A message that leaves is about record i, from me.number at me.epoch. */
+/* Events on record i. A message that leaves is about record i, from me.number at me.epoch as they were passed: who sends it later keeps
+ * them with it, since a view may have changed me. */
 struct cetskobi_answer cetskobi_write(struct cetskobi_replica me, uint8_t *table, size_t table_len, uint8_t *store, size_t store_len,
                                       size_t i, const uint8_t *value, size_t value_len);
 struct cetskobi_answer cetskobi_deliver(struct cetskobi_replica me, uint8_t *table, size_t table_len, uint8_t *store, size_t store_len,
@@ -194,9 +195,9 @@ struct cetskobi_admission cetskobi_start(uint8_t number, uint16_t view, uint8_t 
 
 /* What leaves: how many bytes at 192 times i the message takes along that left an event on record i; left is that event's answer. It is 0
  * unless left.kind is CETSKOBI_INV. It is CETSKOBI_GONE where the text is gone: record i no longer has left's timestamp, as after a newer
- * text came in; or it is not there, or not with at most 192 bytes and all of its room in the store. Then the message is to be
- * dropped, as if it were lost on air: the newer text must not leave under the older timestamp. No value has this length, and an entry of
- * it makes no packet (24). */
+ * text came in; or it is not there, or not with at most 192 bytes and all of its room in the store. Then the message is to be dropped, as
+ * if it were lost on air: the newer text must not leave under the older timestamp. No value has this length, and an entry of it makes no
+ * packet (24). */
 #define CETSKOBI_GONE ((size_t)-1)
 size_t cetskobi_body(const uint8_t *table, size_t table_len, const uint8_t *store, size_t store_len, size_t i, struct cetskobi_answer left);
 /* Who gets a message of this kind: bit n for replica n. sender is that of the delivered message; only an ACK asks it. */

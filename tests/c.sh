@@ -23,11 +23,8 @@ awk '/^```c$/ { in_c = 1; next } /^```$/ { in_c = 0 } in_c' docs/GUIDE.md >"$dir
 [ -s "$dir/guide_code.c" ] || bad=1
 compile c99 -I"$dir" tests/c/guide.c target/staticlib/libcetskobi.a -o "$dir/guide"
 compile c99 tests/c/stack.c target/staticlib/libcetskobi.a -o "$dir/stack"
-# Each header by itself, included twice.
-for header in cetskobi cetskobi_text; do
-    printf '#include "%s.h"\n#include "%s.h"\nint main() { return 0; }\n' $header $header >"$dir/$header.cpp"
-    c++ -std=c++11 -Wall -Wextra -Wpedantic -Werror -Iinclude "$dir/$header.cpp" -o "$dir/$header" || bad=1
-done
+c++ -std=c++11 -Wall -Wextra -Wpedantic -Werror -O2 -Iinclude tests/c/from_cpp.cpp target/staticlib/libcetskobi.a \
+    -o "$dir/from_cpp" || bad=1
 [ $bad = 0 ] || exit 1
 
 for name in $(grep -oh 'cetskobi_[a-z_]*(' include/*.h | sort -u); do
@@ -38,6 +35,10 @@ for name in $(grep -oh 'cetskobi_[a-z_]*(' include/*.h | sort -u); do
 done
 "$dir/every_function" || bad=1
 "$dir/stack" || bad=1
+"$dir/from_cpp" || {
+    echo "tests/c/from_cpp.cpp: a call answers otherwise than in C"
+    bad=1
+}
 "$dir/guide" || bad=1
 "$dir/two_laptops" >"$dir/out" || bad=1
 if ! cmp -s examples/c/two_laptops.out "$dir/out"; then
