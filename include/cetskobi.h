@@ -1,6 +1,6 @@
-/* The replication engine for C: that of one replica, a laptop of its group. Link with the archive that `rt staticlib ffi` makes:
- * cc -O2 main.c -Iinclude target/staticlib/libffi.a
- * The player, cetskobi_play, has an archive of its own, which `rt staticlib playing` makes: target/staticlib/libplaying.a
+/* The replication engine for C: that of one replica, a laptop of its group. Link with the archive that `sh tools/archive` makes:
+ * cc -O2 main.c -Iinclude target/staticlib/libcetskobi.a
+ * cetskobi_text.h has the refusals, states and kinds as text.
  *
  * Table and store. The table is 16 bytes for each record, at 16 times its number: struct cetskobi_record says what they are. A table
  * whose length is no multiple of 16 holds no records. The store is 192 bytes for each record, at 192 times its number.
@@ -11,12 +11,29 @@
  *
  * Answers. A number of 0, or that of the question that said no: CETSKOBI_REFUSED_.. below, and what to do about each in docs/GUIDE.md,
  * part 4. After a no nothing lent has changed, and the other fields of the answer are 0. Only an admission that is refused has an
- * identity: the old one of a view, the one asked for of a start. */
+ * identity: the old one of a view, the one asked for of a start.
+ *
+ * Threads and stack. No function keeps anything between calls, and none allocates. One laptop's table and store take one call at a time;
+ * calls on different memory may run at once. A call needs at most CETSKOBI_STACK bytes of stack, cetskobi_play CETSKOBI_PLAY_STACK;
+ * measured are 248 bytes and 59 KiB, and 3 KiB more where the loader looks for memcpy at the first call (tests/c/stack.c).
+ *
+ * Versions. A version is major.minor.patch. Within one major version what is here stays: names, numbers, layouts, signatures, and what is
+ * accepted and refused. A minor version may add functions, refusals (26 to 37 are announced), kinds and states: have a default for numbers
+ * that you do not know. While the major version is 0, a minor version may also change what is here; CHANGELOG.md says what. */
 #ifndef CETSKOBI_H
 #define CETSKOBI_H
 
 #include <stddef.h>
 #include <stdint.h>
+
+#define CETSKOBI_VERSION "0.2.0"
+#define CETSKOBI_VERSION_MAJOR 0
+#define CETSKOBI_VERSION_MINOR 2
+#define CETSKOBI_VERSION_PATCH 0
+
+/* Bytes of stack that are enough for a call. */
+#define CETSKOBI_STACK 4096
+#define CETSKOBI_PLAY_STACK 98304
 
 #ifdef __cplusplus
 extern "C" {
@@ -31,7 +48,7 @@ enum {
     CETSKOBI_REPLAY = 4         /* this replica's replay, for a writer that was struck off, waits for acknowledgements */
 };
 
-/* One record, as its 16 bytes lie in the table. A number of more than a byte has the least significant first, as on x86-64, the archives'
+/* One record, as its 16 bytes lie in the table. A number of more than a byte has the least significant first, as on x86-64, the archive's
  * only machine: there an array of this struct, passed as (uint8_t *)records, is a table. A state above 4 is no record, and question 5
  * refuses it like an unsound one; every other value of the fields is a record. */
 struct cetskobi_record {
@@ -60,18 +77,18 @@ enum { CETSKOBI_NONE = 0, CETSKOBI_INV = 1, CETSKOBI_ACK = 2, CETSKOBI_VAL = 3 }
 
 /* The refusals: the questions of document 01 by number, and the player's own. */
 enum {
-    CETSKOBI_REFUSED_NO_GROUP = 1,         /* a laptop's number is at most 15 and its view has at least two laptops */
-    CETSKOBI_REFUSED_LENT_MEMORY = 2,      /* a laptop has 1 to 4,096 records and 192 bytes of store for each */
+    CETSKOBI_REFUSED_NO_GROUP = 1,         /* the laptop's number is above 15, or its view has fewer than two laptops */
+    CETSKOBI_REFUSED_LENT_MEMORY = 2,      /* there are not 1 to 4,096 records, or not 192 bytes of store for each */
     CETSKOBI_REFUSED_STRUCK_OFF = 3,       /* this laptop has been struck off its group */
     CETSKOBI_REFUSED_STRAY_RECORD = 4,     /* there is no record of that number */
     CETSKOBI_REFUSED_UNSOUND_RECORD = 5,   /* the record in the table is damaged */
     CETSKOBI_REFUSED_NOT_READABLE = 6,     /* the record is not valid now, so it cannot be shown */
     CETSKOBI_REFUSED_NOT_WRITABLE = 7,     /* an earlier write or replay of the record is still under way here */
-    CETSKOBI_REFUSED_VALUE_TOO_LONG = 8,   /* a value has at most 192 bytes */
+    CETSKOBI_REFUSED_VALUE_TOO_LONG = 8,   /* the value is longer than 192 bytes */
     CETSKOBI_REFUSED_LAST_VERSION = 9,     /* the record has used up its versions */
     CETSKOBI_REFUSED_OTHER_EPOCH = 10,     /* the message is of another epoch than this laptop */
     CETSKOBI_REFUSED_OTHER_SENDER = 11,    /* the message's sender is not another laptop of the view */
-    CETSKOBI_REFUSED_ILL_FORMED = 12,      /* the message's tie-breaker or length is wrong for its kind */
+    CETSKOBI_REFUSED_ILL_FORMED = 12,      /* the message's tie-breaker is above 15, or its bytes do not fit its kind */
     CETSKOBI_REFUSED_STRAY_ACK = 13,       /* no such acknowledgement is awaited, or it is counted already */
     CETSKOBI_REFUSED_STRAY_VAL = 14,       /* the record is valid already, or the validation is for another timestamp */
     CETSKOBI_REFUSED_NOT_FINISHED = 15,    /* nothing waits to be validated, or an acknowledgement is still missing */
@@ -83,7 +100,7 @@ enum {
     CETSKOBI_REFUSED_PACKET_CONTENTS = 21, /* the packet's contents table is cut short */
     CETSKOBI_REFUSED_PACKET_ENTRY = 22,    /* a message in the packet's contents table is broken */
     CETSKOBI_REFUSED_PACKET_INDEX = 23,    /* the packet has no message of that number */
-    CETSKOBI_REFUSED_PACKET_MESSAGES = 24, /* a packet takes 1 to 64 messages whose numbers and bodies fit */
+    CETSKOBI_REFUSED_PACKET_MESSAGES = 24, /* there are not 1 to 64 messages, or the numbers or bytes of one do not fit */
     CETSKOBI_REFUSED_PACKET_ROOM = 25,     /* the packet would be longer than 1,400 bytes or than its room */
     CETSKOBI_REFUSED_PLAYER_ROOM = 255     /* the script is longer than 65,536 bytes or lacks room to print */
 };
@@ -106,7 +123,7 @@ struct cetskobi_message {
 };
 
 /* 0 or the number of the question that said no; and how many bytes at 192 times the record's number are its value. */
-struct cetskobi_read {
+struct cetskobi_reading {
     uint8_t number;
     size_t len;
 };
@@ -155,7 +172,8 @@ struct cetskobi_admission {
     uint8_t number;
 };
 
-/* Events on record i. A message that leaves is about record i, from me.number at me.epoch. */
+/* Events on record i. A message that leaves is about record i, from me.number at me.epoch as they were passed: who sends it later keeps
+ * them with it, since a view may have changed me. */
 struct cetskobi_answer cetskobi_write(struct cetskobi_replica me, uint8_t *table, size_t table_len, uint8_t *store, size_t store_len,
                                       size_t i, const uint8_t *value, size_t value_len);
 struct cetskobi_answer cetskobi_deliver(struct cetskobi_replica me, uint8_t *table, size_t table_len, uint8_t *store, size_t store_len,
@@ -167,17 +185,21 @@ struct cetskobi_answer cetskobi_validate(struct cetskobi_replica me, uint8_t *ta
 /* No byte of the table changes, although it is lent to be written. */
 struct cetskobi_answer cetskobi_resend(struct cetskobi_replica me, uint8_t *table, size_t table_len, const uint8_t *store, size_t store_len,
                                        size_t i);
-struct cetskobi_read cetskobi_read(struct cetskobi_replica me, const uint8_t *table, size_t table_len, const uint8_t *store,
-                                   size_t store_len, size_t i);
+struct cetskobi_reading cetskobi_read(struct cetskobi_replica me, const uint8_t *table, size_t table_len, const uint8_t *store,
+                                      size_t store_len, size_t i);
 
 /* A change of view, which touches no record. */
 struct cetskobi_admission cetskobi_view(struct cetskobi_replica me, uint32_t epoch, uint16_t set);
 /* A fresh start: epoch 0, every record valid and empty, the store zero. */
 struct cetskobi_admission cetskobi_start(uint8_t number, uint16_t view, uint8_t *table, size_t table_len, uint8_t *store, size_t store_len);
 
-/* What leaves: how many bytes at 192 times i a message of this kind about record i takes along, right after the event that sent it:
- * later the record may hold another text. */
-size_t cetskobi_body(const uint8_t *table, size_t table_len, const uint8_t *store, size_t store_len, size_t i, uint8_t kind);
+/* What leaves: how many bytes at 192 times i the message takes along that left an event on record i; left is that event's answer. It is 0
+ * unless left.kind is CETSKOBI_INV. It is CETSKOBI_GONE where the text is gone: record i no longer has left's timestamp, as after a newer
+ * text came in; or it is not there, or not with at most 192 bytes and all of its room in the store. Then the message is to be dropped, as
+ * if it were lost on air: the newer text must not leave under the older timestamp. No value has this length, and an entry of it makes no
+ * packet (24). */
+#define CETSKOBI_GONE ((size_t)-1)
+size_t cetskobi_body(const uint8_t *table, size_t table_len, const uint8_t *store, size_t store_len, size_t i, struct cetskobi_answer left);
 /* Who gets a message of this kind: bit n for replica n. sender is that of the delivered message; only an ACK asks it. */
 uint16_t cetskobi_recipients(struct cetskobi_replica me, uint8_t kind, uint8_t sender);
 
@@ -191,7 +213,7 @@ struct cetskobi_written cetskobi_pack(const uint32_t *messages, size_t messages_
 struct cetskobi_answer cetskobi_deliver_packet(struct cetskobi_replica me, uint8_t *table, size_t table_len, uint8_t *store,
                                                size_t store_len, const uint8_t *packet, size_t packet_len, size_t i);
 
-/* The playing program on one script of at most 65,536 bytes, with room for 25 bytes for each of them, and 2. It is in libplaying.a. */
+/* The playing program on one script of at most 65,536 bytes, with room for 25 bytes for each of them, and 2. */
 struct cetskobi_played cetskobi_play(const uint8_t *script, size_t script_len, uint8_t *out, size_t out_len);
 
 #ifdef __cplusplus

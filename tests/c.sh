@@ -1,8 +1,8 @@
 #!/bin/sh
-# The engine from C: every function of the header called and its answers checked, the guide's code played, and the example's output as
-# stored.
+# The engine from C: every function of the headers called and its answers checked, the stack that a call takes, the guide's code played,
+# and the example's output as stored. The headers from C++.
 cd "$(dirname "$0")/.." || exit 2
-sh tests/need cc || exit 1
+sh tests/need cc c++ || exit 1
 sh tools/archive || exit 1
 dir=$(mktemp -d) || exit 2
 trap 'rm -rf "$dir"' EXIT
@@ -22,15 +22,23 @@ compile c99 examples/c/two_laptops.c target/staticlib/libcetskobi.a -o "$dir/two
 awk '/^```c$/ { in_c = 1; next } /^```$/ { in_c = 0 } in_c' docs/GUIDE.md >"$dir/guide_code.c"
 [ -s "$dir/guide_code.c" ] || bad=1
 compile c99 -I"$dir" tests/c/guide.c target/staticlib/libcetskobi.a -o "$dir/guide"
+compile c99 tests/c/stack.c target/staticlib/libcetskobi.a -o "$dir/stack"
+c++ -std=c++11 -Wall -Wextra -Wpedantic -Werror -O2 -Iinclude tests/c/from_cpp.cpp target/staticlib/libcetskobi.a \
+    -o "$dir/from_cpp" || bad=1
 [ $bad = 0 ] || exit 1
 
-for name in $(grep -o 'cetskobi_[a-z_]*(' include/cetskobi.h | sort -u); do
+for name in $(grep -oh 'cetskobi_[a-z_]*(' include/*.h | sort -u); do
     if ! grep -q "$name" tests/c/every_function.c; then
         echo "tests/c/every_function.c does not call $name)"
         bad=1
     fi
 done
 "$dir/every_function" || bad=1
+"$dir/stack" || bad=1
+"$dir/from_cpp" || {
+    echo "tests/c/from_cpp.cpp: a call answers otherwise than in C"
+    bad=1
+}
 "$dir/guide" || bad=1
 "$dir/two_laptops" >"$dir/out" || bad=1
 if ! cmp -s examples/c/two_laptops.out "$dir/out"; then
@@ -41,5 +49,5 @@ if ! cmp -s examples/c/two_laptops.out rust/cetskobi/examples/two_laptops.out; t
     echo "the C and the Rust example do not tell the same"
     bad=1
 fi
-[ $bad = 0 ] && echo "C: every function, the guide's code, and the example as stored"
+[ $bad = 0 ] && echo "C: every function, its stack, the guide's code, and the example as stored; the headers from C++"
 exit $bad

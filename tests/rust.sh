@@ -1,5 +1,5 @@
 #!/bin/sh
-# The Rust crates on the archives: the wrapper's tests, the model against the papers, the engine against the model.
+# The Rust crates on the archive: the wrapper's tests, the model against the papers, the engine against the model.
 cd "$(dirname "$0")/.." || exit 2
 sh tests/need cargo || exit 1
 sh tools/archive || exit 1

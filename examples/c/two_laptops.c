@@ -2,7 +2,7 @@
  * From the repository's root (rust/cetskobi/examples/two_laptops.rs tells the same in Rust):
  *   sh tools/archive && cc -O2 examples/c/two_laptops.c -Iinclude target/staticlib/libcetskobi.a -o target/two_laptops && target/two_laptops
  */
-#include "cetskobi.h"
+#include "cetskobi_text.h"
 #include <stdio.h>
 #include <stdlib.h>
 
@@ -27,7 +27,7 @@ struct packet {
 
 static void accepted(uint8_t number) {
     if (number != 0) {
-        printf("refused by question %d\n", number);
+        printf("refused (%d): %s\n", number, cetskobi_meaning(number));
         exit(1);
     }
 }
@@ -40,9 +40,9 @@ static void start(struct laptop *l, uint8_t number) {
 
 /* The packet of what left an event of this laptop. An ACK goes to the sender of its INV, the others to the view. */
 static struct packet send(const struct laptop *l, struct cetskobi_answer left, uint8_t inv_sender) {
-    static const char *const names[] = {[CETSKOBI_INV] = "INV", [CETSKOBI_ACK] = "ACK", [CETSKOBI_VAL] = "VAL"};
     accepted(left.number);
-    size_t len = cetskobi_body(MEMORY(l), RING, left.kind);
+    /* Never CETSKOBI_GONE here, right after the event; if it were, question 24 would say so. */
+    size_t len = cetskobi_body(MEMORY(l), RING, left);
     struct cetskobi_entry entry = {.kind = left.kind,
                                    .sender = l->me.number,
                                    .epoch = l->me.epoch,
@@ -58,7 +58,8 @@ static struct packet send(const struct laptop *l, struct cetskobi_answer left, u
     uint16_t to = cetskobi_recipients(l->me, left.kind, inv_sender);
     for (int n = 0; n < 16; n++)
         if (to >> n & 1)
-            printf("  %s (%u,%u) to laptop %d, %zu bytes\n", names[left.kind], (unsigned)left.version, (unsigned)left.tie, n, p.len);
+            printf("  %s (%u,%u) to laptop %d, %zu bytes\n", cetskobi_kind_name(left.kind), (unsigned)left.version, (unsigned)left.tie, n,
+                   p.len);
     return p;
 }
 
@@ -68,7 +69,7 @@ static struct cetskobi_answer take(struct laptop *l, const struct packet *p) {
 
 /* What the laptop's screen has. */
 static void show(const struct laptop *l) {
-    struct cetskobi_read r = cetskobi_read(LENT(l), RING);
+    struct cetskobi_reading r = cetskobi_read(LENT(l), RING);
     if (r.number == 0)
         printf("  laptop %d shows: %.*s\n", l->me.number, (int)r.len, (const char *)l->store + RING * CETSKOBI_VALUE_MAX);
     else

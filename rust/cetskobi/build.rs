@@ -13,7 +13,10 @@ fn main() {
     let package = env::var_os("CARGO_MANIFEST_DIR").expect("cargo says where the package is");
     let there = PathBuf::from(package).join(&folder);
     println!("cargo:rustc-link-search=native={}", there.display());
-    println!("cargo:rerun-if-changed={}", folder.join("libcetskobi.a").display());
+    println!(
+        "cargo:rerun-if-changed={}",
+        folder.join("libcetskobi.a").display()
+    );
     let path = there.join("libcetskobi.a");
     if !path.exists() {
         panic!(

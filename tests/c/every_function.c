@@ -1,6 +1,6 @@
-/* Calls every function of include/cetskobi.h and checks every number of the answers; few are alike, so a wrong declaration shows.
- * Run by tests/c.sh. */
-#include "cetskobi.h"
+/* Calls every function of include/cetskobi.h and cetskobi_text.h and checks every number of the answers; few are alike, so a wrong
+ * declaration shows. Run by tests/c.sh. */
+#include "cetskobi_text.h"
 #include <stddef.h>
 #include <stdio.h>
 #include <string.h>
@@ -103,7 +103,7 @@ static void membership(void) {
 static void writing(void) {
     const uint8_t value[CETSKOBI_VALUE_MAX + 1] = "wing";
     lay(RECORD(.state = CETSKOBI_VALID, .tie = 5, .writer = 5, .written_tie = 1, .version = VERSION - 1, .len = 62));
-    struct cetskobi_read r = cetskobi_read(LENT, 1);
+    struct cetskobi_reading r = cetskobi_read(LENT, 1);
     CHECK(r.number == 0 && r.len == 62);
     r = cetskobi_read(LENT, COUNT);
     CHECK(r.number == 4 && r.len == 0);
@@ -112,9 +112,55 @@ static void writing(void) {
     CHECK(is(RECORD(.state = CETSKOBI_WRITE, .tie = 2, .writer = 2, .written_tie = 2, .version = VERSION,
                     .written_version = VERSION, .len = 4)));
     CHECK(holds("wing"));
-    CHECK(cetskobi_body(TABLE, store, STORE, 1, CETSKOBI_INV) == 4);
-    CHECK(cetskobi_body(TABLE, store, STORE, 1, CETSKOBI_ACK) == 0);
-    CHECK(cetskobi_body(TABLE, store, STORE, COUNT, CETSKOBI_INV) == 0);
+}
+
+static size_t along(size_t i, struct cetskobi_answer left) {
+    return cetskobi_body(TABLE, store, STORE, i, left);
+}
+
+/* The bytes of what left an event, as long as they are there. */
+static void leaving(void) {
+    const struct cetskobi_answer inv = {.kind = CETSKOBI_INV, .tie = 2, .version = VERSION};
+    struct cetskobi_answer other = inv;
+    lay(RECORD(.state = CETSKOBI_WRITE, .tie = 2, .writer = 2, .written_tie = 2, .version = VERSION, .written_version = VERSION,
+               .len = 62));
+    CHECK(along(1, inv) == 62);
+    other.version--;
+    CHECK(along(1, other) == CETSKOBI_GONE);
+    other = inv;
+    other.tie = 5;
+    CHECK(along(1, other) == CETSKOBI_GONE);
+    /* ACK and VAL take nothing along, whatever the record has; a refused event leaves nothing. */
+    other.kind = CETSKOBI_ACK;
+    CHECK(along(1, other) == 0);
+    other.kind = CETSKOBI_VAL;
+    CHECK(along(1, other) == 0 && along(COUNT, other) == 0);
+    other.kind = CETSKOBI_NONE;
+    CHECK(along(1, other) == 0);
+
+    /* No such record, or not all of its room. */
+    CHECK(along(COUNT, inv) == CETSKOBI_GONE && along(SIZE_MAX, inv) == CETSKOBI_GONE);
+    CHECK(cetskobi_body(TABLE, store, STORE - 1, 1, inv) == CETSKOBI_GONE);
+    CHECK(cetskobi_body((uint8_t *)table, sizeof table - 1, store, STORE, 1, inv) == CETSKOBI_GONE);
+    table[1].len = CETSKOBI_VALUE_MAX;
+    CHECK(along(1, inv) == CETSKOBI_VALUE_MAX);
+    table[1].len++;
+    CHECK(along(1, inv) == CETSKOBI_GONE);
+    table[1].len = 62;
+    table[1].state = 5;
+    CHECK(along(1, inv) == CETSKOBI_GONE);
+    table[1].state = CETSKOBI_WRITE;
+
+    /* A newer text comes before the older one was sent. That is gone, and makes no packet. */
+    struct cetskobi_message newer = {.kind = CETSKOBI_INV, .sender = 5, .tie = 5, .epoch = 9, .version = VERSION};
+    struct cetskobi_answer ack = cetskobi_deliver(LENT, 1, newer, (const uint8_t *)"newer", 5);
+    CHECK(answers(ack, 0, CETSKOBI_ACK, 5, VERSION));
+    size_t len = along(1, inv);
+    CHECK(len == CETSKOBI_GONE && along(1, ack) == 0);
+    struct cetskobi_entry entry = {.kind = CETSKOBI_INV, .sender = 2, .epoch = 9, .index = 1, .version = VERSION, .tie = 2};
+    entry.len = (uint32_t)len;
+    uint8_t out[CETSKOBI_PACKET_MAX];
+    CHECK(cetskobi_pack((const uint32_t *)&entry, CETSKOBI_ENTRY_WORDS, store, STORE, out, sizeof out).number == 24);
 }
 
 static void recipients(void) {
@@ -229,14 +275,37 @@ static void playing(void) {
     CHECK(p.number == 0 && p.len == 10 && memcmp(out, "0 W 1 0 0\n", 10) == 0);
 }
 
+static int says(const char *text, const char *words) {
+    return strcmp(text, words) == 0;
+}
+
+/* rust/cetskobi/tests/texts.rs compares every text with Rust's. */
+static void texts(void) {
+    CHECK(says(cetskobi_meaning(0), "accepted"));
+    CHECK(says(cetskobi_meaning(CETSKOBI_REFUSED_STRUCK_OFF), "this laptop has been struck off its group"));
+    CHECK(says(cetskobi_state_name(CETSKOBI_INVALID_WRITE), "invalid-write"));
+    CHECK(says(cetskobi_kind_name(CETSKOBI_NONE), "none") && says(cetskobi_kind_name(CETSKOBI_ACK), "ACK"));
+    for (int n = 0; n <= UINT8_MAX; n++) {
+        int known = n <= CETSKOBI_REFUSED_PACKET_ROOM || n == CETSKOBI_REFUSED_PLAYER_ROOM;
+        CHECK(says(cetskobi_meaning((uint8_t)n), "unknown refusal") == !known);
+        CHECK(says(cetskobi_state_name((uint8_t)n), "unknown state") == (n > CETSKOBI_REPLAY));
+        CHECK(says(cetskobi_kind_name((uint8_t)n), "unknown kind") == (n > CETSKOBI_VAL));
+    }
+    char version[32];
+    snprintf(version, sizeof version, "%d.%d.%d", CETSKOBI_VERSION_MAJOR, CETSKOBI_VERSION_MINOR, CETSKOBI_VERSION_PATCH);
+    CHECK(says(version, CETSKOBI_VERSION));
+}
+
 int main(void) {
     membership();
     writing();
+    leaving();
     recipients();
     delivery();
     ending();
     bytes();
     packets();
     playing();
+    texts();
     return failed;
 }

@@ -3,7 +3,7 @@
 //!   sh tools/archive
 //!   CARGO_TARGET_DIR=target/rust cargo run --offline --release --quiet --manifest-path rust/Cargo.toml -p cetskobi --example two_laptops
 
-use cetskobi::{packet, Envelope, Laptop, Refusal};
+use cetskobi::{packet, Laptop, Leaving, Refusal};
 
 /// The record's number, and what is saved there.
 const RING: usize = 7;
@@ -16,46 +16,47 @@ fn main() -> Result<(), Refusal> {
     println!("laptops 0 and 1 start with {} records", net.count());
 
     println!("laptop 0 saves record {RING}");
-    let inv = net.write(RING, TEXT)?;
-    send(&net, inv, net.number())?;
+    send(net.write(RING, TEXT)?)?;
     println!("the packet is lost");
     show(&net);
     println!("laptop 0 wants to finish");
     refused(net.validate(RING));
 
     println!("laptop 0 sends again");
-    let inv = net.resend(RING)?;
-    let inv_packet = send(&net, inv, net.number())?;
+    let inv = send(net.resend(RING)?)?;
     println!("laptop 1 takes the packet");
-    let ack = hut.deliver_packet(&inv_packet, 0)?;
-    let ack_packet = send(&hut, ack, net.number())?;
+    let ack = take(&mut hut, &inv)?.expect("an INV is acknowledged");
     show(&hut);
 
     println!("laptop 0 takes the packet");
-    net.deliver_packet(&ack_packet, 0)?;
+    take(&mut net, &ack)?;
     println!("the packet comes a second time");
-    refused(net.deliver_packet(&ack_packet, 0));
+    refused(take(&mut net, &ack));
 
     println!("laptop 0 wants to finish");
-    let val = net.validate(RING)?;
-    let val_packet = send(&net, val, net.number())?;
+    let val = send(net.validate(RING)?)?;
     println!("laptop 1 takes the packet");
-    hut.deliver_packet(&val_packet, 0)?;
+    take(&mut hut, &val)?;
     show(&net);
     show(&hut);
     Ok(())
 }
 
-/// The packet of what left an event of this laptop. An ACK goes to the sender of its INV, the others to the view.
-fn send(from: &Laptop, left: Option<Envelope>, inv_sender: u8) -> Result<Vec<u8>, Refusal> {
-    let envelope = left.expect("a message leaves each of these events");
+/// The packet of what left an event.
+fn send(left: Leaving) -> Result<Vec<u8>, Refusal> {
     let mut bytes = vec![0; packet::PACKET_MAX];
-    let len = packet::pack(&[(envelope, from.body(&envelope))], &mut bytes)?;
+    let len = packet::pack([&left], &mut bytes)?;
     bytes.truncate(len);
-    for to in from.recipients(&envelope, inv_sender) {
-        println!("  {} to laptop {to}, {len} bytes", envelope.message);
+    for to in left.recipients() {
+        println!("  {} to laptop {to}, {len} bytes", left.envelope().message);
     }
     Ok(bytes)
+}
+
+/// A packet comes: what leaves then, if anything does, as a packet.
+fn take(laptop: &mut Laptop, packet: &[u8]) -> Result<Option<Vec<u8>>, Refusal> {
+    let reply = laptop.deliver_packet(packet, 0)?;
+    reply.leaving().map(send).transpose()
 }
 
 /// What the laptop's screen has.
@@ -75,7 +76,7 @@ fn show(laptop: &Laptop) {
 }
 
 /// A refused event: nothing has changed.
-fn refused(answer: Result<Option<Envelope>, Refusal>) {
+fn refused<T>(answer: Result<T, Refusal>) {
     if let Err(refusal) = answer {
         println!("  refused: question {}", refusal.number());
     }

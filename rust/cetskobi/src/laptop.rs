@@ -3,7 +3,8 @@
 use std::fmt;
 
 use crate::sys::{Answer, RECORD_BYTES};
-use crate::{packet, raw, Envelope, Members, Message, Record, Refusal, Replica};
+use crate::{packet, raw, Arriving, Envelope, Leaving, Members, Message, Record, Refusal};
+use crate::{Replica, Reply};
 
 /// A laptop on memory that the caller lends: [`Laptop::start_in`] and
 /// [`Laptop::from_parts`].
@@ -17,9 +18,9 @@ pub type Lent<'a> = Laptop<&'a mut [u8], &'a mut [u8]>;
 /// itself: a table of 16 bytes for each record ([`Record::to_bytes`]), and a store
 /// of 192 bytes for each.
 ///
-/// An event on record `i` gives `Ok` with the message that leaves, if one does,
-/// or `Err` with the question of document 01 that said no; then nothing has
-/// changed. Every number and every slice may be passed.
+/// An event on record `i` gives `Ok` with what [leaves](Leaving), or `Err` with
+/// the question of document 01 that said no; then nothing has changed. Every
+/// number and every slice may be passed.
 ///
 /// A clone is a copy to look at. One that is used later in the laptop's place
 /// sets the laptop back, and one that is used beside it is a second laptop of
@@ -75,10 +76,10 @@ impl<T: AsMut<[u8]>, S: AsMut<[u8]>> Laptop<T, S> {
     ///
     /// Questions 1 to 5, then [`NotWritable`](Refusal::NotWritable),
     /// [`ValueTooLong`](Refusal::ValueTooLong), [`LastVersion`](Refusal::LastVersion).
-    pub fn write(&mut self, i: usize, value: &[u8]) -> Result<Option<Envelope>, Refusal> {
-        let (me, table, store) = self.parts();
-        let answer = raw::write(me, table, store, i, value);
-        self.answered(answer, i)
+    pub fn write(&mut self, i: usize, value: &[u8]) -> Result<Leaving<'_>, Refusal> {
+        let lent = self.lent();
+        let answer = raw::write(lent.me, lent.table, lent.store, i, value);
+        lent.left(i, answer)
     }
 
     /// Takes over record `i` from a last writer that was struck off. An INV
@@ -87,10 +88,10 @@ impl<T: AsMut<[u8]>, S: AsMut<[u8]>> Laptop<T, S> {
     /// # Errors
     ///
     /// Questions 1 to 5, then [`NotReplayable`](Refusal::NotReplayable).
-    pub fn replay(&mut self, i: usize) -> Result<Option<Envelope>, Refusal> {
-        let (me, table, store) = self.parts();
-        let answer = raw::replay(me, table, store, i);
-        self.answered(answer, i)
+    pub fn replay(&mut self, i: usize) -> Result<Leaving<'_>, Refusal> {
+        let lent = self.lent();
+        let answer = raw::replay(lent.me, lent.table, lent.store, i);
+        lent.left(i, answer)
     }
 
     /// Ends the write or replay of record `i`: every other laptop of the view
@@ -99,10 +100,10 @@ impl<T: AsMut<[u8]>, S: AsMut<[u8]>> Laptop<T, S> {
     /// # Errors
     ///
     /// Questions 1 to 5, then [`NotFinished`](Refusal::NotFinished).
-    pub fn validate(&mut self, i: usize) -> Result<Option<Envelope>, Refusal> {
-        let (me, table, store) = self.parts();
-        let answer = raw::validate(me, table, store, i);
-        self.answered(answer, i)
+    pub fn validate(&mut self, i: usize) -> Result<Leaving<'_>, Refusal> {
+        let lent = self.lent();
+        let answer = raw::validate(lent.me, lent.table, lent.store, i);
+        lent.left(i, answer)
     }
 
     /// Sends the INV or VAL of record `i` again, in case it was lost.
@@ -110,29 +111,25 @@ impl<T: AsMut<[u8]>, S: AsMut<[u8]>> Laptop<T, S> {
     /// # Errors
     ///
     /// Questions 1 to 5, then [`NotResendable`](Refusal::NotResendable).
-    pub fn resend(&mut self, i: usize) -> Result<Option<Envelope>, Refusal> {
-        let (me, table, store) = self.parts();
-        let answer = raw::resend(me, table, store, i);
-        self.answered(answer, i)
+    pub fn resend(&mut self, i: usize) -> Result<Leaving<'_>, Refusal> {
+        let lent = self.lent();
+        let answer = raw::resend(lent.me, lent.table, lent.store, i);
+        lent.left(i, answer)
     }
 
-    /// Takes a message in, with the bytes that came along. An INV is answered
-    /// by an ACK, which goes to its sender.
+    /// Takes a message in. An INV is answered by an ACK, which goes to its sender.
     ///
     /// # Errors
     ///
     /// Questions 1 to 5, then [`OtherEpoch`](Refusal::OtherEpoch),
     /// [`OtherSender`](Refusal::OtherSender), [`IllFormed`](Refusal::IllFormed),
     /// and [`StrayAck`](Refusal::StrayAck) or [`StrayVal`](Refusal::StrayVal).
-    pub fn deliver(
-        &mut self,
-        envelope: &Envelope,
-        body: &[u8],
-    ) -> Result<Option<Envelope>, Refusal> {
-        let i = envelope.record;
-        let (me, table, store) = self.parts();
-        let answer = raw::deliver(me, table, store, i, envelope.to_raw(), body);
-        self.answered(answer, i)
+    pub fn deliver(&mut self, came: Arriving<'_>) -> Result<Reply<'_>, Refusal> {
+        let lent = self.lent();
+        let (envelope, i) = (came.envelope(), came.envelope().record);
+        let message = envelope.to_raw();
+        let answer = raw::deliver(lent.me, lent.table, lent.store, i, message, came.body());
+        lent.replied(envelope, answer)
     }
 
     /// Takes message `i` of a packet in: [`packet::fetch`], then [`deliver`](Laptop::deliver).
@@ -140,19 +137,19 @@ impl<T: AsMut<[u8]>, S: AsMut<[u8]>> Laptop<T, S> {
     /// # Errors
     ///
     /// Those of [`packet::fetch`], then those of [`deliver`](Laptop::deliver).
-    pub fn deliver_packet(&mut self, packet: &[u8], i: usize) -> Result<Option<Envelope>, Refusal> {
-        let (me, table, store) = self.parts();
-        let answer = raw::deliver_packet(me, table, store, packet, i);
-        // The answer is about the record that the message names.
-        let record = match answer.kind {
-            0 => 0,
-            _ => packet::fetch(packet, i)?.envelope.record,
-        };
-        self.answered(answer, record)
+    pub fn deliver_packet(&mut self, packet: &[u8], i: usize) -> Result<Reply<'_>, Refusal> {
+        let lent = self.lent();
+        let answer = raw::deliver_packet(lent.me, lent.table, lent.store, packet, i);
+        Refusal::check(answer.number)?;
+        lent.replied(packet::fetch(packet, i)?.envelope(), answer)
     }
 
-    fn parts(&mut self) -> (Replica, &mut [u8], &mut [u8]) {
-        (self.me, self.table.as_mut(), self.store.as_mut())
+    fn lent(&mut self) -> Memory<'_> {
+        Memory {
+            me: self.me,
+            table: self.table.as_mut(),
+            store: self.store.as_mut(),
+        }
     }
 }
 
@@ -192,17 +189,6 @@ impl<T, S> Laptop<T, S> {
         Ok(())
     }
 
-    /// Who gets a message that left the last event: for an ACK the sender of
-    /// the INV that it acknowledges, `inv_sender`; otherwise all others in the
-    /// view, and `inv_sender` is not looked at.
-    pub fn recipients(&self, envelope: &Envelope, inv_sender: u8) -> Members {
-        Members::from(raw::recipients(
-            self.me,
-            envelope.message.kind(),
-            inv_sender,
-        ))
-    }
-
     /// The laptop `me` on its table and store, as its last event left the three.
     ///
     /// ```
@@ -212,7 +198,7 @@ impl<T, S> Laptop<T, S> {
     /// let mut table = [0; 16];
     /// let mut store = [0; 192];
     /// let mut laptop = Laptop::start_in(0, 0b11, &mut table, &mut store)?;
-    /// laptop.write(0, b"Wren")?;
+    /// let inv = laptop.write(0, b"Wren")?.into_owned();
     /// let (me, _, _) = laptop.into_parts();
     ///
     /// // Between the events the memory is the caller's to keep, not to change.
@@ -228,17 +214,6 @@ impl<T, S> Laptop<T, S> {
     /// Gives identity, table and store back.
     pub fn into_parts(self) -> (Replica, T, S) {
         (self.me, self.table, self.store)
-    }
-
-    fn answered(&self, answer: Answer, record: usize) -> Result<Option<Envelope>, Refusal> {
-        Refusal::check(answer.number)?;
-        let message = Message::of(answer.kind, answer.version, answer.tie);
-        Ok(message.map(|message| Envelope {
-            sender: self.me.number,
-            epoch: self.me.epoch,
-            record,
-            message,
-        }))
     }
 }
 
@@ -276,15 +251,7 @@ impl<T: AsRef<[u8]>, S: AsRef<[u8]>> Laptop<T, S> {
     pub fn read(&self, i: usize) -> Result<&[u8], Refusal> {
         let read = raw::read(self.me, self.table(), self.store(), i);
         Refusal::check(read.number)?;
-        Ok(self.part(i, read.len))
-    }
-
-    /// The bytes that a message takes along, right after the event that sent
-    /// it: an INV's are the record's value, the others take none.
-    pub fn body(&self, envelope: &Envelope) -> &[u8] {
-        let i = envelope.record;
-        let len = raw::body(self.table(), self.store(), i, envelope.message.kind());
-        self.part(i, len)
+        Ok(part(self.store(), i, read.len))
     }
 
     /// The table: 16 bytes for each record.
@@ -295,15 +262,6 @@ impl<T: AsRef<[u8]>, S: AsRef<[u8]>> Laptop<T, S> {
     /// The store: 192 bytes for each record.
     pub fn store(&self) -> &[u8] {
         self.store.as_ref()
-    }
-
-    /// The first bytes of record `i` in the store, as many as the engine said; of no record, none.
-    fn part(&self, i: usize, len: usize) -> &[u8] {
-        let at = i.saturating_mul(Record::VALUE_MAX);
-        self.store()
-            .get(at..)
-            .and_then(|s| s.get(..len))
-            .unwrap_or_default()
     }
 }
 
@@ -316,4 +274,55 @@ impl<T: AsRef<[u8]>, S: AsRef<[u8]>> fmt::Debug for Laptop<T, S> {
             .field("count", &self.count())
             .finish_non_exhaustive()
     }
+}
+
+/// A laptop's identity and memory during one event.
+struct Memory<'a> {
+    me: Replica,
+    table: &'a mut [u8],
+    store: &'a mut [u8],
+}
+
+impl<'a> Memory<'a> {
+    /// What leaves an event of this laptop's own on record `i`.
+    fn left(self, i: usize, answer: Answer) -> Result<Leaving<'a>, Refusal> {
+        let left = self.leaving(i, answer, 0)?;
+        Ok(left.expect("a message leaves each of these events"))
+    }
+
+    /// What leaves the delivery of this message.
+    fn replied(self, came: Envelope, answer: Answer) -> Result<Reply<'a>, Refusal> {
+        let leaving = self.leaving(came.record, answer, came.sender)?;
+        Ok(Reply { leaving })
+    }
+
+    /// What leaves an event on record `i`; `sender` is that of the delivered message.
+    fn leaving(
+        self,
+        record: usize,
+        answer: Answer,
+        sender: u8,
+    ) -> Result<Option<Leaving<'a>>, Refusal> {
+        Refusal::check(answer.number)?;
+        let Some(message) = Message::of(answer.kind, answer.version, answer.tie) else {
+            return Ok(None);
+        };
+        let envelope = Envelope {
+            sender: self.me.number,
+            epoch: self.me.epoch,
+            record,
+            message,
+        };
+        let len = raw::body(self.table, self.store, record, answer);
+        Ok(Some(Leaving {
+            envelope,
+            body: part(self.store, record, len).into(),
+            recipients: raw::recipients(self.me, answer.kind, sender).into(),
+        }))
+    }
+}
+
+/// The first bytes of record `i` in the store, as many as the engine said.
+fn part(store: &[u8], i: usize, len: usize) -> &[u8] {
+    &store[i * Record::VALUE_MAX..][..len]
 }

@@ -7,8 +7,10 @@
 //! document 01 says. This crate calls it with Rust's types and adds no rule.
 //!
 //! * [`Laptop`] is one laptop with its records. Each event on it is accepted,
-//!   with the message that leaves, or refused with its [`Refusal`]; a refused
-//!   event has changed nothing.
+//!   with what leaves, or refused with its [`Refusal`]; a refused event has
+//!   changed nothing.
+//! * [`Leaving`] is what leaves an event: a message, its bytes and who gets it.
+//!   [`Arriving`] is what comes in.
 //! * [`packet`] puts messages into the bytes that go on air, and takes them out.
 //! * [`play()`] plays a script of a small group, as the playing program does.
 //! * [`raw`] has the exported functions as they are, over slices and numbers.
@@ -22,18 +24,21 @@
 //! let mut hut = Laptop::start(1, 0b11, 1)?;
 //!
 //! // The net saves. Until the hut has acknowledged, neither shows the record.
-//! let inv = net.write(0, b"Blue tit, wing 62")?.expect("a write sends an INV");
-//! let ack = hut.deliver(&inv, net.body(&inv))?.expect("an INV is acknowledged");
+//! let inv = net.write(0, b"Blue tit, wing 62")?;
+//! let ack = hut.deliver(inv.arriving())?.leaving();
+//! let ack = ack.expect("an INV is acknowledged").into_owned();
 //! assert_eq!(hut.read(0), Err(Refusal::NotReadable));
 //!
-//! net.deliver(&ack, hut.body(&ack))?;
-//! let val = net.validate(0)?.expect("a validation sends a VAL");
-//! hut.deliver(&val, net.body(&val))?;
+//! assert_eq!(net.deliver(ack.arriving())?.leaving(), None);
+//! let val = net.validate(0)?;
+//! assert_eq!(hut.deliver(val.arriving())?.leaving(), None);
 //! assert_eq!(net.read(0)?, b"Blue tit, wing 62");
 //! assert_eq!(hut.read(0)?, b"Blue tit, wing 62");
 //! # Ok(())
 //! # }
 //! ```
+//!
+//! In a hut the messages go by radio, as [packets](packet).
 //!
 //! # What is the caller's
 //!
@@ -47,7 +52,9 @@
 #![warn(missing_docs)]
 #![deny(unsafe_code)]
 
+mod arriving;
 mod laptop;
+mod leaving;
 mod members;
 mod message;
 pub mod packet;
@@ -57,7 +64,9 @@ mod record;
 mod refusal;
 pub mod sys;
 
+pub use arriving::Arriving;
 pub use laptop::{Laptop, Lent};
+pub use leaving::{Leaving, Reply};
 pub use members::Members;
 pub use message::{Envelope, Message};
 pub use player::{play, SCRIPT_MAX};

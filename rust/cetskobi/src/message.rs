@@ -5,8 +5,10 @@ use std::fmt;
 use crate::sys;
 use crate::Timestamp;
 
-/// A message: one of three kinds, with its timestamp.
+/// A message: one of three kinds, with its timestamp. Later versions may have
+/// more kinds.
 #[derive(Clone, Copy, Debug, PartialEq, Eq, Hash)]
+#[non_exhaustive]
 pub enum Message {
     /// Invalidation: a value was written or is replayed. It takes the record's
     /// value along, and goes to all others in the view.
@@ -35,6 +37,15 @@ impl Message {
         }
     }
 
+    /// The name of its kind: INV, ACK or VAL.
+    pub const fn name(self) -> &'static str {
+        match self {
+            Message::Inv(_) => "INV",
+            Message::Ack(_) => "ACK",
+            Message::Val(_) => "VAL",
+        }
+    }
+
     /// The message of this kind; the kind 0, and any unknown one, is none.
     pub(crate) const fn of(kind: u8, version: u32, tie: u8) -> Option<Message> {
         let timestamp = Timestamp { version, tie };
@@ -50,16 +61,12 @@ impl Message {
 impl fmt::Display for Message {
     /// As in document 01: `INV (1,5)`.
     fn fmt(&self, f: &mut fmt::Formatter<'_>) -> fmt::Result {
-        let kind = match self {
-            Message::Inv(_) => "INV",
-            Message::Ack(_) => "ACK",
-            Message::Val(_) => "VAL",
-        };
-        write!(f, "{kind} {}", self.timestamp())
+        write!(f, "{} {}", self.name(), self.timestamp())
     }
 }
 
-/// A message on its way. The bytes that an INV takes along travel beside it.
+/// A message on its way, without the bytes that an INV takes along:
+/// [`Leaving`](crate::Leaving) and [`Arriving`](crate::Arriving) have both together.
 #[derive(Clone, Copy, Debug, PartialEq, Eq, Hash)]
 pub struct Envelope {
     /// The number of the laptop that sent it.

@@ -10,7 +10,7 @@ pub const SCRIPT_MAX: usize = 65_536;
 const PRINTED_MAX: (usize, usize) = (25, 2);
 
 /// Plays a script of a group of two to four laptops with one record (document
-/// 01, "The playing program") and gives what it prints.
+/// 01, "The playing program") and gives what it prints. It needs 96 KiB of stack.
 ///
 /// # Errors
 ///

@@ -14,8 +14,8 @@
 
 use crate::sys;
 
-pub use crate::sys::{Admission, Answer, Fetched, Message, Played, Read, Replica, Written};
-pub use crate::sys::{MESSAGE_WORDS, RECORD_BYTES};
+pub use crate::sys::{Admission, Answer, Fetched, Message, Played, Reading, Replica, Written};
+pub use crate::sys::{GONE, MESSAGE_WORDS, RECORD_BYTES};
 
 /// Fresh start: table and store become those of fresh records, unless it is
 /// refused. The identity is of epoch 0.
@@ -32,7 +32,7 @@ pub fn view(me: Replica, epoch: u32, set: u16) -> Admission {
 }
 
 /// Read of record `i`: the length of its value, which begins at 192 times `i`.
-pub fn read(me: Replica, table: &[u8], store: &[u8], i: usize) -> Read {
+pub fn read(me: Replica, table: &[u8], store: &[u8], i: usize) -> Reading {
     let (t, t_len, s, s_len) = parts(table, store);
     // SAFETY: two slices that are only read.
     unsafe { sys::cetskobi_read(me, t, t_len, s, s_len, i) }
@@ -116,12 +116,13 @@ pub fn resend(me: Replica, table: &mut [u8], store: &[u8], i: usize) -> Answer {
     }
 }
 
-/// How many bytes of record `i` a message of this kind takes along, right after
-/// the event that sent it.
-pub fn body(table: &[u8], store: &[u8], i: usize, kind: u8) -> usize {
+/// How many bytes of record `i` the message takes along that left an event with
+/// this answer: 0 unless it is an INV; [`GONE`] where the record no longer has
+/// the INV's timestamp, or is not there with all its bytes.
+pub fn body(table: &[u8], store: &[u8], i: usize, left: Answer) -> usize {
     let (t, t_len, s, s_len) = parts(table, store);
     // SAFETY: two slices that are only read.
-    unsafe { sys::cetskobi_body(t, t_len, s, s_len, i, kind) }
+    unsafe { sys::cetskobi_body(t, t_len, s, s_len, i, left) }
 }
 
 /// Who gets a message of this kind, bit n for replica n: an ACK goes to the

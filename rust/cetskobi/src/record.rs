@@ -5,8 +5,10 @@ use std::fmt;
 use crate::sys::RECORD_BYTES;
 use crate::Members;
 
-/// The state of a record.
+/// The state of a record. Later versions may have more.
 #[derive(Clone, Copy, Debug, PartialEq, Eq, Hash)]
+#[non_exhaustive]
+#[repr(u8)]
 pub enum State {
     /// The record may be shown.
     Valid,
@@ -23,13 +25,29 @@ pub enum State {
 
 impl State {
     /// The states in the order of their numbers in the table.
-    pub const ALL: [State; 5] = [
+    pub const ALL: &[State] = &[
         State::Valid,
         State::Invalid,
         State::InvalidWrite,
         State::Write,
         State::Replay,
     ];
+
+    /// Its number in the table.
+    pub const fn number(self) -> u8 {
+        self as u8
+    }
+
+    /// Its name, as document 01 has it.
+    pub const fn name(self) -> &'static str {
+        match self {
+            State::Valid => "valid",
+            State::Invalid => "invalid",
+            State::InvalidWrite => "invalid-write",
+            State::Write => "write",
+            State::Replay => "replay",
+        }
+    }
 
     /// The letter that the playing program prints: V, I, X, W or R.
     pub const fn letter(self) -> char {
@@ -45,13 +63,7 @@ impl State {
 
 impl fmt::Display for State {
     fn fmt(&self, f: &mut fmt::Formatter<'_>) -> fmt::Result {
-        f.write_str(match self {
-            State::Valid => "valid",
-            State::Invalid => "invalid",
-            State::InvalidWrite => "invalid-write",
-            State::Write => "write",
-            State::Replay => "replay",
-        })
+        f.write_str(self.name())
     }
 }
 
@@ -139,7 +151,7 @@ impl Record {
         let [a0, a1] = self.acks.bits().to_le_bytes();
         #[rustfmt::skip]
         let bytes = [
-            self.state as u8, self.timestamp.tie, self.writer, self.written.tie,
+            self.state.number(), self.timestamp.tie, self.writer, self.written.tie,
             v0, v1, v2, v3,
             w0, w1, w2, w3,
             a0, a1, self.len, 0,

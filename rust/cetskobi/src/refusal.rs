@@ -4,8 +4,10 @@ use std::error::Error;
 use std::fmt;
 
 /// Why an event or a packet was refused: the first question of document 01
-/// whose answer is no. A refused event has changed nothing.
+/// whose answer is no. A refused event has changed nothing. Later versions may
+/// have more: document 02 announces 26 to 37.
 #[derive(Clone, Copy, Debug, PartialEq, Eq, Hash, PartialOrd, Ord)]
+#[non_exhaustive]
 #[repr(u8)]
 pub enum Refusal {
     /// 1: the laptop's number is above 15, or its view has fewer than two.
@@ -66,7 +68,7 @@ pub enum Refusal {
 
 impl Refusal {
     /// Every refusal, in the order of the numbers.
-    pub const ALL: [Refusal; 26] = [
+    pub const ALL: &[Refusal] = &[
         Refusal::NoGroup,
         Refusal::LentMemory,
         Refusal::StruckOff,
@@ -102,7 +104,7 @@ impl Refusal {
 
     /// The refusal with this number; 0, an accepted event's, is none.
     pub fn from_number(number: u8) -> Option<Refusal> {
-        Refusal::ALL.into_iter().find(|r| r.number() == number)
+        Refusal::ALL.iter().copied().find(|r| r.number() == number)
     }
 
     /// Passes an accepted event's 0 on.
@@ -113,14 +115,14 @@ impl Refusal {
         Err(Refusal::from_number(number).expect("the engine answers with a number of document 01"))
     }
 
-    /// What it means, in a few plain words.
+    /// What is wrong, in a few plain words.
     pub const fn meaning(self) -> &'static str {
         match self {
             Refusal::NoGroup => {
-                "a laptop's number is at most 15 and its view has at least two laptops"
+                "the laptop's number is above 15, or its view has fewer than two laptops"
             }
             Refusal::LentMemory => {
-                "a laptop has 1 to 4,096 records and 192 bytes of store for each"
+                "there are not 1 to 4,096 records, or not 192 bytes of store for each"
             }
             Refusal::StruckOff => "this laptop has been struck off its group",
             Refusal::StrayRecord => "there is no record of that number",
@@ -129,11 +131,13 @@ impl Refusal {
             Refusal::NotWritable => {
                 "an earlier write or replay of the record is still under way here"
             }
-            Refusal::ValueTooLong => "a value has at most 192 bytes",
+            Refusal::ValueTooLong => "the value is longer than 192 bytes",
             Refusal::LastVersion => "the record has used up its versions",
             Refusal::OtherEpoch => "the message is of another epoch than this laptop",
             Refusal::OtherSender => "the message's sender is not another laptop of the view",
-            Refusal::IllFormed => "the message's tie-breaker or length is wrong for its kind",
+            Refusal::IllFormed => {
+                "the message's tie-breaker is above 15, or its bytes do not fit its kind"
+            }
             Refusal::StrayAck => "no such acknowledgement is awaited, or it is counted already",
             Refusal::StrayVal => {
                 "the record is valid already, or the validation is for another timestamp"
@@ -156,7 +160,7 @@ impl Refusal {
             Refusal::PacketEntry => "a message in the packet's contents table is broken",
             Refusal::PacketIndex => "the packet has no message of that number",
             Refusal::PacketMessages => {
-                "a packet takes 1 to 64 messages whose numbers and bodies fit"
+                "there are not 1 to 64 messages, or the numbers or bytes of one do not fit"
             }
             Refusal::PacketRoom => "the packet would be longer than 1,400 bytes or than its room",
             Refusal::PlayerRoom => "the script is longer than 65,536 bytes or lacks room to print",

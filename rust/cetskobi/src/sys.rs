@@ -11,6 +11,8 @@
 pub const RECORD_BYTES: usize = 16;
 /// The words of one message that goes into a packet.
 pub const MESSAGE_WORDS: usize = 7;
+/// The length of a text that is gone from its record: [`cetskobi_body`].
+pub const GONE: usize = usize::MAX;
 
 /// The identity of a replica, a laptop of a group.
 #[repr(C)]
@@ -57,7 +59,7 @@ pub struct Message {
 /// 0 or the number of the question that said no; and how many bytes are the value.
 #[repr(C)]
 #[derive(Clone, Copy, Debug, PartialEq, Eq)]
-pub struct Read {
+pub struct Reading {
     /// 0, or the number of the question that said no.
     pub number: u8,
     /// The length of the value, which begins at 192 times the record's number.
@@ -125,7 +127,7 @@ unsafe extern "C" {
     /// Change of view: see [`Laptop::change_view`](crate::Laptop::change_view).
     pub fn cetskobi_view(me: Replica, epoch: u32, set: u16) -> Admission;
     /// Read of record i: see [`Laptop::read`](crate::Laptop::read).
-    pub fn cetskobi_read(me: Replica, table: *const u8, table_len: usize, store: *const u8, store_len: usize, i: usize) -> Read;
+    pub fn cetskobi_read(me: Replica, table: *const u8, table_len: usize, store: *const u8, store_len: usize, i: usize) -> Reading;
     /// Write of a value to record i: see [`Laptop::write`](crate::Laptop::write).
     pub fn cetskobi_write(me: Replica, table: *mut u8, table_len: usize, store: *mut u8, store_len: usize, i: usize, value: *const u8, value_len: usize) -> Answer;
     /// Delivery of a message about record i: see [`Laptop::deliver`](crate::Laptop::deliver).
@@ -136,9 +138,9 @@ unsafe extern "C" {
     pub fn cetskobi_validate(me: Replica, table: *mut u8, table_len: usize, store: *const u8, store_len: usize, i: usize) -> Answer;
     /// Resend of record i: see [`Laptop::resend`](crate::Laptop::resend).
     pub fn cetskobi_resend(me: Replica, table: *mut u8, table_len: usize, store: *const u8, store_len: usize, i: usize) -> Answer;
-    /// How many bytes a message of this kind takes along: see [`Laptop::body`](crate::Laptop::body).
-    pub fn cetskobi_body(table: *const u8, table_len: usize, store: *const u8, store_len: usize, i: usize, kind: u8) -> usize;
-    /// Who gets a message of this kind: see [`Laptop::recipients`](crate::Laptop::recipients).
+    /// How many bytes what left an event on record i takes along, or [`GONE`]: see [`Leaving::body`](crate::Leaving::body).
+    pub fn cetskobi_body(table: *const u8, table_len: usize, store: *const u8, store_len: usize, i: usize, left: Answer) -> usize;
+    /// Who gets a message of this kind: see [`Leaving::recipients`](crate::Leaving::recipients).
     pub fn cetskobi_recipients(me: Replica, kind: u8, sender: u8) -> u16;
     /// Message i of a packet: see [`packet::fetch`](crate::packet::fetch).
     pub fn cetskobi_fetch(packet: *const u8, packet_len: usize, i: usize) -> Fetched;

@@ -97,8 +97,8 @@ fn read() {
             i,
         )
     };
-    assert_eq!(call(1), Read { number: 0, len: 62 });
-    assert_eq!(call(2), Read { number: 4, len: 0 });
+    assert_eq!(call(1), Reading { number: 0, len: 62 });
+    assert_eq!(call(2), Reading { number: 4, len: 0 });
 }
 
 #[test]

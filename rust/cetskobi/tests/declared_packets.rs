@@ -25,13 +25,25 @@ fn body() {
     let table = [[0; RECORD_BYTES], writing].concat();
     let store = [7; 2 * 192];
     let (t, s) = (table.as_ptr(), store.as_ptr());
-    let call = |i, kind| unsafe { cetskobi_body(t, table.len(), s, store.len(), i, kind) };
-    assert_eq!(call(1, 1), 62);
-    assert_eq!(call(1, 2), 0);
-    assert_eq!(call(1, 3), 0);
-    assert_eq!(call(0, 1), 0);
-    assert_eq!(call(2, 1), 0);
-    assert_eq!(call(usize::MAX, 1), 0);
+    let room = |store_len, i, kind, version, tie| {
+        let left = Answer {
+            number: 0,
+            kind,
+            tie,
+            version,
+        };
+        unsafe { cetskobi_body(t, table.len(), s, store_len, i, left) }
+    };
+    let call = |i, kind, version, tie| room(store.len(), i, kind, version, tie);
+    assert_eq!(call(1, 1, 6, 2), 62);
+    assert_eq!(call(1, 2, 6, 2), 0);
+    assert_eq!(call(1, 3, 6, 2), 0);
+    assert_eq!(call(0, 1, 0, 0), 0);
+    assert_eq!(call(1, 1, 5, 2), GONE);
+    assert_eq!(call(1, 1, 6, 5), GONE);
+    assert_eq!(call(2, 1, 6, 2), GONE);
+    assert_eq!(call(usize::MAX, 1, 6, 2), GONE);
+    assert_eq!(room(2 * 192 - 1, 1, 1, 6, 2), GONE);
 }
 
 #[test]

@@ -2,6 +2,7 @@
 //! worked morning, and does what the guide says of saves and of the clock.
 //! tests/c/guide.c does the same in C.
 
+use cetskobi::Reply;
 use std::fs;
 
 // The guide's block to the letter, as wide as it is there: the first test
@@ -143,7 +144,7 @@ impl Hut {
 /// The packet's messages.
 fn messages(packet: &[u8]) -> Vec<Message> {
     let messages = packet::messages(packet).expect("a packet");
-    messages.map(|m| m.envelope.message).collect()
+    messages.map(|m| m.envelope().message).collect()
 }
 
 #[test]
@@ -228,7 +229,7 @@ fn set(text: &str) -> Members {
 fn the_worked_morning_is_told_as_it_happens() {
     let mut huts = three();
     // All that was sent. A delivery is of the last that its row can mean.
-    let mut sent: Vec<(u8, Envelope, Vec<u8>)> = Vec::new();
+    let mut sent: Vec<Leaving<'static>> = Vec::new();
     let rows = rows("| at | event | answer | record 7 there | what leaves |");
     assert_eq!(rows.len(), 26);
     for row in rows {
@@ -240,13 +241,12 @@ fn the_worked_morning_is_told_as_it_happens() {
         let laptop = &mut hut.laptop;
         let event = event.split(", 8 ticks later").next().unwrap();
         let (verb, rest) = event.split_once(' ').unwrap_or((event, ""));
-        let mut from = 0;
         let result = match verb {
-            "write" => laptop.write(RING, rest.trim_matches('"').as_bytes()),
+            "write" => (laptop.write(RING, rest.trim_matches('"').as_bytes())).map(Some),
             "read" => laptop.read(RING).map(|_| None),
-            "validate" => laptop.validate(RING),
-            "replay" => laptop.replay(RING),
-            "resend" => laptop.resend(RING),
+            "validate" => laptop.validate(RING).map(Some),
+            "replay" => laptop.replay(RING).map(Some),
+            "resend" => laptop.resend(RING).map(Some),
             "change_view" => {
                 let (epoch, view) = rest.split_once(", ").unwrap();
                 let view = set(view);
@@ -255,22 +255,20 @@ fn the_worked_morning_is_told_as_it_happens() {
                     .map(|()| None)
             }
             "deliver" => {
-                let is_meant = |(sender, e, _): &&(u8, Envelope, Vec<u8>)| {
+                let is_meant = |left: &&Leaving| {
+                    let e = left.envelope();
                     let named = e.message.to_string() == rest;
-                    let from = rest == format!("ACK from {sender}");
-                    *sender != at && (named || from && matches!(e.message, Message::Ack(_)))
+                    let from = rest == format!("ACK from {}", e.sender);
+                    e.sender != at && (named || from && matches!(e.message, Message::Ack(_)))
                 };
-                let (sender, envelope, body) = sent.iter().rfind(is_meant).expect("was sent");
-                from = *sender;
-                laptop.deliver(envelope, body)
+                let meant = sent.iter().rfind(is_meant).expect("was sent");
+                laptop.deliver(meant.arriving()).map(Reply::leaving)
             }
             _ => panic!("no event: {event}"),
         };
-        assert_eq!(
-            result.map_or_else(Refusal::number, |_| 0),
-            answer,
-            "{row:?}"
-        );
+        let result = result.map(|left| left.map(Leaving::into_owned));
+        let number = result.as_ref().map_or_else(|r| r.number(), |_| 0);
+        assert_eq!(number, answer, "{row:?}");
         // The record: its letter, its stamp, and who has acknowledged, if that is told.
         let r = laptop.record(RING).unwrap();
         let now = format!("{} {}", r.state.letter(), r.timestamp);
@@ -280,7 +278,8 @@ fn the_worked_morning_is_told_as_it_happens() {
         }
         // What leaves: the message first, and to whom, if that is told.
         let left = result.unwrap_or(None);
-        let told = left.map_or("".to_owned(), |e| e.message.to_string());
+        let told = left.as_ref();
+        let told = told.map_or("".to_owned(), |l| l.envelope().message.to_string());
         let message = ["INV", "ACK", "VAL"]
             .iter()
             .any(|kind| leaves.starts_with(kind));
@@ -288,12 +287,12 @@ fn the_worked_morning_is_told_as_it_happens() {
             leaves.starts_with(&told) && message == left.is_some(),
             "{row:?}"
         );
-        if let Some(envelope) = left {
+        if let Some(left) = left {
             if let Some(to) = leaves.strip_prefix(&format!("{told} to {{")) {
                 let to = to.split('}').next().unwrap();
-                assert_eq!(set(to), laptop.recipients(&envelope, from), "{row:?}");
+                assert_eq!(set(to), left.recipients(), "{row:?}");
             }
-            sent.push((at, envelope, laptop.body(&envelope).to_vec()));
+            sent.push(left);
         }
     }
     for hut in &huts[..2] {
@@ -423,7 +422,8 @@ fn an_overtaken_laptop_is_freed_by_a_save_elsewhere() {
     two.is(State::InvalidWrite, stamp(1, 5), 0);
     assert_eq!(one.open(RING), Err(Refusal::NotReadable));
     let left = one.laptop.write(RING, b"one's").expect("accepted");
-    one.put_again(RING, left, WAIT_FIRST);
+    let left = left.into_owned();
+    one.put_again(left, WAIT_FIRST);
     one.send();
     exchange(&mut one, &mut two);
     one.shows(b"one's");

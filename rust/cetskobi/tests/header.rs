@@ -90,6 +90,8 @@ fn type_of_c(kind: &str) -> String {
 fn functions_of_c(text: &str) -> Functions {
     let parts = text.split("*/").filter_map(|part| part.split("/*").next());
     let code: String = parts.collect();
+    let code: Vec<&str> = code.lines().filter(|l| !l.starts_with('#')).collect();
+    let code = code.join("\n");
     let parameter = |text: &str| match text.split_once('*') {
         Some((kind, name)) => match kind.trim().strip_prefix("const ") {
             Some(kind) => format!("{name}: *const {}", type_of_c(kind)),
@@ -194,8 +196,15 @@ fn header_and_declarations_are_the_same() {
     assert!(header.remove("Record").is_some() && header.remove("Entry").is_some());
     assert_eq!(declared, header);
     let fields: Vec<usize> = declared.values().map(Vec::len).collect();
-    // Admission, Answer, Fetched, Message, Played, Read, Replica, Written.
+    // Admission, Answer, Fetched, Message, Played, Reading, Replica, Written.
     assert_eq!(fields, [2, 4, 9, 5, 2, 2, 3, 2]);
+    // In C++ a struct and a function of one name hide each other.
+    let named = |f: &String| {
+        structs_of_c(HEADER)
+            .keys()
+            .any(|s| *f == format!("cetskobi_{}", s.to_lowercase()))
+    };
+    assert_eq!(functions_of_c(HEADER).keys().find(|f| named(f)), None);
 }
 
 #[test]
@@ -275,12 +284,19 @@ fn numbers_are_the_same() {
         ("VAL", kind(Message::Val)),
     ];
     let named = limits_and_kinds.map(|(name, number)| (name.to_owned(), number));
-    let states = State::ALL.map(|state| (upper(state), state as usize));
-    let refusals = Refusal::ALL.map(|r| (format!("REFUSED_{}", upper(r)), r.number().into()));
-    let all: BTreeMap<String, usize> = named.into_iter().chain(states).chain(refusals).collect();
+    let refusals = Refusal::ALL.iter();
+    let refusals = refusals.map(|r| (format!("REFUSED_{}", upper(r)), r.number().into()));
+    let all: BTreeMap<String, usize> = named.into_iter().chain(states()).chain(refusals).collect();
     let header = begun("CETSKOBI_").into_iter();
     let header: BTreeMap<String, usize> = header.map(|(name, c)| (name, c.0)).collect();
     assert_eq!(header, all);
+    assert!(HEADER.contains("\n#define CETSKOBI_GONE ((size_t)-1)\n") && sys::GONE == usize::MAX);
+}
+
+/// The states by their names, with their numbers.
+fn states() -> BTreeMap<String, usize> {
+    let states = State::ALL.iter();
+    states.map(|s| (upper(s), s.number().into())).collect()
 }
 
 /// The numbers that the engine puts into a record's byte 0.
@@ -293,14 +309,5 @@ fn states_are_the_engines() {
         Some((upper(state), code))
     });
     let codes: BTreeMap<String, usize> = codes.collect();
-    let states = State::ALL.map(|state| (upper(state), state as usize));
-    assert_eq!(codes, BTreeMap::from(states));
-}
-
-#[test]
-fn refusals_mean_the_same() {
-    let header = begun("CETSKOBI_REFUSED_");
-    for refusal in Refusal::ALL {
-        assert_eq!(header[&upper(refusal)].1, refusal.meaning());
-    }
+    assert_eq!(codes, states());
 }

@@ -1,6 +1,7 @@
 //! A laptop's events, its limits, and lent memory.
 
-use cetskobi::{Envelope, Laptop, Members, Message, Record, Refusal, Replica, State, Timestamp};
+use cetskobi::{Arriving, Envelope, Laptop, Leaving, Members, Message, Record, Refusal, Replica};
+use cetskobi::{Reply, State, Timestamp};
 
 fn stamp(version: u32, tie: u8) -> Timestamp {
     Timestamp { version, tie }
@@ -18,6 +19,23 @@ fn from(sender: u8, message: Message) -> Envelope {
         record: 1,
         message,
     }
+}
+
+/// The message of what a delivery answers, or its refusal.
+fn replied(reply: Result<Reply, Refusal>) -> Result<Option<Envelope>, Refusal> {
+    reply.map(|reply| reply.leaving().map(|left| left.envelope()))
+}
+
+/// An acknowledgement of the first write arrives.
+fn acked(l: &mut Laptop, sender: u8) -> Result<Option<Envelope>, Refusal> {
+    let ack = from(sender, Message::Ack(stamp(1, 2)));
+    replied(l.deliver(Arriving::new(ack, b"")))
+}
+
+/// An INV of laptop 5 arrives, with these bytes.
+fn invalidated(l: &mut Laptop, stamp: Timestamp, body: &[u8]) -> Result<Option<Envelope>, Refusal> {
+    let inv = from(5, Message::Inv(stamp));
+    replied(l.deliver(Arriving::new(inv, body)))
 }
 
 #[test]
@@ -72,27 +90,22 @@ fn a_refused_start() {
 #[test]
 fn a_write_from_save_to_screen() {
     let mut l = laptop();
-    let inv = l.write(1, b"wren").unwrap().unwrap();
-    assert_eq!(inv, from(2, Message::Inv(stamp(1, 2))));
+    let inv = l.write(1, b"wren").unwrap().into_owned();
+    assert_eq!(inv.envelope(), from(2, Message::Inv(stamp(1, 2))));
+    assert_eq!(inv.body(), b"wren");
+    assert_eq!(inv.recipients(), Members::from_iter([1, 5]));
     assert_eq!(l.record(1).unwrap().state, State::Write);
     assert_eq!(l.read(1), Err(Refusal::NotReadable));
     assert_eq!(l.write(1, b"robin"), Err(Refusal::NotWritable));
-    assert_eq!(l.resend(1), Ok(Some(inv)));
-    assert_eq!(
-        l.deliver(&from(5, Message::Ack(stamp(1, 2))), b""),
-        Ok(None)
-    );
-    assert_eq!(
-        l.deliver(&from(5, Message::Ack(stamp(1, 2))), b""),
-        Err(Refusal::StrayAck)
-    );
+    assert_eq!(l.resend(1), Ok(inv));
+    assert_eq!(acked(&mut l, 5), Ok(None));
+    assert_eq!(acked(&mut l, 5), Err(Refusal::StrayAck));
     assert_eq!(l.validate(1), Err(Refusal::NotFinished));
-    assert_eq!(
-        l.deliver(&from(1, Message::Ack(stamp(1, 2))), b""),
-        Ok(None)
-    );
+    assert_eq!(acked(&mut l, 1), Ok(None));
     assert_eq!(l.record(1).unwrap().acks, Members::from_iter([1, 5]));
-    assert_eq!(l.validate(1), Ok(Some(from(2, Message::Val(stamp(1, 2))))));
+    let val = l.validate(1).unwrap();
+    assert_eq!(val.envelope(), from(2, Message::Val(stamp(1, 2))));
+    assert_eq!((val.body(), val.recipients().bits()), (&b""[..], 0b10_0010));
     assert_eq!(l.read(1), Ok(b"wren".as_slice()));
     assert_eq!(l.record(0), laptop().record(0));
     assert_eq!(l.record(2), laptop().record(2));
@@ -101,23 +114,22 @@ fn a_write_from_save_to_screen() {
 #[test]
 fn an_overtaken_write_and_a_replay() {
     let mut l = laptop();
-    l.write(1, b"wren").unwrap();
-    let inv = from(5, Message::Inv(stamp(1, 5)));
-    assert_eq!(
-        l.deliver(&inv, b"robin"),
-        Ok(Some(from(2, Message::Ack(stamp(1, 5)))))
-    );
+    let inv = l.write(1, b"wren").unwrap().into_owned();
+    let ack = from(2, Message::Ack(stamp(1, 5)));
+    assert_eq!(invalidated(&mut l, stamp(1, 5), b"robin"), Ok(Some(ack)));
+    // What was kept of the overtaken write is still its own text.
+    assert_eq!(inv.body(), b"wren");
     let record = l.record(1).unwrap();
     assert_eq!(record.state, State::InvalidWrite);
     assert_eq!(record.timestamp, stamp(1, 5));
     assert_eq!(record.written, stamp(1, 2));
     assert_eq!(record.writer, 5);
-    l.deliver(&from(5, Message::Val(stamp(1, 5))), b"").unwrap();
+    let val = from(5, Message::Val(stamp(1, 5)));
+    assert_eq!(replied(l.deliver(Arriving::new(val, b""))), Ok(None));
     assert_eq!(l.read(1), Ok(b"robin".as_slice()));
 
     // The writer of the next one dies before its validation.
-    l.deliver(&from(5, Message::Inv(stamp(2, 5))), b"dunnock")
-        .unwrap();
+    assert!(invalidated(&mut l, stamp(2, 5), b"dunnock").is_ok());
     assert_eq!(l.replay(1), Err(Refusal::NotReplayable));
     assert_eq!(l.change_view(0, 0b110), Err(Refusal::OldEpoch));
     assert_eq!(l.change_view(1, 0b111), Err(Refusal::ViewNotWithin));
@@ -127,11 +139,11 @@ fn an_overtaken_write_and_a_replay() {
         epoch: 1,
         ..from(2, Message::Inv(stamp(2, 5)))
     };
-    assert_eq!(l.replay(1), Ok(Some(again)));
-    assert_eq!(
-        l.deliver(&from(1, Message::Ack(stamp(2, 5))), b""),
-        Err(Refusal::OtherEpoch)
-    );
+    let replayed = l.replay(1).unwrap();
+    assert_eq!(replayed.envelope(), again);
+    assert_eq!(replayed.body(), b"dunnock");
+    assert_eq!(replayed.recipients().bits(), 0b010);
+    assert_eq!(acked(&mut l, 1), Err(Refusal::OtherEpoch));
 }
 
 #[test]
@@ -150,10 +162,10 @@ fn values_of_192_and_193_bytes() {
     let before = l.clone();
     assert_eq!(l.write(0, &[1; 193]), Err(Refusal::ValueTooLong));
     assert_eq!(l, before);
-    let inv = from(5, Message::Inv(stamp(1, 5)));
-    assert_eq!(l.deliver(&inv, &[2; 193]), Err(Refusal::IllFormed));
+    let refused = invalidated(&mut l, stamp(1, 5), &[2; 193]);
+    assert_eq!(refused, Err(Refusal::IllFormed));
     assert_eq!(l, before);
-    assert!(l.deliver(&inv, &[2; 192]).is_ok());
+    assert!(invalidated(&mut l, stamp(1, 5), &[2; 192]).is_ok());
     assert_eq!(l.store()[192..384], [2; 192]);
     assert!(l.write(0, &[1; 192]).is_ok());
     assert_eq!(l.store()[..192], [1; 192]);
@@ -167,20 +179,18 @@ fn records_4095_and_4096() {
     assert_eq!(l.write(4096, b"x"), Err(Refusal::StrayRecord));
     assert_eq!(l.write(usize::MAX, b"x"), Err(Refusal::StrayRecord));
     assert_eq!(l.record(4096), None);
-    assert_eq!(l.write(4095, b"x").unwrap().unwrap().record, 4095);
+    assert_eq!(l.write(4095, b"x").unwrap().envelope().record, 4095);
     assert_eq!(l.store()[4095 * 192], b'x');
 }
 
 #[test]
 fn the_last_version() {
     let mut l = laptop();
-    l.deliver(&from(5, Message::Inv(stamp(u32::MAX - 1, 5))), b"")
-        .unwrap();
+    assert!(invalidated(&mut l, stamp(u32::MAX - 1, 5), b"").is_ok());
     assert!(l.write(1, b"").is_ok());
     assert_eq!(l.record(1).unwrap().timestamp, stamp(u32::MAX, 2));
     let mut l = laptop();
-    l.deliver(&from(5, Message::Inv(stamp(u32::MAX, 5))), b"")
-        .unwrap();
+    assert!(invalidated(&mut l, stamp(u32::MAX, 5), b"").is_ok());
     assert_eq!(l.write(1, b""), Err(Refusal::LastVersion));
 }
 
@@ -189,7 +199,7 @@ fn lent_memory_keeps_what_an_event_left() {
     let mut table = [9; 2 * Record::BYTES];
     let mut store = [7; 2 * Record::VALUE_MAX];
     let mut lent = Laptop::start_in(2, 38, &mut table[..], &mut store[..]).unwrap();
-    lent.write(1, b"wren").unwrap();
+    let inv = lent.write(1, b"wren").unwrap().into_owned();
     let (me, _, _) = lent.into_parts();
     assert_eq!(
         me,
@@ -208,10 +218,7 @@ fn lent_memory_keeps_what_an_event_left() {
     let mut lent = Laptop::from_parts(me, &mut table, &mut store);
     assert_eq!(lent.record(1).unwrap().state, State::Write);
     assert_eq!(lent.write(1, b"robin"), Err(Refusal::NotWritable));
-    assert_eq!(
-        lent.resend(1).unwrap().unwrap().message,
-        Message::Inv(stamp(1, 2))
-    );
+    assert_eq!(lent.resend(1), Ok(inv));
 }
 
 #[test]
@@ -271,7 +278,7 @@ fn records_and_their_bytes() {
     let bytes = [4, 5, 6, 9, 4, 3, 2, 1, 8, 7, 6, 5, 1, 0x80, 192, 0];
     assert_eq!(record.to_bytes(), bytes);
     assert_eq!(Record::from_bytes(bytes), Some(record));
-    for state in State::ALL {
+    for &state in State::ALL {
         let record = Record { state, ..record };
         assert_eq!(Record::from_bytes(record.to_bytes()), Some(record));
     }
@@ -300,4 +307,19 @@ fn sets_of_laptops() {
     assert!(Members::from(0).is_empty());
     assert!(!Members::from(0xffff).contains(16));
     assert!(!Members::from(0xffff).contains(255));
+}
+
+/// What leaves a delivery is for the sender of the message, and borrows the
+/// laptop or owns its bytes.
+#[test]
+fn an_acknowledgement_goes_to_the_sender() {
+    let mut l = laptop();
+    let inv = Arriving::new(from(1, Message::Inv(stamp(1, 1))), b"wren");
+    assert_eq!((inv.envelope().sender, inv.body()), (1, &b"wren"[..]));
+    let ack = l.deliver(inv).unwrap().leaving().unwrap();
+    assert_eq!(ack.envelope(), from(2, Message::Ack(stamp(1, 1))));
+    assert_eq!((ack.body(), ack.recipients().bits()), (&b""[..], 0b10));
+    let kept: Leaving<'static> = ack.clone().into_owned();
+    assert_eq!(kept, ack);
+    assert_eq!(kept.arriving(), Arriving::new(ack.envelope(), b""));
 }

@@ -1,62 +1,59 @@
-//! Packets, what leaves and to whom, and the playing program.
+//! Packets of what leaves, and the playing program.
 
 use cetskobi::packet::{self, MESSAGES_MAX, PACKET_MAX};
-use cetskobi::{play, Envelope, Laptop, Message, Refusal, Timestamp, SCRIPT_MAX};
+use cetskobi::{
+    play, Arriving, Envelope, Laptop, Leaving, Message, Refusal, Timestamp, SCRIPT_MAX,
+};
 
 const STAMP: Timestamp = Timestamp { version: 1, tie: 2 };
 
-fn envelope(record: usize, message: Message) -> Envelope {
-    Envelope {
-        sender: 5,
-        epoch: 0,
-        record,
-        message,
-    }
-}
+/// Document 01's packet: laptop 5 acknowledges (1,2) for record 7.
+const ACK: [u8; 20] = [1, 1, 0, 20, 2, 5, 0, 0, 0, 0, 0, 7, 0, 0, 0, 1, 2, 0, 20, 0];
 
-fn inv(record: usize) -> Envelope {
-    envelope(record, Message::Inv(STAMP))
+/// Laptop 5 saves a value of each length, in records from 0 on.
+fn saved(lengths: &[usize]) -> Vec<Leaving<'static>> {
+    let mut laptop = Laptop::start(5, 0b10_0110, 4096).unwrap();
+    let mut saved = |(i, &len): (usize, &usize)| {
+        let value = vec![i as u8; len];
+        laptop.write(i, &value).unwrap().into_owned()
+    };
+    lengths.iter().enumerate().map(&mut saved).collect()
 }
 
 #[test]
 fn the_packet_of_document_01() {
-    let ack = envelope(7, Message::Ack(STAMP));
-    let bytes = [1, 1, 0, 20, 2, 5, 0, 0, 0, 0, 0, 7, 0, 0, 0, 1, 2, 0, 20, 0];
+    let mut two = Laptop::start(2, 0b10_0110, 8).unwrap();
+    let mut five = Laptop::start(5, 0b10_0110, 8).unwrap();
+    let inv = two.write(7, b"wren").unwrap();
+    let ack = five.deliver(inv.arriving()).unwrap().leaving().unwrap();
     let mut out = [0xee; 21];
-    assert_eq!(packet::pack(&[(ack, b"")], &mut out), Ok(20));
-    assert_eq!(out[..20], bytes);
-    assert_eq!(out[20], 0xee);
-    let fetched = packet::fetch(&bytes, 0).unwrap();
-    assert_eq!((fetched.envelope, fetched.body), (ack, b"".as_slice()));
-    assert_eq!(packet::fetch(&bytes, 1), Err(Refusal::PacketIndex));
+    assert_eq!(packet::pack([&ack], &mut out), Ok(20));
+    assert_eq!((&out[..20], out[20]), (&ACK[..], 0xee));
+    let envelope = Envelope {
+        sender: 5,
+        epoch: 0,
+        record: 7,
+        message: Message::Ack(STAMP),
+    };
+    assert_eq!(ack.envelope(), envelope);
+    assert_eq!(packet::fetch(&ACK, 0), Ok(Arriving::new(envelope, b"")));
+    assert_eq!(packet::fetch(&ACK, 1), Err(Refusal::PacketIndex));
 }
 
 #[test]
 fn what_is_packed_is_fetched() {
-    let bodies: Vec<Vec<u8>> = (0..6).map(|n| vec![n; usize::from(n)]).collect();
-    let sent: Vec<(Envelope, &[u8])> = bodies
-        .iter()
-        .enumerate()
-        .map(|(i, body)| (inv(i), body.as_slice()))
-        .collect();
+    let outbox = saved(&[0, 1, 2, 3, 4, 5]);
     let mut out = [0; PACKET_MAX];
-    let len = packet::pack(&sent, &mut out).unwrap();
-    let fetched: Vec<(Envelope, &[u8])> = packet::messages(&out[..len])
-        .unwrap()
-        .map(|f| (f.envelope, f.body))
-        .collect();
+    let len = packet::pack(&outbox, &mut out).unwrap();
+    let sent: Vec<Arriving> = outbox.iter().map(Leaving::arriving).collect();
+    let fetched: Vec<Arriving> = packet::messages(&out[..len]).unwrap().collect();
     assert_eq!(fetched, sent);
 }
 
 #[test]
 fn packets_of_1400_and_1401_bytes() {
     // Seven messages: 4 bytes, 7 times 16, and 1,284 bytes of bodies.
-    let body = [9; 192];
-    let of = |last: usize| -> Vec<(Envelope, &[u8])> {
-        let mut messages = vec![(inv(0), body.as_slice()); 6];
-        messages.push((inv(1), &body[..last]));
-        messages
-    };
+    let of = |last| saved(&[192, 192, 192, 192, 192, 192, last]);
     let mut out = [0xee; PACKET_MAX + 1];
     assert_eq!(packet::pack(&of(133), &mut out), Err(Refusal::PacketRoom));
     assert_eq!(out, [0xee; PACKET_MAX + 1]);
@@ -72,54 +69,30 @@ fn packets_of_1400_and_1401_bytes() {
 #[test]
 fn messages_64_and_65() {
     let mut out = [0; PACKET_MAX];
-    let messages = vec![(inv(0), b"".as_slice()); 1000];
-    assert_eq!(packet::pack(&[], &mut out), Err(Refusal::PacketMessages));
-    assert_eq!(
-        packet::pack(&messages[..MESSAGES_MAX + 1], &mut out),
-        Err(Refusal::PacketMessages)
-    );
-    assert_eq!(
-        packet::pack(&messages, &mut out),
-        Err(Refusal::PacketMessages)
-    );
-    let len = packet::pack(&messages[..MESSAGES_MAX], &mut out).unwrap();
+    let outbox = saved(&[0; 1000]);
+    let none = Err(Refusal::PacketMessages);
+    assert_eq!(packet::pack(&outbox[..0], &mut out), none);
+    assert_eq!(packet::pack(&outbox[..MESSAGES_MAX + 1], &mut out), none);
+    assert_eq!(packet::pack(&outbox, &mut out), none);
+    let len = packet::pack(&outbox[..MESSAGES_MAX], &mut out).unwrap();
     assert_eq!(len, 4 + 16 * 64);
     assert_eq!(packet::messages(&out[..len]).unwrap().count(), 64);
 }
 
+/// What left the last of the most records goes into a packet whole.
 #[test]
-fn fields_that_fit_no_packet() {
+fn the_last_record() {
+    let last = saved(&[0; 4096]).pop().unwrap();
     let mut out = [0; PACKET_MAX];
-    let mut refused =
-        |envelope: Envelope, body: &[u8]| packet::pack(&[(envelope, body)], &mut out).err();
-    let none = Some(Refusal::PacketMessages);
-    assert_eq!(refused(inv(4095), b""), None);
-    assert_eq!(refused(inv(4096), b""), none);
-    assert_eq!(refused(inv(usize::MAX), b""), none);
-    // The low 32 bits alone would be record 0.
-    assert_eq!(refused(inv(usize::MAX << 16 << 16), b""), none);
-    assert_eq!(refused(inv(0), &[0; 192]), None);
-    assert_eq!(refused(inv(0), &[0; 193]), none);
-    assert_eq!(
-        refused(
-            Envelope {
-                sender: 16,
-                ..inv(0)
-            },
-            b""
-        ),
-        none
-    );
-    assert_eq!(refused(envelope(0, Message::Val(STAMP)), b"x"), none);
-    let tie = Timestamp { tie: 16, ..STAMP };
-    assert_eq!(refused(envelope(0, Message::Inv(tie)), b""), none);
+    let len = packet::pack([last], &mut out).unwrap();
+    let came = packet::fetch(&out[..len], 0).unwrap();
+    assert_eq!(came.envelope().record, 4095);
 }
 
 #[test]
 fn broken_packets() {
-    let good = [1, 1, 0, 20, 2, 5, 0, 0, 0, 0, 0, 7, 0, 0, 0, 1, 2, 0, 20, 0];
     let broken = |place: usize, byte| {
-        let mut packet = good;
+        let mut packet = ACK;
         packet[place] = byte;
         packet::fetch(&packet, 0).err()
     };
@@ -138,36 +111,24 @@ fn a_write_by_packets() {
     let mut hut = Laptop::start(1, 0b111, 2).unwrap();
     let mut out = [0; PACKET_MAX];
 
-    let inv = net.write(1, b"wren").unwrap().unwrap();
-    assert_eq!(net.body(&inv), b"wren");
-    assert_eq!(net.recipients(&inv, 9).bits(), 0b110);
-    let len = packet::pack(&[(inv, net.body(&inv))], &mut out).unwrap();
+    let inv = net.write(1, b"wren").unwrap();
+    assert_eq!((inv.body(), inv.recipients().bits()), (&b"wren"[..], 0b110));
+    let len = packet::pack([inv], &mut out).unwrap();
 
-    let ack = hut.deliver_packet(&out[..len], 0).unwrap().unwrap();
-    assert_eq!((ack.sender, ack.record), (1, 1));
-    assert_eq!(ack.message, Message::Ack(inv.message.timestamp()));
-    assert_eq!(hut.body(&ack), b"");
-    assert_eq!(hut.recipients(&ack, inv.sender).bits(), 0b001);
+    let reply = hut.deliver_packet(&out[..len], 0).unwrap();
+    let ack = reply.leaving().unwrap().into_owned();
+    assert_eq!((ack.envelope().sender, ack.envelope().record), (1, 1));
+    let stamp = Timestamp { version: 1, tie: 0 };
+    assert_eq!(ack.envelope().message, Message::Ack(stamp));
+    assert_eq!((ack.body(), ack.recipients().bits()), (&b""[..], 0b001));
     assert_eq!(hut.store(), net.store());
 
-    let len = packet::pack(&[(ack, hut.body(&ack))], &mut out).unwrap();
-    assert_eq!(net.deliver_packet(&out[..len], 0), Ok(None));
-    assert_eq!(net.deliver_packet(&out[..len], 0), Err(Refusal::StrayAck));
-    assert_eq!(
-        net.deliver_packet(&out[..len], 1),
-        Err(Refusal::PacketIndex)
-    );
-    assert_eq!(
-        net.deliver_packet(&out[1..len], 0),
-        Err(Refusal::PacketHead)
-    );
-}
-
-#[test]
-fn bodies_of_stray_records_are_empty() {
-    let laptop = Laptop::start(0, 0b11, 1).unwrap();
-    assert_eq!(laptop.body(&inv(1)), b"");
-    assert_eq!(laptop.body(&inv(usize::MAX)), b"");
+    let len = packet::pack([ack], &mut out).unwrap();
+    let mut taken = |packet: &[u8], i| net.deliver_packet(packet, i).map(|r| r.leaving().is_some());
+    assert_eq!(taken(&out[..len], 0), Ok(false));
+    assert_eq!(taken(&out[..len], 0), Err(Refusal::StrayAck));
+    assert_eq!(taken(&out[..len], 1), Err(Refusal::PacketIndex));
+    assert_eq!(taken(&out[1..len], 0), Err(Refusal::PacketHead));
 }
 
 #[test]

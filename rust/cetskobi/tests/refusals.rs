@@ -4,7 +4,7 @@ use cetskobi::Refusal;
 
 #[test]
 fn every_number_comes_back() {
-    for refusal in Refusal::ALL {
+    for &refusal in Refusal::ALL {
         assert_eq!(Refusal::from_number(refusal.number()), Some(refusal));
     }
     let numbers: Vec<u8> = Refusal::ALL.iter().map(|r| r.number()).collect();
@@ -31,6 +31,6 @@ fn each_says_its_number_and_a_meaning_of_its_own() {
     }
     assert_eq!(
         Refusal::ValueTooLong.to_string(),
-        "refused (8): a value has at most 192 bytes"
+        "refused (8): the value is longer than 192 bytes"
     );
 }

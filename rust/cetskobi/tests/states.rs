@@ -3,7 +3,8 @@
 //! drawn, and leads where the picture and the table say. tests/picture.sh
 //! compares docs/states.svg with the dot.
 
-use cetskobi::{Envelope, Laptop, Members, Message, Record, Refusal, State, Timestamp};
+use cetskobi::Timestamp;
+use cetskobi::{Arriving, Envelope, Laptop, Leaving, Members, Message, Record, Refusal, State};
 use std::collections::BTreeSet;
 use std::fs;
 
@@ -76,7 +77,7 @@ struct Tried {
 fn records() -> Vec<Record> {
     let stamps = [(3, 2), (3, 5), (4, 1)].map(|(version, tie)| Timestamp { version, tie });
     let mut records = Vec::new();
-    for state in State::ALL {
+    for &state in State::ALL {
         for timestamp in stamps {
             for written in stamps {
                 for writer in [ME, OTHERS[0], OTHERS[1], STRANGER] {
@@ -131,6 +132,7 @@ fn kind_of(r: &Record, envelope: &Envelope) -> Kind {
         Message::Ack(_) => Kind::Other(Refusal::StrayAck),
         Message::Val(t) if t == r.timestamp => Kind::Val,
         Message::Val(_) => Kind::Other(Refusal::StrayVal),
+        other => panic!("no kind of these: {other}"),
     }
 }
 
@@ -145,7 +147,7 @@ fn laptop(r: &Record) -> Laptop {
 fn attempt(
     r: &Record,
     kind: Kind,
-    event: impl FnOnce(&mut Laptop) -> Result<Option<Envelope>, Refusal>,
+    event: impl FnOnce(&mut Laptop) -> Result<Option<Message>, Refusal>,
 ) -> Tried {
     let mut laptop = laptop(r);
     let answer = event(&mut laptop);
@@ -157,8 +159,13 @@ fn attempt(
         kind,
         from: r.state,
         to: answer.map(|_| after.state),
-        left: answer.unwrap_or(None).map(|e| e.message),
+        left: answer.unwrap_or(None),
     }
+}
+
+/// The message of what left.
+fn sent(left: Leaving) -> Option<Message> {
+    Some(left.envelope().message)
 }
 
 /// Every event on every record.
@@ -179,10 +186,10 @@ fn all_tried() -> Vec<Tried> {
             _ => Kind::Resend,
         };
         tried.push(attempt(&r, Kind::Read, |l| l.read(0).map(|_| None)));
-        tried.push(attempt(&r, Kind::Write, |l| l.write(0, b"robin")));
-        tried.push(attempt(&r, validate, |l| l.validate(0)));
-        tried.push(attempt(&r, replay, |l| l.replay(0)));
-        tried.push(attempt(&r, resend, |l| l.resend(0)));
+        tried.push(attempt(&r, Kind::Write, |l| l.write(0, b"robin").map(sent)));
+        tried.push(attempt(&r, validate, |l| l.validate(0).map(sent)));
+        tried.push(attempt(&r, replay, |l| l.replay(0).map(sent)));
+        tried.push(attempt(&r, resend, |l| l.resend(0).map(sent)));
         tried.push(attempt(&r, Kind::View, |l| {
             l.change_view(1, 6).map(|()| None)
         }));
@@ -191,7 +198,10 @@ fn all_tried() -> Vec<Tried> {
                 Message::Inv(_) => b"wren",
                 _ => b"",
             };
-            tried.push(attempt(&r, kind_of(&r, &m), |l| l.deliver(&m, body)));
+            tried.push(attempt(&r, kind_of(&r, &m), |l| {
+                let reply = l.deliver(Arriving::new(m, body))?;
+                Ok(reply.leaving().and_then(sent))
+            }));
         }
     }
     tried
@@ -204,8 +214,8 @@ fn kind_named(words: &str) -> Kind {
 }
 
 fn state_named(name: &str) -> State {
-    let found = State::ALL.into_iter().find(|s| s.to_string() == name);
-    found.unwrap_or_else(|| panic!("no state: {name}"))
+    let found = State::ALL.iter().find(|s| s.name() == name);
+    *found.unwrap_or_else(|| panic!("no state: {name}"))
 }
 
 /// An edge as text, so that sets of them compare.
@@ -259,7 +269,7 @@ fn the_picture_is_what_the_library_does() {
             Ok(to) => assert!(drawn.contains(&edge(t.from, to, kind)), "not drawn: {t:?}"),
             Err(_) => {
                 let is_drawn = |to| drawn.contains(&edge(t.from, to, kind));
-                assert!(!State::ALL.into_iter().any(is_drawn), "refused: {t:?}");
+                assert!(!State::ALL.iter().copied().any(is_drawn), "refused: {t:?}");
             }
         }
         happened.extend(t.to.ok().map(|to| edge(t.from, to, kind)));
@@ -319,14 +329,13 @@ fn the_table_is_what_the_library_does() {
             Ok(state) => (state.to_string(), t.left),
             Err(refusal) => (refusal.number().to_string(), None),
         };
-        assert_eq!(part(&row[1 + t.from as usize], &t), to, "{t:?}");
+        assert_eq!(
+            part(&row[1 + usize::from(t.from.number())], &t),
+            to,
+            "{t:?}"
+        );
         if t.to.is_ok() {
-            let left = match left {
-                None => "nothing",
-                Some(Message::Inv(_)) => "INV",
-                Some(Message::Ack(_)) => "ACK",
-                Some(Message::Val(_)) => "VAL",
-            };
+            let left = left.map_or("nothing", Message::name);
             assert_eq!(part(&row[6], &t), left, "{t:?}");
         }
     }

@@ -1,70 +1,79 @@
 //! What leaves: who gets a message, and the bytes that it takes along.
 
-use cetskobi::raw::{self, Replica, RECORD_BYTES};
-use model::engine::body;
+use cetskobi::raw::{self, Answer, Replica, GONE};
+use model::engine::{body, Record, Timestamp};
 use model::rng::Rng;
 
 use crate::crossing::{message_of, table_of};
 use crate::memory::Memory;
 use crate::settings::Settings;
 use crate::shrink::{less, shrink, Found, Smaller};
-use crate::single::{self, by_engine, replica_of, some_case, some_number, Event, Outcome};
+use crate::single::{self, by_engine, replica_of, some_case, some_number, some_word, Event};
 
-/// An event, and the kind and the sender that are asked about after it.
+/// An event, and the message that is asked about after it, for this sender.
 #[derive(Clone, Debug, PartialEq)]
 pub struct Case {
     pub event: single::Case,
     pub kind: u8,
+    /// In which bits its version and tie-breaker differ from the record's after
+    /// the event: in none for what left there.
+    pub version: u32,
+    pub tie: u8,
     pub sender: u8,
 }
 
-/// Who gets a message, and how many bytes it takes along from record `i`. The
-/// memory may be any.
-pub type Leaving = fn(Replica, &Memory, usize, u8, u8) -> (u16, usize);
+/// Who gets what left an event with this answer, and how many bytes of record
+/// `i` it takes along. The memory may be any.
+pub type Leaving = fn(Replica, &Memory, usize, Answer, u8) -> (u16, usize);
 
-pub fn by_the_engine(me: Replica, memory: &Memory, i: usize, kind: u8, sender: u8) -> (u16, usize) {
+pub fn by_the_engine(
+    me: Replica,
+    memory: &Memory,
+    i: usize,
+    left: Answer,
+    sender: u8,
+) -> (u16, usize) {
     (
-        raw::recipients(me, kind, sender),
-        raw::body(memory.table(), memory.store(), i, kind),
+        raw::recipients(me, left.kind, sender),
+        raw::body(memory.table(), memory.store(), i, left),
     )
 }
 
 /// Nobody gets a message of no known kind, and it takes nothing along.
-pub fn by_model(me: Replica, memory: &Memory, i: usize, kind: u8, sender: u8) -> (u16, usize) {
-    if !(1..=3).contains(&kind) {
+pub fn by_model(me: Replica, memory: &Memory, i: usize, left: Answer, sender: u8) -> (u16, usize) {
+    if !(1..=3).contains(&left.kind) {
         return (0, 0);
     }
-    let message = message_of(kind, 0, 0);
+    let message = message_of(left.kind, left.version, left.tie);
     let table = table_of(memory.table());
-    let part = body(message, &table, memory.store(), i);
-    (replica_of(me).recipients(message, sender), part.len())
+    let len = match left.kind == 1 && is_gone(&table, memory.store(), i, message.timestamp()) {
+        true => GONE,
+        false => body(message, &table, memory.store(), i).len(),
+    };
+    (replica_of(me).recipients(message, sender), len)
 }
 
-/// How many bytes an INV takes along, of any memory (include/cetskobi.h, and
-/// docs/DECISIONS.md, 9 and 48): as many as byte 14 of the record says, or 255
-/// of bytes that are no record, cut where the store ends; none where no record
-/// stands. Other messages take none.
-fn length(memory: &Memory, i: usize, kind: u8) -> usize {
-    let (records, over) = memory.table().as_chunks::<RECORD_BYTES>();
-    let said = match records.get(i).filter(|_| kind == 1 && over.is_empty()) {
-        None => 0,
-        Some(record) if record[0] > 4 => 255,
-        Some(record) => usize::from(record[14]),
+/// An INV left with the value that its timestamp stands for. It is gone once the
+/// record has another timestamp; and from memory that no event left, where the
+/// record or its room is not there, or its length is no value's.
+fn is_gone(table: &[Record], store: &[u8], i: usize, left: Timestamp) -> bool {
+    let room = store.as_chunks::<{ Record::VALUE_LIMIT }>().0.get(i);
+    let has = |record: &Record| {
+        record.timestamp == left && usize::from(record.len) <= Record::VALUE_LIMIT
     };
-    let begin = i.saturating_mul(192);
-    said.min(memory.store().len().saturating_sub(begin))
+    room.is_none() || !table.get(i).is_some_and(has)
 }
 
 #[derive(Clone, Debug, Default)]
 pub struct Tally {
     /// Compared, by the kind.
     pub kinds: [u64; 4],
-    /// Of these right after an event that sent a message of the kind.
+    /// Of these the very message that the event sent.
     pub sent: [u64; 4],
     /// Bodies that were not empty.
     pub bodies: u64,
-    /// Of these longer than a value can be: no event leaves such a record.
-    pub too_long: u64,
+    /// INVs whose text is gone: from a sound record, and from any other memory.
+    pub gone: [u64; 2],
 }
 
 /// Random events of the usual count.
@@ -78,12 +87,12 @@ pub fn compare(settings: &Settings, other: Leaving) -> Result<Tally, Box<Found<C
     for _ in 0..EVENTS * settings.times {
         let case = some_leaving(&mut rng);
         match difference(&case) {
-            Ok((outcome, len)) => {
+            Ok(seen) => {
                 let kind = usize::from(case.kind).min(3);
                 tally.kinds[kind] += 1;
-                tally.sent[kind] += u64::from(kind > 0 && outcome.sent.0 == case.kind);
-                tally.bodies += u64::from(len > 0);
-                tally.too_long += u64::from(len > 192);
+                tally.sent[kind] += u64::from(kind > 0 && seen.was_sent);
+                tally.bodies += u64::from(seen.len > 0 && seen.len != GONE);
+                tally.gone[usize::from(!seen.sound)] += u64::from(seen.len == GONE);
             }
             Err(what) => return Err(Box::new(shrink(case, what, |case| difference(case).err()))),
         }
@@ -91,33 +100,39 @@ pub fn compare(settings: &Settings, other: Leaving) -> Result<Tally, Box<Found<C
     Ok(tally)
 }
 
-/// Plays the event, then asks. Where the record could have sent nothing the
-/// papers leave the length free, so the model is not asked for it.
-fn difference(
-    bench: &mut single::Bench,
-    case: &Case,
-    other: Leaving,
-) -> Result<(Outcome, usize), String> {
-    let Case {
-        event,
-        kind,
-        sender,
-    } = case;
-    let memory = bench.lay(event);
-    let outcome = by_engine(event, memory);
-    let (me, i) = (outcome.me, event.i);
-    let a = by_the_engine(me, memory, i, *kind, *sender);
-    let b = other(me, memory, i, *kind, *sender);
+/// What a comparison saw.
+struct Seen {
+    len: usize,
+    was_sent: bool,
+    sound: bool,
+}
+
+/// Plays the event, then asks.
+fn difference(bench: &mut single::Bench, case: &Case, other: Leaving) -> Result<Seen, String> {
+    let memory = bench.lay(&case.event);
+    let outcome = by_engine(&case.event, memory);
+    let (me, i) = (outcome.me, case.event.i);
     let record = table_of(memory.table()).get(i).copied();
-    let sound = record.is_some_and(|record| record.is_sound(me.number))
-        && memory.store().len() == 12 * memory.table().len();
-    let len = length(memory, i, *kind);
-    if a.0 != b.0 || (sound && a.1 != b.1) || a.1 != len {
+    let now = record.map_or(Timestamp::new(0, 0), |record| record.timestamp);
+    let left = Answer {
+        number: 0,
+        kind: case.kind,
+        tie: now.tie ^ case.tie,
+        version: now.version ^ case.version,
+    };
+    let a = by_the_engine(me, memory, i, left, case.sender);
+    let b = other(me, memory, i, left, case.sender);
+    if a != b {
         return Err(format!(
-            "engine {a:?}, other {b:?}, {len} bytes by the header, after {outcome:?}"
+            "engine {a:?}, other {b:?}, of {left:?} after {outcome:?}"
         ));
     }
-    Ok((outcome, a.1))
+    Ok(Seen {
+        len: a.1,
+        was_sent: outcome.sent == (left.kind, left.tie, left.version),
+        sound: record.is_some_and(|record| record.is_sound(me.number))
+            && memory.store().len() == 12 * memory.table().len(),
+    })
 }
 
 fn some_leaving(rng: &mut Rng) -> Case {
@@ -133,9 +148,18 @@ fn some_leaving(rng: &mut Rng) -> Case {
         Event::Validate => 3,
         _ => 1,
     };
+    // Mostly the timestamp that the record has, else one beside it or any.
+    let (version, tie) = match rng.below(8) {
+        0 => (1 << rng.below(32), 0),
+        1 => (0, 1 << rng.below(8)),
+        2 => (some_word(rng), some_number(rng)),
+        _ => (0, 0),
+    };
     Case {
         event,
         kind: [kind, kind, kinds[rng.below(6)]][rng.below(3)],
+        version,
+        tie,
         sender,
     }
 }
@@ -154,6 +178,15 @@ impl Smaller for Case {
             sender: sender as u8,
             ..self.clone()
         });
-        Box::new(kinds.chain(senders).chain(events))
+        let versions = less(self.version.into()).map(|version| Case {
+            version: version as u32,
+            ..self.clone()
+        });
+        let ties = less(self.tie.into()).map(|tie| Case {
+            tie: tie as u8,
+            ..self.clone()
+        });
+        let numbers = kinds.chain(versions).chain(ties).chain(senders);
+        Box::new(numbers.chain(events))
     }
 }

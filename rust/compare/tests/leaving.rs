@@ -1,5 +1,6 @@
 //! Who gets a message, and the bytes that it takes along.
 
+use cetskobi::raw::{Answer, Replica, GONE};
 use compare::leaving::{by_model, compare};
 use compare::memory::Memory;
 use compare::settings::Settings;
@@ -12,7 +13,7 @@ fn after_random_events() {
             println!("{tally:?}");
             assert!(tally.kinds.iter().all(|&times| times >= 1000));
             assert!(tally.sent[1..].iter().all(|&times| times >= 1000));
-            assert!(tally.bodies >= 1000 && tally.too_long >= 1000);
+            assert!(tally.bodies >= 1000 && tally.gone.iter().all(|&times| times >= 1000));
         }
         Err(found) => panic!("{settings}\n{found}"),
     }
@@ -20,18 +21,28 @@ fn after_random_events() {
 
 #[test]
 fn a_wrong_recipient_is_found() {
-    fn wrong(
-        me: cetskobi::raw::Replica,
-        memory: &Memory,
-        i: usize,
-        kind: u8,
-        sender: u8,
-    ) -> (u16, usize) {
-        let (to, len) = by_model(me, memory, i, kind, sender);
+    fn wrong(me: Replica, memory: &Memory, i: usize, left: Answer, sender: u8) -> (u16, usize) {
+        let (to, len) = by_model(me, memory, i, left, sender);
         let own = 1u16.checked_shl(me.number.into()).unwrap_or(0);
-        (if kind == 3 { to | own } else { to }, len)
+        (if left.kind == 3 { to | own } else { to }, len)
     }
     let found = compare(&Settings::USUAL, wrong).expect_err("a difference");
     println!("{found}");
     assert_eq!((found.shrunk.kind, found.shrunk.event.me.number), (3, 0));
+}
+
+/// As it was before: whatever text the record has now.
+#[test]
+fn a_newer_text_under_an_older_timestamp_is_found() {
+    fn wrong(me: Replica, memory: &Memory, i: usize, left: Answer, sender: u8) -> (u16, usize) {
+        let (to, len) = by_model(me, memory, i, left, sender);
+        let record = memory.table().chunks_exact(16).nth(i);
+        match record {
+            Some(record) if len == GONE && record[14] <= 192 => (to, record[14].into()),
+            _ => (to, len),
+        }
+    }
+    let found = compare(&Settings::USUAL, wrong).expect_err("a difference");
+    println!("{found}");
+    assert_eq!(found.shrunk.kind, 1);
 }

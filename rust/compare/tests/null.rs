@@ -2,7 +2,7 @@
 
 use std::ptr::{null, null_mut};
 
-use cetskobi::sys::{self, Answer, Message, Replica};
+use cetskobi::sys::{self, Answer, Message, Replica, GONE};
 
 const ME: Replica = Replica {
     number: 0,
@@ -45,7 +45,8 @@ fn no_memory() {
         let delivered = sys::cetskobi_deliver_packet(ME, t, 0, s, 0, PACKET.as_ptr(), 20, 0);
         assert_eq!(delivered.number, 2);
         for kind in 0..5 {
-            assert_eq!(sys::cetskobi_body(t, 0, s, 0, 0, kind), 0);
+            let len = if kind == 1 { GONE } else { 0 };
+            assert_eq!(sys::cetskobi_body(t, 0, s, 0, 0, sent(kind, 0, 0)), len);
         }
     }
 }
@@ -58,8 +59,11 @@ fn a_table_or_a_store_alone() {
         assert_eq!((read.number, read.len), (2, 0));
         let read = sys::cetskobi_read(ME, null(), 0, store.as_ptr(), 192, 0);
         assert_eq!((read.number, read.len), (2, 0));
-        assert_eq!(sys::cetskobi_body(null(), 0, store.as_ptr(), 192, 0, 1), 0);
-        assert_eq!(sys::cetskobi_body(table.as_ptr(), 16, null(), 0, 0, 1), 0);
+        let inv = sent(1, 0, 0);
+        let body = sys::cetskobi_body(null(), 0, store.as_ptr(), 192, 0, inv);
+        assert_eq!(body, GONE);
+        let body = sys::cetskobi_body(table.as_ptr(), 16, null(), 0, 0, inv);
+        assert_eq!(body, GONE);
     }
 }
 

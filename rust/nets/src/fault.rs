@@ -1,7 +1,7 @@
 //! Deliberate faults. Each breaks a premise of the agreement (docs/AGREEMENT.md)
 //! or a rule of the guide, so that the checks can be seen to fail.
 
-use cetskobi::{packet, Envelope};
+use cetskobi::{packet, raw, Message};
 use model::rng::Rng;
 
 /// What is broken.
@@ -47,33 +47,19 @@ pub(crate) fn in_flight(fault: Fault, bytes: &[u8], laptops: u8, rng: &mut Rng) 
     if !alters || !rng.chance(1, ALTERED) {
         return None;
     }
-    let came: Vec<(Envelope, Vec<u8>)> = packet::messages(bytes)
-        .ok()?
-        .map(|m| altered(fault, m.envelope, m.body.to_vec(), laptops))
-        .collect();
-    let messages: Vec<(Envelope, &[u8])> = came.iter().map(|(e, b)| (*e, b.as_slice())).collect();
-    let mut out = vec![0; packet::PACKET_MAX];
-    let len = packet::pack(&messages, &mut out).ok()?;
-    out.truncate(len);
-    Some(out)
-}
-
-fn altered(
-    fault: Fault,
-    mut envelope: Envelope,
-    mut body: Vec<u8>,
-    laptops: u8,
-) -> (Envelope, Vec<u8>) {
-    match (fault, envelope.message) {
-        (Fault::Text, cetskobi::Message::Inv(_)) => {
-            if let Some(byte) = body.first_mut() {
-                *byte ^= 1;
+    let mut out = bytes.to_vec();
+    for (k, m) in packet::messages(bytes).ok()?.enumerate() {
+        match (fault, m.envelope().message) {
+            (Fault::Text, Message::Inv(_)) if !m.body().is_empty() => {
+                out[raw::fetch(bytes, k).at] ^= 1;
             }
+            (Fault::Sender, Message::Ack(_)) => {
+                // The second byte of its entry.
+                let sender = packet::HEAD_LEN + k * packet::ENTRY_LEN + 1;
+                out[sender] = (out[sender] + 1) % laptops;
+            }
+            _ => {}
         }
-        (Fault::Sender, cetskobi::Message::Ack(_)) => {
-            envelope.sender = (envelope.sender + 1) % laptops
-        }
-        _ => {}
     }
-    (envelope, body)
+    Some(out)
 }

@@ -1,7 +1,8 @@
 //! The laptops of the group. Every event goes through here: it is counted,
 //! remembered, and agreement is checked after it.
 
-use cetskobi::{Envelope, Laptop, Members, Record, Refusal, State, Timestamp};
+use cetskobi::Timestamp;
+use cetskobi::{Arriving, Envelope, Laptop, Leaving, Members, Record, Refusal, Reply, State};
 use std::collections::BTreeMap;
 
 use crate::agreement::{Agreement, Disagreement};
@@ -37,8 +38,27 @@ pub(crate) struct Group {
     pub last_changed: usize,
 }
 
-/// An event's answer, unless agreement failed after it.
-pub(crate) type Watched = Result<Answer, Disagreement>;
+/// What leaves an event, if anything does, or its refusal.
+pub(crate) type Left = Result<Option<Leaving<'static>>, Refusal>;
+
+/// What leaves an event, unless agreement failed after it.
+pub(crate) type Watched = Result<Left, Disagreement>;
+
+/// The same, of an event that always sends.
+fn sent(left: Result<Leaving, Refusal>) -> Left {
+    left.map(|left| Some(left.into_owned()))
+}
+
+/// The same, of a delivery.
+fn replied(reply: Result<Reply, Refusal>) -> Left {
+    reply.map(|reply| reply.leaving().map(Leaving::into_owned))
+}
+
+/// The answer to be counted and remembered: what left, without its bytes.
+fn answer_of(left: &Left) -> Answer {
+    let envelope = |left: &Option<Leaving>| left.as_ref().map(Leaving::envelope);
+    left.as_ref().map(envelope).map_err(|refusal| *refusal)
+}
 
 impl Group {
     pub fn start(settings: &Settings) -> Result<Group, Refusal> {
@@ -73,16 +93,16 @@ impl Group {
     }
 
     pub fn write(&mut self, number: u8, i: usize, text: &[u8]) -> Watched {
-        let answer = self.act(number, i, |l| l.write(i, text));
-        if let Ok(Some(inv)) = answer {
-            self.saves
-                .insert((i, inv.message.timestamp()), text.to_vec());
+        let answer = self.act(number, i, |l| sent(l.write(i, text)));
+        if let Ok(Some(inv)) = &answer {
+            let stamp = inv.envelope().message.timestamp();
+            self.saves.insert((i, stamp), text.to_vec());
         }
         self.watched(number, i, Kind::Write, None, answer)
     }
 
     pub fn validate(&mut self, number: u8, i: usize) -> Watched {
-        let answer = self.act(number, i, |l| l.validate(i));
+        let answer = self.act(number, i, |l| sent(l.validate(i)));
         if answer.is_ok() {
             self.agreement
                 .finished(&self.laptops[usize::from(number)], i);
@@ -91,12 +111,12 @@ impl Group {
     }
 
     pub fn replay(&mut self, number: u8, i: usize) -> Watched {
-        let answer = self.act(number, i, |l| l.replay(i));
+        let answer = self.act(number, i, |l| sent(l.replay(i)));
         self.watched(number, i, Kind::Replay, None, answer)
     }
 
     pub fn resend(&mut self, number: u8, i: usize) -> Watched {
-        let answer = self.act(number, i, |l| l.resend(i));
+        let answer = self.act(number, i, |l| sent(l.resend(i)));
         self.watched(number, i, Kind::Resend, None, answer)
     }
 
@@ -108,19 +128,15 @@ impl Group {
         k: usize,
         came: Envelope,
     ) -> Watched {
-        let answer = self.act(number, came.record, |l| l.deliver_packet(packet, k));
+        let answer = self.act(number, came.record, |l| {
+            replied(l.deliver_packet(packet, k))
+        });
         self.watched(number, came.record, Kind::Deliver, Some(came), answer)
     }
 
     /// A message that came, handed over as another.
-    pub fn deliver_as(
-        &mut self,
-        number: u8,
-        came: Envelope,
-        handed: Envelope,
-        body: &[u8],
-    ) -> Watched {
-        let answer = self.act(number, came.record, |l| l.deliver(&handed, body));
+    pub fn deliver_as(&mut self, number: u8, came: Envelope, handed: Arriving) -> Watched {
+        let answer = self.act(number, came.record, |l| replied(l.deliver(handed)));
         self.watched(number, came.record, Kind::Deliver, Some(came), answer)
     }
 
@@ -139,11 +155,11 @@ impl Group {
         for i in 0..self.laptop(number).count() {
             self.agreement.check(&self.laptops, i)?;
         }
-        Ok(answer)
+        Ok(answer.map(|_| None))
     }
 
     /// An event on a record, with an eye on what becomes of it.
-    fn act(&mut self, number: u8, i: usize, event: impl FnOnce(&mut Laptop) -> Answer) -> Answer {
+    fn act(&mut self, number: u8, i: usize, event: impl FnOnce(&mut Laptop) -> Left) -> Left {
         let before = self.record(number, i);
         let answer = event(self.laptop_mut(number));
         let after = self.record(number, i);
@@ -163,13 +179,14 @@ impl Group {
         i: usize,
         kind: Kind,
         came: Option<Envelope>,
-        answer: Answer,
+        left: Left,
     ) -> Watched {
+        let answer = answer_of(&left);
         self.count(kind, answer);
         let event = self.event(number, kind, came, answer, self.record(number, i));
         self.history.on_record(i, event);
         self.agreement.check(&self.laptops, i)?;
-        Ok(answer)
+        Ok(left)
     }
 
     fn event(

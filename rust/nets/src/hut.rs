@@ -3,13 +3,11 @@
 
 use std::collections::BTreeMap;
 
-use cetskobi::packet::{self, Fetched};
-use cetskobi::{Envelope, Members, Message, Timestamp};
+use cetskobi::{packet, Arriving, Envelope, Leaving, Members, Message, Timestamp};
 
 use crate::agreement::Disagreement;
 use crate::fault::Fault;
-use crate::group::{Group, Watched};
-use crate::history::Answer;
+use crate::group::{Group, Left, Watched};
 use crate::outbox::Outbox;
 use crate::Tick;
 
@@ -78,19 +76,16 @@ impl Hut {
             return Ok(());
         };
         for (k, m) in messages.enumerate() {
-            if self.fault == Some(Fault::Val) && matches!(m.envelope.message, Message::Val(_)) {
+            let Envelope {
+                record, message, ..
+            } = m.envelope();
+            if self.fault == Some(Fault::Val) && matches!(message, Message::Val(_)) {
                 continue;
             }
             let Ok(left) = self.take(group, bytes, k, m)? else {
                 continue;
             };
-            let Envelope {
-                sender,
-                record,
-                message,
-                ..
-            } = m.envelope;
-            self.put(group, left, sender);
+            self.put(left);
             if let Message::Ack(_) = message {
                 // The last one that was missing, perhaps.
                 let answer = group.validate(self.number, record)?;
@@ -128,16 +123,17 @@ impl Hut {
     }
 
     /// Takes message `k` of a packet in.
-    fn take(&mut self, group: &mut Group, bytes: &[u8], k: usize, m: Fetched) -> Watched {
+    fn take(&mut self, group: &mut Group, bytes: &[u8], k: usize, m: Arriving) -> Watched {
         if self.fault == Some(Fault::Epoch) {
             let epoch = group.laptop(self.number).epoch();
             let handed = Envelope {
                 epoch,
-                ..m.envelope
+                ..m.envelope()
             };
-            return group.deliver_as(self.number, m.envelope, handed, m.body);
+            let handed = Arriving::new(handed, m.body());
+            return group.deliver_as(self.number, m.envelope(), handed);
         }
-        group.deliver_packet(self.number, bytes, k, m.envelope)
+        group.deliver_packet(self.number, bytes, k, m.envelope())
     }
 
     /// Once over all records, after a change of view.
@@ -176,19 +172,18 @@ impl Hut {
 
     /// Sends what leaves an event of this hut, if that was accepted; it goes
     /// again after so many ticks.
-    fn put_again(&mut self, group: &Group, i: usize, answer: Answer, wait: Tick) -> bool {
+    fn put_again(&mut self, group: &Group, i: usize, answer: Left, wait: Tick) -> bool {
         let Ok(left) = answer else { return false };
-        self.put(group, left, self.number);
+        self.put(left);
         let due = group.now + wait;
         self.timers.insert(i, Timer { due, wait });
         true
     }
 
-    fn put(&mut self, group: &Group, left: Option<Envelope>, inv_sender: u8) {
-        let Some(envelope) = left else { return };
-        let laptop = group.laptop(self.number);
-        let to = laptop.recipients(&envelope, inv_sender);
-        self.outbox.put(to, envelope, laptop.body(&envelope));
+    fn put(&mut self, left: Option<Leaving<'static>>) {
+        if let Some(left) = left {
+            self.outbox.put(left);
+        }
     }
 }
 

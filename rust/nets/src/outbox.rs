@@ -2,10 +2,10 @@
 
 use std::collections::BTreeMap;
 
-use cetskobi::{packet, Envelope, Members};
+use cetskobi::{packet, Leaving, Members};
 
-/// A message with the bytes that it takes along.
-type Parcel = (Envelope, Vec<u8>);
+/// What left an event, kept.
+type Parcel = Leaving<'static>;
 
 /// What one hut will send, by who shall hear it.
 #[derive(Default)]
@@ -14,11 +14,12 @@ pub(crate) struct Outbox {
 }
 
 impl Outbox {
-    pub fn put(&mut self, to: Members, envelope: Envelope, body: &[u8]) {
-        let parcels = self.waiting.entry(to.bits()).or_default();
+    pub fn put(&mut self, left: Parcel) {
+        let to = left.recipients().bits();
+        let parcels = self.waiting.entry(to).or_default();
         // What is sent twice in one tick goes once.
-        if parcels.iter().all(|(e, _)| *e != envelope) {
-            parcels.push((envelope, body.to_vec()));
+        if parcels.iter().all(|p| p.envelope() != left.envelope()) {
+            parcels.push(left);
         }
     }
 
@@ -41,8 +42,8 @@ impl Outbox {
 fn loads(parcels: &[Parcel]) -> Vec<&[Parcel]> {
     let mut loads = Vec::new();
     let (mut from, mut bytes) = (0, packet::HEAD_LEN);
-    for (n, (_, body)) in parcels.iter().enumerate() {
-        let more = packet::ENTRY_LEN + body.len();
+    for (n, parcel) in parcels.iter().enumerate() {
+        let more = packet::ENTRY_LEN + parcel.body().len();
         if n - from == packet::MESSAGES_MAX || bytes + more > packet::PACKET_MAX {
             loads.push(&parcels[from..n]);
             (from, bytes) = (n, packet::HEAD_LEN);
@@ -54,9 +55,8 @@ fn loads(parcels: &[Parcel]) -> Vec<&[Parcel]> {
 }
 
 fn packed(load: &[Parcel]) -> Vec<u8> {
-    let messages: Vec<(Envelope, &[u8])> = load.iter().map(|(e, b)| (*e, b.as_slice())).collect();
     let mut bytes = vec![0; packet::PACKET_MAX];
-    let len = packet::pack(&messages, &mut bytes).expect("a load fits into a packet");
+    let len = packet::pack(load, &mut bytes).expect("a load fits into a packet");
     bytes.truncate(len);
     bytes
 }
@@ -64,24 +64,16 @@ fn packed(load: &[Parcel]) -> Vec<u8> {
 #[cfg(test)]
 mod tests {
     use super::*;
-    use cetskobi::{Message, Timestamp};
-
-    fn inv(record: usize) -> Envelope {
-        let message = Message::Inv(Timestamp { version: 1, tie: 0 });
-        Envelope {
-            sender: 0,
-            epoch: 0,
-            record,
-            message,
-        }
-    }
+    use cetskobi::Laptop;
 
     /// The records of the messages in each packet.
     fn sent(count: usize, len: usize) -> Vec<Vec<usize>> {
+        let mut laptop = Laptop::start(0, 0b111, 200).expect("a laptop");
         let mut outbox = Outbox::default();
         for i in 0..count {
-            outbox.put(Members::from(0b110), inv(i), &vec![b'x'; len]);
-            outbox.put(Members::from(0b110), inv(i), &vec![b'x'; len]);
+            let inv = laptop.write(i, &vec![b'x'; len]).expect("a save");
+            outbox.put(inv.into_owned());
+            outbox.put(laptop.resend(i).expect("the same").into_owned());
         }
         let packets = outbox.packets();
         assert!(outbox.packets().is_empty());
@@ -90,7 +82,7 @@ mod tests {
             .map(|(to, bytes)| {
                 assert_eq!(to.bits(), 0b110);
                 let messages = packet::messages(bytes).expect("a packet");
-                messages.map(|m| m.envelope.record).collect()
+                messages.map(|m| m.envelope().record).collect()
             })
             .collect()
     }

@@ -109,10 +109,12 @@ mod tests {
         let mut group = Group::start(&settings).expect("a group of two");
         let inv = group.write(0, 0, b"Wren").expect("agreement");
         let inv = inv.expect("accepted").expect("an INV");
-        let ack = group.deliver_as(1, inv, inv, b"Wren").expect("agreement");
+        let ack = group
+            .deliver_as(1, inv.envelope(), inv.arriving())
+            .expect("agreement");
         let ack = ack.expect("accepted").expect("an ACK");
         group
-            .deliver_as(0, ack, ack, b"")
+            .deliver_as(0, ack.envelope(), ack.arriving())
             .expect("agreement")
             .expect("accepted");
         group
@@ -124,7 +126,7 @@ mod tests {
         let val = group.validate(0, 0).expect("agreement");
         let val = val.expect("accepted").expect("a VAL");
         group
-            .deliver_as(1, val, val, b"")
+            .deliver_as(1, val.envelope(), val.arriving())
             .expect("agreement")
             .expect("accepted");
         group

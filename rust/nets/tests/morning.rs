@@ -39,7 +39,7 @@ fn the_default_morning() {
     }
     // Laptops and packets were never damaged, and nobody erred: all else is everyday.
     let everyday = [6, 7, 10, 13, 14, 15, 16, 17];
-    for refusal in Refusal::ALL {
+    for &refusal in Refusal::ALL {
         let expected = everyday.contains(&refusal.number());
         assert!(expected || report.refused(refusal) == 0, "{refusal}");
     }

@@ -1,6 +1,6 @@
 //! What is measured: each case with its two sides, on equal inputs.
 
-use cetskobi::sys::{Message, Replica};
+use cetskobi::sys::{Answer, Message, Replica};
 use cetskobi::{Members, Record, State, Timestamp};
 
 use crate::engine::{self, Engine};
@@ -258,6 +258,12 @@ fn deliver(about: About, record: Record, m: Message, body: Vec<u8>, visit: &mut 
 
 fn leaving(n: usize, visit: &mut impl Visit) {
     let sent = plain::envelope(message(1, 8, 2), 0).message;
+    let left = Answer {
+        number: 0,
+        kind: 1,
+        tie: 2,
+        version: 8,
+    };
     visit.case(
         event(
             "body",
@@ -266,9 +272,9 @@ fn leaving(n: usize, visit: &mut impl Visit) {
             number(TEXT.len()),
         ),
         || On {
-            lent: Engine::new(ME, n, WRITING, 1),
+            lent: Engine::new(ME, n, WRITING, left),
             prepare: |_: &mut _, _| (),
-            call: |e: &mut Engine<u8>, i| engine::body(&e.table, &e.store, i, e.input),
+            call: |e: &mut Engine<Answer>, i| engine::body(&e.table, &e.store, i, e.input),
         },
         || On {
             lent: Plain::new(ME, n, WRITING, sent),

@@ -2,7 +2,7 @@
 
 use std::array::from_fn;
 
-use cetskobi::sys::{self, Admission, Answer, Fetched, Message, Played, Read, Replica, Written};
+use cetskobi::sys::{self, Admission, Answer, Fetched, Message, Played, Reading, Replica, Written};
 use cetskobi::Record;
 
 use crate::side::{Answers, Told};
@@ -45,7 +45,7 @@ pub fn view(me: Replica, epoch: u32, set: u16) -> Admission {
 }
 
 #[inline(always)]
-pub fn read(me: Replica, table: &[u8], store: &[u8], i: usize) -> Read {
+pub fn read(me: Replica, table: &[u8], store: &[u8], i: usize) -> Reading {
     let (t, s) = (table.as_ptr(), store.as_ptr());
     unsafe { sys::cetskobi_read(me, t, table.len(), s, store.len(), i) }
 }
@@ -88,9 +88,9 @@ pub fn resend(me: Replica, table: &mut [u8], store: &[u8], i: usize) -> Answer {
 }
 
 #[inline(always)]
-pub fn body(table: &[u8], store: &[u8], i: usize, kind: u8) -> usize {
+pub fn body(table: &[u8], store: &[u8], i: usize, left: Answer) -> usize {
     let (t, s) = (table.as_ptr(), store.as_ptr());
-    unsafe { sys::cetskobi_body(t, table.len(), s, store.len(), i, kind) }
+    unsafe { sys::cetskobi_body(t, table.len(), s, store.len(), i, left) }
 }
 
 #[inline(always)]
@@ -134,7 +134,7 @@ impl Answers for Answer {
     }
 }
 
-impl Answers for Read {
+impl Answers for Reading {
     fn told(&self) -> Told {
         (self.number, [self.len, 0, 0])
     }

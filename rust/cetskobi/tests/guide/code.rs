@@ -1,4 +1,4 @@
-use cetskobi::{packet, Envelope, Laptop, Members, Message, Refusal, State, Timestamp};
+use cetskobi::{packet, Laptop, Leaving, Members, Message, Refusal, State, Timestamp};
 
 /// Ticks until a message goes again: each wait is twice the one before, up to the most.
 const WAIT_FIRST: u16 = 8;
@@ -11,7 +11,7 @@ struct Hut {
     /// Of each record: ticks until it is tried again, and how long that wait was. 0 is never.
     clocks: Vec<(u16, u16)>,
     /// What goes into the next packet, and to whom.
-    messages: Vec<(Envelope, Vec<u8>)>,
+    messages: Vec<Leaving<'static>>,
     to: u16,
 }
 
@@ -31,34 +31,31 @@ impl Hut {
 
     /// Sends what waits for it, as one packet.
     fn send(&mut self) {
-        let messages: Vec<(Envelope, &[u8])> = self.messages.iter().map(|(e, body)| (*e, &body[..])).collect();
         let mut bytes = [0; packet::PACKET_MAX];
         // 24: nothing waits.
-        if let Ok(len) = packet::pack(&messages, &mut bytes) {
+        if let Ok(len) = packet::pack(&self.messages, &mut bytes) {
             self.radio.send(&bytes[..len], Members::from(self.to));
         }
         self.messages.clear();
         self.to = 0;
     }
 
-    /// Puts what left an event, if anything did, into the next packet. An ACK goes to the sender of the delivered message.
-    fn put(&mut self, left: Option<Envelope>, sender: u8) {
-        let Some(envelope) = left else { return };
-        let body = self.laptop.body(&envelope).to_vec();
-        let bodies: usize = self.messages.iter().map(|(_, body)| body.len()).sum();
+    /// Puts what left an event into the next packet.
+    fn put(&mut self, left: Leaving<'static>) {
+        let bodies: usize = self.messages.iter().map(|m| m.body().len()).sum();
         let count = self.messages.len() + 1;
-        let total = packet::HEAD_LEN + packet::ENTRY_LEN * count + bodies + body.len();
+        let total = packet::HEAD_LEN + packet::ENTRY_LEN * count + bodies + left.body().len();
         if count > packet::MESSAGES_MAX || total > packet::PACKET_MAX {
             self.send();
         }
-        self.to |= self.laptop.recipients(&envelope, sender).bits();
-        self.messages.push((envelope, body));
+        self.to |= left.recipients().bits();
+        self.messages.push(left);
     }
 
-    /// The same for an INV or VAL about a ring; it goes again after so many ticks.
-    fn put_again(&mut self, ring: usize, left: Option<Envelope>, wait: u16) {
-        self.put(left, 0);
-        self.clocks[ring] = (wait, wait);
+    /// The same for an INV or VAL; it goes again after so many ticks.
+    fn put_again(&mut self, left: Leaving<'static>, wait: u16) {
+        self.clocks[left.envelope().record] = (wait, wait);
+        self.put(left);
     }
 
     /// A ringer opens a ring: its text, and the timestamp that the save brings back.
@@ -74,10 +71,11 @@ impl Hut {
         if self.open(ring)?.1 != seen {
             return Ok(None);
         }
-        let left = self.laptop.write(ring, text)?;
-        self.put_again(ring, left, WAIT_FIRST);
+        let inv = self.laptop.write(ring, text)?.into_owned();
+        let saved = inv.envelope().message.timestamp();
+        self.put_again(inv, WAIT_FIRST);
         self.send();
-        Ok(left.map(|envelope| envelope.message.timestamp()))
+        Ok(Some(saved))
     }
 
     /// Asked after every packet and every change of view: while it is Waiting, and better to the end of the day.
@@ -90,13 +88,14 @@ impl Hut {
     }
 
     fn packet_came(&mut self, bytes: &[u8]) -> Result<(), Refusal> {
-        for (k, m) in packet::messages(bytes)?.enumerate() {
-            let Ok(left) = self.laptop.deliver_packet(bytes, k) else { continue };
-            self.put(left, m.envelope.sender);
-            if let Message::Ack(_) = m.envelope.message {
-                let ring = m.envelope.record;
-                if let Ok(left) = self.laptop.validate(ring) {
-                    self.put_again(ring, left, WAIT_FIRST);
+        for m in packet::messages(bytes)? {
+            let Ok(reply) = self.laptop.deliver(m) else { continue };
+            if let Some(ack) = reply.leaving().map(Leaving::into_owned) {
+                self.put(ack);
+            }
+            if let Message::Ack(_) = m.envelope().message {
+                if let Ok(val) = self.laptop.validate(m.envelope().record).map(Leaving::into_owned) {
+                    self.put_again(val, WAIT_FIRST);
                 }
             }
         }
@@ -106,10 +105,15 @@ impl Hut {
 
     /// Tries all that may move a record on from here.
     fn help(&mut self, ring: usize, wait: u16) {
-        let validated = self.laptop.validate(ring);
-        let replayed = validated.or_else(|_| self.laptop.replay(ring));
-        match replayed.or_else(|_| self.laptop.resend(ring)) {
-            Ok(left) => self.put_again(ring, left, wait),
+        let mut left = self.laptop.validate(ring).map(Leaving::into_owned);
+        if left.is_err() {
+            left = self.laptop.replay(ring).map(Leaving::into_owned);
+        }
+        if left.is_err() {
+            left = self.laptop.resend(ring).map(Leaving::into_owned);
+        }
+        match left {
+            Ok(left) => self.put_again(left, wait),
             Err(_) => self.clocks[ring] = (0, 0), // another laptop's turn
         }
     }

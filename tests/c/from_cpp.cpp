@@ -1,0 +1,29 @@
+// The headers from C++, each included twice: every struct by its bare name, which no function hides; the calls link. Run by
+// tests/c.sh.
+#include "cetskobi.h"
+#include "cetskobi.h"
+#include "cetskobi_text.h"
+#include "cetskobi_text.h"
+#include <cstring>
+
+int main() {
+    cetskobi_record table[1];
+    uint8_t store[CETSKOBI_VALUE_MAX], *bytes = reinterpret_cast<uint8_t *>(table);
+    cetskobi_admission admission = cetskobi_start(2, 38, bytes, sizeof table, store, sizeof store);
+    cetskobi_replica me = admission.replica;
+    cetskobi_reading reading = cetskobi_read(me, bytes, sizeof table, store, sizeof store, 0);
+    const uint8_t text[] = {'w', 'r', 'e', 'n'};
+    cetskobi_answer left = cetskobi_write(me, bytes, sizeof table, store, sizeof store, 0, text, sizeof text);
+    size_t len = cetskobi_body(bytes, sizeof table, store, sizeof store, 0, left);
+
+    cetskobi_entry entry = {left.kind, me.number, me.epoch, 0, left.version, left.tie, static_cast<uint32_t>(len)};
+    uint8_t packet[CETSKOBI_PACKET_MAX], printed[2];
+    cetskobi_written written = cetskobi_pack(&entry.kind, CETSKOBI_ENTRY_WORDS, store, len, packet, sizeof packet);
+    cetskobi_fetched fetched = cetskobi_fetch(packet, written.len, 0);
+    cetskobi_message echo = {fetched.kind, fetched.sender, fetched.tie, fetched.epoch, fetched.version};
+    uint8_t number = cetskobi_deliver(me, bytes, sizeof table, store, sizeof store, 0, echo, packet + fetched.at, fetched.len).number;
+    cetskobi_played played = cetskobi_play(nullptr, 0, printed, sizeof printed);
+
+    bool right = reading.len == 0 && len == sizeof text && written.len == 24 && number == CETSKOBI_REFUSED_OTHER_SENDER && played.len == 2;
+    return right && std::strcmp(cetskobi_state_name(table[0].state), "write") == 0 ? 0 : 1;
+}
