@@ -7,7 +7,7 @@ use std::collections::BTreeMap;
 use crate::agreement::{Agreement, Disagreement};
 use crate::history::{kind_of, Answer, Event, History, Kind};
 use crate::settings::Settings;
-use crate::Tick;
+use crate::{holdings, Tick};
 
 /// What was asked of the laptops, and what they answered.
 #[derive(Clone, Debug, Default, PartialEq, Eq)]
@@ -65,6 +65,11 @@ impl Group {
 
     pub fn record(&self, number: u8, i: usize) -> Option<Record> {
         self.laptop(number).record(i)
+    }
+
+    /// What each laptop holds of a record, as lines.
+    pub fn holdings(&self, i: usize) -> Vec<String> {
+        holdings::of(&self.laptops, i)
     }
 
     pub fn read(&mut self, number: u8, i: usize) -> Watched {

@@ -171,6 +171,7 @@ impl Morning {
         Failure {
             seed: self.settings.seed,
             tick: self.group.now,
+            holdings: self.group.holdings(cause.record()),
             events: self.group.history.of(cause.record()),
             cause,
         }

@@ -55,7 +55,12 @@ fn many_mornings() {
 fn a_failed_check() {
     let output = nets(&["--seed", "4", "--fault", "text"]);
     assert_eq!(output.status.code(), Some(1));
-    assert!(out(&output).starts_with("FAILED with seed 4"));
+    let said = out(&output);
+    assert!(said.starts_with("FAILED with seed 4"), "{said}");
+    assert!(
+        said.contains("\nwhat each laptop holds of record "),
+        "{said}"
+    );
 }
 
 #[test]
