@@ -1,4 +1,47 @@
-//! Tables in plain text.
+//! Lines and tables in plain text.
+
+use std::fmt;
+
+use crate::Tick;
+
+/// A name, a number and what it means.
+pub(crate) fn line(
+    f: &mut fmt::Formatter<'_>,
+    name: &str,
+    count: u64,
+    remark: &str,
+) -> fmt::Result {
+    line_of(f, name, &grouped(count), remark)
+}
+
+/// The same with something else than a whole number.
+pub(crate) fn line_of(
+    f: &mut fmt::Formatter<'_>,
+    name: &str,
+    value: &str,
+    remark: &str,
+) -> fmt::Result {
+    let text = format!("{name:<18}{value:>9}  {remark}");
+    writeln!(f, "{}", text.trim_end())
+}
+
+/// 1234567 as 1,234,567.
+pub(crate) fn grouped(n: u64) -> String {
+    let digits = n.to_string();
+    let mut out = String::new();
+    for (left, digit) in (0..digits.len()).rev().zip(digits.chars()) {
+        out.push(digit);
+        if left > 0 && left % 3 == 0 {
+            out.push(',');
+        }
+    }
+    out
+}
+
+/// A tick is a second.
+pub(crate) fn seconds(ticks: Tick) -> String {
+    format!("{} s", grouped(ticks.into()))
+}
 
 /// Where the cells of a column stand.
 #[derive(Clone, Copy, Debug, PartialEq, Eq)]
@@ -25,6 +68,12 @@ pub(crate) fn table<const N: usize>(sides: [Side; N], rows: &[[String; N]]) -> V
 #[cfg(test)]
 mod tests {
     use super::*;
+
+    #[test]
+    fn thousands_are_grouped() {
+        let printed = [0, 999, 1000, 1_234_567].map(grouped);
+        assert_eq!(printed, ["0", "999", "1,000", "1,234,567"]);
+    }
 
     #[test]
     fn columns_are_as_wide_as_their_widest_cell() {
