@@ -1,7 +1,7 @@
 //! docs/states.dot and the guide's table of the five states, tried on the
 //! library: on every record below an event is accepted exactly where it is
-//! drawn, and leads where the picture and the table say. tests/picture.sh
-//! compares docs/states.svg with the dot.
+//! drawn, leads where the picture and the table say, and sends what they say.
+//! tests/picture.sh compares docs/states.svg with the dot.
 
 use cetskobi::Timestamp;
 use cetskobi::{Arriving, Envelope, Laptop, Leaving, Members, Message, Record, Refusal, State};
@@ -36,31 +36,46 @@ enum Kind {
 const WORDS: [(Kind, &str, &str); 11] = [
     (Kind::Read, "read", "read"),
     (Kind::Write, "write", "write"),
-    (Kind::InvGreater, "INV greater", "INV, greater stamp"),
+    (
+        Kind::InvGreater,
+        "greater INV comes",
+        "INV comes, greater stamp",
+    ),
     (
         Kind::InvNotGreater,
-        "INV not greater",
-        "INV, stamp not greater",
+        "other INV comes",
+        "INV comes, stamp not greater",
     ),
     (
         Kind::Ack,
-        "ACK",
-        "ACK, of the last-write stamp, not yet counted",
+        "ACK comes",
+        "ACK comes, of the last-write stamp, not yet counted",
     ),
-    (Kind::Val, "VAL", "VAL, of the record's stamp"),
+    (Kind::Val, "VAL comes", "VAL comes, of the record's stamp"),
     (
         Kind::Validate,
-        "validate, all others acknowledged",
+        "validate",
         "validate, all others in the view acknowledged",
     ),
     (
         Kind::Replay,
-        "replay, last writer not in the view",
+        "replay",
         "replay, last writer not in the view",
     ),
-    (Kind::ResendSelf, "resend, last writer self", "resend"),
+    (Kind::ResendSelf, "resend", "resend"),
     (Kind::Resend, "resend", "resend"),
     (Kind::View, "view", "view"),
+];
+
+/// What the picture's note says of those words: the kinds above are meant so.
+const NOTE: [&str; 7] = [
+    "A greater INV has a greater stamp than the record, any other INV an equal or lesser one.",
+    "A VAL that comes has the record's stamp.",
+    "An ACK that comes has the last-write stamp, and its sender is not yet counted.",
+    "Validate: all others in the view have acknowledged.",
+    "Replay: the last writer is not in the view.",
+    "Resend from valid: this laptop is the last writer.",
+    "A view event leaves every record's state as it is.",
 ];
 
 /// One event on one record: what it was, and what came of it.
@@ -207,10 +222,16 @@ fn all_tried() -> Vec<Tried> {
     tried
 }
 
-/// The event with these words in the picture.
-fn kind_named(words: &str) -> Kind {
+/// The events with these words in the picture, at an edge from this state.
+fn kinds_named(words: &str, from: State) -> Vec<Kind> {
+    match words {
+        "any INV comes" => return vec![Kind::InvGreater, Kind::InvNotGreater],
+        // Only from valid a resend asks for the last writer: see `NOTE`.
+        "resend" if from != State::Valid => return vec![Kind::Resend],
+        _ => {}
+    }
     let found = WORDS.iter().find(|w| w.1 == words);
-    found.unwrap_or_else(|| panic!("no event: {words}")).0
+    vec![found.unwrap_or_else(|| panic!("no event: {words}")).0]
 }
 
 fn state_named(name: &str) -> State {
@@ -219,13 +240,32 @@ fn state_named(name: &str) -> State {
 }
 
 /// An edge as text, so that sets of them compare.
-fn edge(from: State, to: State, kind: Kind) -> String {
-    format!("{from} -> {to}: {kind:?}")
+fn edge(from: State, to: State, kind: Kind, sends: &str) -> String {
+    format!("{} {to}, sends {sends}", edges_of(from, kind))
+}
+
+/// How the edges of this event from this state begin.
+fn edges_of(from: State, kind: Kind) -> String {
+    format!("{from}: {kind:?} ->")
+}
+
+/// What left an event, in the words of the picture and the table.
+fn named(left: Option<Message>) -> &'static str {
+    match left {
+        None => "nothing",
+        Some(Message::Inv(_)) => "INV",
+        Some(Message::Ack(_)) => "ACK",
+        Some(Message::Val(_)) => "VAL",
+    }
 }
 
 /// The edges of the picture between states.
 fn drawn() -> BTreeSet<String> {
     let dot = fs::read_to_string("../../docs/states.dot").expect("the picture");
+    let note = dot.replace("\\l", "  ");
+    for said in NOTE {
+        assert!(note.contains(said), "not in the note: {said}");
+    }
     let mut edges = BTreeSet::new();
     for line in dot.lines().filter(|l| l.contains(" -> ")) {
         let (ends, rest) = line.split_once(" [label=\"").expect("a label");
@@ -236,12 +276,14 @@ fn drawn() -> BTreeSet<String> {
             continue;
         }
         let state = |name: &str| state_named(&name.replace('_', "-"));
-        // An event a line, but for the one that takes two.
-        let label = label.replace("writer \\n not", "writer not");
-        for words in label.split("\\n") {
-            let kind = kind_named(words.trim());
-            let new = edges.insert(edge(state(from), state(to), kind));
-            assert!(new, "drawn twice: {line}");
+        let (from, to) = (state(from), state(to));
+        // An event a line, with what it sends.
+        for words in label.split("\\n").map(str::trim) {
+            let (event, sends) = words.split_once(": sends ").unwrap_or((words, "nothing"));
+            for kind in kinds_named(event, from) {
+                let new = edges.insert(edge(from, to, kind, sends));
+                assert!(new, "drawn twice: {line}");
+            }
         }
     }
     edges
@@ -266,13 +308,17 @@ fn the_picture_is_what_the_library_does() {
             kind => kind,
         };
         match t.to {
-            Ok(to) => assert!(drawn.contains(&edge(t.from, to, kind)), "not drawn: {t:?}"),
+            Ok(to) => {
+                let edge = edge(t.from, to, kind, named(t.left));
+                assert!(drawn.contains(&edge), "not drawn: {t:?}");
+                happened.insert(edge);
+            }
             Err(_) => {
-                let is_drawn = |to| drawn.contains(&edge(t.from, to, kind));
-                assert!(!State::ALL.iter().copied().any(is_drawn), "refused: {t:?}");
+                let begins = edges_of(t.from, kind);
+                let is_drawn = drawn.iter().any(|e| e.starts_with(&begins));
+                assert!(!is_drawn, "refused: {t:?}");
             }
         }
-        happened.extend(t.to.ok().map(|to| edge(t.from, to, kind)));
     }
     assert_eq!(happened, drawn);
 }
@@ -325,9 +371,9 @@ fn the_table_is_what_the_library_does() {
         }
         let words = WORDS.iter().find(|w| w.0 == t.kind).expect("its words");
         let row = table.iter().find(|row| row[0] == words.2).expect("a row");
-        let (to, left) = match t.to {
-            Ok(state) => (state.to_string(), t.left),
-            Err(refusal) => (refusal.number().to_string(), None),
+        let to = match t.to {
+            Ok(state) => state.to_string(),
+            Err(refusal) => refusal.number().to_string(),
         };
         assert_eq!(
             part(&row[1 + usize::from(t.from.number())], &t),
@@ -335,8 +381,7 @@ fn the_table_is_what_the_library_does() {
             "{t:?}"
         );
         if t.to.is_ok() {
-            let left = left.map_or("nothing", Message::name);
-            assert_eq!(part(&row[6], &t), left, "{t:?}");
+            assert_eq!(part(&row[6], &t), named(t.left), "{t:?}");
         }
     }
 }

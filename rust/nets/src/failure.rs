@@ -79,6 +79,8 @@ pub struct Failure {
     pub tick: u32,
     /// What failed.
     pub cause: Cause,
+    /// What each laptop holds of the record: a table, its heading first.
+    pub holdings: Vec<String>,
     /// The last events on the record, in order; the last one failed.
     pub events: Vec<String>,
 }
@@ -90,7 +92,12 @@ impl fmt::Display for Failure {
             "FAILED with seed {} at tick {}: {}",
             self.seed, self.tick, self.cause
         )?;
-        writeln!(f, "the last events on record {}:", self.cause.record())?;
+        let record = self.cause.record();
+        writeln!(f, "what each laptop holds of record {record}:")?;
+        self.holdings
+            .iter()
+            .try_for_each(|h| writeln!(f, "  {h}"))?;
+        writeln!(f, "the last events on record {record}:")?;
         self.events.iter().try_for_each(|e| writeln!(f, "  {e}"))
     }
 }

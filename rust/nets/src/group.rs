@@ -8,7 +8,8 @@ use std::collections::BTreeMap;
 use crate::agreement::{Agreement, Disagreement};
 use crate::history::{kind_of, Answer, Event, History, Kind};
 use crate::settings::Settings;
-use crate::Tick;
+use crate::times::Times;
+use crate::{holdings, Tick};
 
 /// What was asked of the laptops, and what they answered.
 #[derive(Clone, Debug, Default, PartialEq, Eq)]
@@ -29,6 +30,7 @@ pub(crate) struct Group {
     pub agreement: Agreement,
     pub history: History,
     pub counts: EventCounts,
+    pub times: Times,
     /// Each accepted save: its text, by record and timestamp.
     pub saves: BTreeMap<(usize, Timestamp), Vec<u8>>,
     pub now: Tick,
@@ -72,6 +74,7 @@ impl Group {
             agreement: Agreement::new(settings.records),
             history: History::new(settings.records),
             counts: EventCounts::default(),
+            times: Times::new(settings.ticks),
             saves: BTreeMap::new(),
             now: 0,
             last_change: 0,
@@ -85,6 +88,11 @@ impl Group {
 
     pub fn record(&self, number: u8, i: usize) -> Option<Record> {
         self.laptop(number).record(i)
+    }
+
+    /// What each laptop holds of a record, as lines.
+    pub fn holdings(&self, i: usize) -> Vec<String> {
+        holdings::of(&self.laptops, i)
     }
 
     pub fn read(&mut self, number: u8, i: usize) -> Watched {
@@ -166,9 +174,11 @@ impl Group {
         if before != after {
             (self.last_change, self.last_changed) = (self.now, i);
         }
-        let state = |r: Option<Record>| r.map(|r| r.state);
-        if (state(before), state(after)) == (Some(State::Write), Some(State::InvalidWrite)) {
-            self.counts.overtaken += 1;
+        if let (Some(before), Some(after)) = (before, after) {
+            self.times.moved(self.now, number, i, before, after);
+            if (before.state, after.state) == (State::Write, State::InvalidWrite) {
+                self.counts.overtaken += 1;
+            }
         }
         answer
     }

@@ -9,11 +9,16 @@
 #![warn(missing_docs)]
 
 mod agreement;
+mod air;
+mod counts;
 mod failure;
 mod fault;
+mod figures;
 mod group;
 mod history;
+mod holdings;
 mod hut;
+mod layout;
 mod link;
 mod morning;
 mod options;
@@ -23,9 +28,12 @@ mod report;
 mod ringer;
 mod settings;
 mod settled;
+mod spread;
 mod text;
+mod times;
 
 pub use agreement::Disagreement;
+pub use counts::Counts;
 pub use failure::{Cause, Failure};
 pub use fault::Fault;
 pub use morning::run;
@@ -33,6 +41,6 @@ pub use options::{Command, HELP};
 pub use report::Report;
 pub use settings::Settings;
 
-/// The simulation's clock. The guide's tick is a second; nothing here rests on
-/// that.
+/// The simulation's clock. A tick is a second, as in the guide; only the units
+/// in the report rest on that.
 pub(crate) type Tick = u32;

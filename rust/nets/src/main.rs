@@ -12,8 +12,12 @@ const TROUBLE: u8 = 2;
 fn main() -> ExitCode {
     let done = match Command::parse(std::env::args().skip(1)) {
         Ok(Command::Help) => say(HELP).map(|()| ExitCode::SUCCESS),
-        Ok(Command::Run { settings, seeds }) => match seeds {
-            None => one(&settings),
+        Ok(Command::Run {
+            settings,
+            seeds,
+            counts,
+        }) => match seeds {
+            None => one(&settings, counts),
             Some(seeds) => many(&settings, seeds),
         },
         Err(wrong) => {
@@ -24,12 +28,15 @@ fn main() -> ExitCode {
     done.unwrap_or(ExitCode::from(TROUBLE))
 }
 
-fn one(settings: &Settings) -> io::Result<ExitCode> {
+fn one(settings: &Settings, counts: bool) -> io::Result<ExitCode> {
     let begun = Instant::now();
     match played(settings) {
         Ok(report) => {
             let seconds = begun.elapsed().as_secs_f64();
-            say(&format!("{report}wall time      {seconds:>8.2} s\n"))?;
+            say(&format!("{report}wall time          {seconds:>6.2} s\n"))?;
+            if counts {
+                say(&format!("\n{}", report.counts()))?;
+            }
             Ok(ExitCode::SUCCESS)
         }
         Err(failure) => failed(&failure),

@@ -2,6 +2,7 @@
 
 use cetskobi::{Laptop, Members};
 
+use crate::air::Air;
 use crate::failure::{Cause, Failure};
 use crate::group::Group;
 use crate::hut::{Done, Hut, WAIT_VAL};
@@ -45,6 +46,7 @@ struct Morning {
     group: Group,
     huts: Vec<Hut>,
     link: Link,
+    air: Air,
     ringers: Ringers,
     /// Copies that reached a dead laptop.
     to_the_dead: u64,
@@ -59,6 +61,7 @@ impl Morning {
             group: Group::start(settings).expect("settings that were checked start a group"),
             huts: (0..settings.laptops).map(hut).collect(),
             link: Link::new(settings),
+            air: Air::new(settings.laptops, settings.ticks),
             ringers: Ringers::new(&plan.birds, settings.rng(Part::Texts)),
             plan,
             to_the_dead: 0,
@@ -67,7 +70,10 @@ impl Morning {
 
     /// All events of one tick.
     fn step(&mut self) -> Done {
+        // Who sleeps or wakes; then who is told that it is struck off.
+        self.serve();
         self.views()?;
+        self.serve();
         self.arrivals()?;
         self.ringers()?;
         if self.group.now == self.settings.ticks {
@@ -104,12 +110,20 @@ impl Morning {
         Ok(())
     }
 
-    /// Ringers use the laptops that run and have not been told that they are
-    /// struck off.
-    fn ringers(&mut self) -> Done {
-        let awake = self.plan.awake(self.group.now);
+    /// Laptops that run and have not been told that they are struck off.
+    fn usable(&self) -> Members {
         let told = |n: &u8| !self.group.laptop(*n).view().contains(*n);
-        let usable: Members = awake.into_iter().filter(|n| !told(n)).collect();
+        let awake = self.plan.awake(self.group.now).into_iter();
+        awake.filter(|n| !told(n)).collect()
+    }
+
+    fn serve(&mut self) {
+        let usable = self.usable();
+        self.group.times.serve(self.group.now, usable);
+    }
+
+    fn ringers(&mut self) -> Done {
+        let usable = self.usable();
         let (group, huts) = (&mut self.group, &mut self.huts);
         self.ringers.tick(group, huts, usable)
     }
@@ -119,6 +133,7 @@ impl Morning {
         for n in self.plan.awake(now) {
             let weak = self.plan.is_weak(n, now);
             for (to, bytes) in self.huts[usize::from(n)].packets() {
+                self.air.sent(now, n, bytes.len());
                 self.link.send(now, n, to, &bytes, weak);
             }
         }
@@ -155,6 +170,10 @@ impl Morning {
         Report {
             settings: self.settings,
             plan: self.plan,
+            times: self.group.times.report(self.group.now),
+            lookups: self.ringers.lookups,
+            unshown: self.ringers.unshown,
+            air: self.air,
             events: self.group.counts,
             link: self.link.counts,
             to_the_dead: self.to_the_dead,
@@ -171,6 +190,7 @@ impl Morning {
         Failure {
             seed: self.settings.seed,
             tick: self.group.now,
+            holdings: self.group.holdings(cause.record()),
             events: self.group.history.of(cause.record()),
             cause,
         }

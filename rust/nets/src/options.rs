@@ -13,6 +13,7 @@ wrong options.
 
   --seed S         the beginning of all random numbers    (111, or CETSKOBI_SEED)
   --seeds N        N mornings, from the seed on, one line each
+  --counts         also count events, messages, packets and refusals
   --laptops N      2 to 16                                (11)
   --records N      1 to 4096                              (4096)
   --rings N        birds ringed                           (600)
@@ -43,6 +44,8 @@ pub enum Command {
         settings: Settings,
         /// How many mornings; None for one with its whole report.
         seeds: Option<u64>,
+        /// Whether the report goes on with the counts.
+        counts: bool,
     },
 }
 
@@ -54,11 +57,15 @@ impl Command {
     /// What is wrong with them, in plain words.
     pub fn parse<I: IntoIterator<Item = String>>(words: I) -> Result<Command, String> {
         let mut settings = Settings::from_env()?;
-        let mut seeds = None;
+        let (mut seeds, mut counts) = (None, false);
         let mut words = words.into_iter();
         while let Some(word) = words.next() {
             if word == "--help" || word == "-h" {
                 return Ok(Command::Help);
+            }
+            if word == "--counts" {
+                counts = true;
+                continue;
             }
             let value = words.next();
             let value = value.as_deref();
@@ -85,7 +92,11 @@ impl Command {
         if seeds == Some(0) {
             return Err("--seeds: at least one morning".to_owned());
         }
-        Ok(Command::Run { settings, seeds })
+        Ok(Command::Run {
+            settings,
+            seeds,
+            counts,
+        })
     }
 }
 

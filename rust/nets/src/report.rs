@@ -4,12 +4,18 @@ use std::fmt;
 
 use cetskobi::Refusal;
 
+use crate::air::Air;
+use crate::counts::Counts;
+use crate::figures::Figures;
 use crate::group::EventCounts;
 use crate::history::Kind;
+use crate::layout::{grouped, line, seconds};
 use crate::link::LinkCounts;
 use crate::plan::{Death, Plan};
 use crate::settings::Settings;
 use crate::settled::Settled;
+use crate::spread::Spread;
+use crate::times::TimesReport;
 use crate::Tick;
 
 /// A morning on which every check held.
@@ -17,6 +23,10 @@ use crate::Tick;
 pub struct Report {
     pub(crate) settings: Settings,
     pub(crate) plan: Plan,
+    pub(crate) times: TimesReport,
+    pub(crate) lookups: u64,
+    pub(crate) unshown: u64,
+    pub(crate) air: Air,
     pub(crate) events: EventCounts,
     pub(crate) link: LinkCounts,
     pub(crate) to_the_dead: u64,
@@ -73,6 +83,24 @@ impl Report {
         self.events.overtaken
     }
 
+    /// Bytes that all laptops send an hour, while birds come.
+    pub fn bytes_an_hour(&self) -> u64 {
+        self.air.group()
+    }
+
+    /// How many saves were finished, were replaced by a later one, and neither.
+    pub fn ends_of_saves(&self) -> [usize; 3] {
+        let count = |spread: Option<Spread>| spread.map_or(0, |s| s.count);
+        let times = &self.times;
+        let neither = times.left + times.hung;
+        [count(times.finished), count(times.replaced), neither]
+    }
+
+    /// The counts, which an engineer asks for.
+    pub fn counts(&self) -> Counts<'_> {
+        Counts(self)
+    }
+
     /// The whole in one line.
     pub fn line(&self) -> String {
         format!(
@@ -107,65 +135,23 @@ impl Report {
         for (epoch, death) in (1..).zip(&self.plan.deaths) {
             let Death { laptop, tick, .. } = death;
             match death.wakes {
-                None => write!(f, "  laptop {laptop} died at tick {tick}")?,
-                Some(wakes) => write!(f, "  laptop {laptop} slept from tick {tick} to {wakes}")?,
+                None => write!(f, "  laptop {laptop} died at {}", seconds(*tick))?,
+                Some(wakes) => write!(
+                    f,
+                    "  laptop {laptop} slept from {} to {}",
+                    seconds(*tick),
+                    seconds(wakes)
+                )?,
             }
             writeln!(f, " and was struck off: epoch {epoch}")?;
         }
         if !self.plan.late.is_empty() && !self.plan.deaths.is_empty() {
             writeln!(
                 f,
-                "  laptops {} heard of it {} ticks later than the others",
-                self.plan.late, s.lateness
+                "  laptops {} heard of it {} later than the others",
+                self.plan.late,
+                seconds(s.lateness)
             )?;
-        }
-        Ok(())
-    }
-
-    fn traffic(&self, f: &mut fmt::Formatter<'_>) -> fmt::Result {
-        line(f, "events", self.events(), "")?;
-        for kind in Kind::ALL {
-            let accepted = self.events.accepted[kind as usize];
-            let name = format!("  {}", kind.name());
-            let remark = format!("{} accepted", grouped(accepted));
-            line(f, &name, self.events.events[kind as usize], &remark)?;
-        }
-        let [inv, ack, val] = self.events.messages.map(grouped);
-        line(
-            f,
-            "messages",
-            self.messages(),
-            &format!("INV {inv}, ACK {ack}, VAL {val}"),
-        )?;
-        let l = &self.link;
-        line(
-            f,
-            "packets",
-            l.packets,
-            &format!("{} bytes", grouped(l.bytes)),
-        )?;
-        line(
-            f,
-            "for listeners",
-            l.copies,
-            "a packet counts once for each laptop that shall hear it",
-        )?;
-        line(f, "  lost", l.lost, "")?;
-        line(f, "  repeated", l.repeated, "")?;
-        line(
-            f,
-            "  late",
-            l.late,
-            "heard after a packet that was sent later",
-        )?;
-        line(f, "  to a dead one", self.to_the_dead, "")
-    }
-
-    fn refusals(&self, f: &mut fmt::Formatter<'_>) -> fmt::Result {
-        line(f, "refused", self.events.refused.values().sum(), "")?;
-        for (number, count) in &self.events.refused {
-            let meaning = Refusal::from_number(*number).map_or("", Refusal::meaning);
-            line(f, &format!("  question {number}"), *count, meaning)?;
         }
         Ok(())
     }
@@ -210,37 +196,17 @@ impl Report {
         line(f, "hung", self.hung() as u64, &remark)?;
         let remark = format!(
             "the link healed at {}, and nothing changed after {}",
-            grouped(self.settings.ticks.into()),
-            grouped(self.last_change.into())
+            seconds(self.settings.ticks),
+            seconds(self.last_change)
         );
-        line(f, "ticks", self.ticks.into(), &remark)
+        line(f, "seconds", self.ticks.into(), &remark)
     }
 }
 
 impl fmt::Display for Report {
     fn fmt(&self, f: &mut fmt::Formatter<'_>) -> fmt::Result {
         self.heading(f)?;
-        writeln!(f)?;
-        self.traffic(f)?;
-        self.refusals(f)?;
+        writeln!(f, "\n{}", Figures(self))?;
         self.outcome(f)
     }
-}
-
-fn line(f: &mut fmt::Formatter<'_>, name: &str, count: u64, remark: &str) -> fmt::Result {
-    let text = format!("{name:<14}{:>11}  {remark}", grouped(count));
-    writeln!(f, "{}", text.trim_end())
-}
-
-/// 1234567 as 1,234,567.
-fn grouped(n: u64) -> String {
-    let digits = n.to_string();
-    let mut out = String::new();
-    for (left, digit) in (0..digits.len()).rev().zip(digits.chars()) {
-        out.push(digit);
-        if left > 0 && left % 3 == 0 {
-            out.push(',');
-        }
-    }
-    out
 }

@@ -26,6 +26,9 @@ pub(crate) struct Ringers {
     rng: Rng,
     pub saved: usize,
     pub last_save: Tick,
+    /// How often a record was opened, and how often it could not be shown.
+    pub lookups: u64,
+    pub unshown: u64,
 }
 
 /// Ticks until a refused ringer tries again.
@@ -43,6 +46,8 @@ impl Ringers {
             rng,
             saved: 0,
             last_save: 0,
+            lookups: 0,
+            unshown: 0,
         }
     }
 
@@ -80,6 +85,8 @@ impl Ringers {
         } = visit.bird;
         let Some(seen) = visit.seen else {
             visit.seen = hut.open(group, record)?;
+            self.lookups += 1;
+            self.unshown += u64::from(visit.seen.is_none());
             visit.due += match visit.seen {
                 Some(_) => MEASURING,
                 None => PATIENCE,

@@ -1,5 +1,5 @@
-//! The checks can fail: each deliberate fault is reported, with its seed and
-//! the events that led there.
+//! The checks can fail: each deliberate fault is reported, with its seed, what
+//! each laptop holds, and the events that led there.
 
 use nets::{run, Cause, Disagreement, Failure, Fault, Settings};
 
@@ -8,8 +8,15 @@ fn failure(fault: Fault) -> Failure {
         fault: Some(fault),
         ..Settings::default()
     };
-    match run(&settings, |_| ()) {
-        Ok(report) => panic!("{fault:?} was not noticed:\n{report}"),
+    let failure = failed(&settings);
+    // A heading, and a line for each laptop.
+    assert_eq!(failure.holdings.len(), 1 + 11, "{failure}");
+    failure
+}
+
+fn failed(settings: &Settings) -> Failure {
+    match run(settings, |_| ()) {
+        Ok(report) => panic!("{:?} was not noticed:\n{report}", settings.fault),
         Err(failure) => *failure,
     }
 }
@@ -31,6 +38,36 @@ fn a_text_altered_in_flight() {
         said.contains("FAILED with seed") && said.contains("VAL"),
         "{said}"
     );
+}
+
+/// Laptop 0's save is altered on its way to laptop 1, by the last bit of its
+/// first byte, and is shown there when the VAL comes.
+#[test]
+fn what_each_laptop_holds_is_printed() {
+    let failure = failed(&Settings {
+        seed: 59,
+        laptops: 2,
+        records: 1,
+        rings: 1,
+        recaptures: 0,
+        deaths: 0,
+        late: 0,
+        ticks: 100,
+        loss: 0,
+        repeat: 0,
+        delay: 1,
+        fault: Some(Fault::Text),
+        ..Settings::default()
+    });
+    let said = failure.to_string();
+    let begins = r#"FAILED with seed 59 at tick 46: no agreement: laptops 0 and 1 stand in each other's view and show record 0 valid, but not the same
+what each laptop holds of record 0:
+  laptop  epoch  view   state  timestamp  last writer  last write  acknowledged  bytes  text
+       0      0  {0,1}  valid  (1,0)                0  (1,0)       {1}              27  "Robin, wing 55, weight 18.4"
+       1      0  {0,1}  valid  (1,0)                0  (0,0)       {}               27  "Sobin, wing 55, weight 18.4"
+the last events on record 0:
+"#;
+    assert!(said.starts_with(begins), "{said}");
 }
 
 /// A laptop that missed the change of membership takes a validation of the new

@@ -18,6 +18,10 @@ fn all_saved(settings: &Settings, report: &Report) {
     let (saved, waiting) = (report.saved(), report.waiting());
     assert_eq!(saved + waiting, birds, "{settings:?}");
     assert!(waiting == 0 || report.hung() > 0, "{settings:?}");
+    let ends = report.ends_of_saves();
+    assert_eq!(ends.iter().sum::<usize>(), saved, "{settings:?}");
+    // Finished or replaced, unless a laptop was struck off.
+    assert!(settings.deaths > 0 || ends[2] == 0, "{settings:?}");
 }
 
 #[test]
@@ -228,4 +232,16 @@ fn the_readme_shows_the_default_morning() {
         readme.contains(&shown),
         "rust/nets/README.md lacks this report:\n{shown}"
     );
+}
+
+/// The README: over six hours the saves cost a tenth of the bytes an hour.
+#[test]
+fn six_hours() {
+    let default = Settings::default();
+    let long = Settings {
+        ticks: 21_600,
+        ..default.clone()
+    };
+    let [rush, calm] = [default, long].map(|s| agreed(&s).bytes_an_hour());
+    assert!((9 * calm..11 * calm).contains(&rush), "{rush}, {calm}");
 }

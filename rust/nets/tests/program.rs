@@ -20,19 +20,22 @@ fn one_morning() {
     let output = nets(&["--seed", "3"]);
     assert_eq!(output.status.code(), Some(0));
     let said = out(&output);
-    for part in [
-        "seed 3",
-        "packets",
-        "bytes",
-        "hung",
-        "ticks",
-        "wall time",
-        "  question 13",
-    ] {
+    for part in ["seed 3", "save to finished", "hung", "wall time"] {
         assert!(said.contains(part), "{part} is missing:\n{said}");
     }
+    assert!(!said.contains("question"), "{said}");
     // No progress unless on a terminal.
     assert!(output.stderr.is_empty());
+}
+
+#[test]
+fn the_counts_follow_the_report() {
+    let said = out(&nets(&["--counts", "--seed", "3"]));
+    let (report, counts) = said.split_once("wall time").expect("both");
+    assert!(report.contains("seed 3"), "{said}");
+    for part in ["events", "messages", "packets", "  question 13"] {
+        assert!(counts.contains(part), "{part} is missing:\n{said}");
+    }
 }
 
 #[test]
@@ -55,7 +58,12 @@ fn many_mornings() {
 fn a_failed_check() {
     let output = nets(&["--seed", "4", "--fault", "text"]);
     assert_eq!(output.status.code(), Some(1));
-    assert!(out(&output).starts_with("FAILED with seed 4"));
+    let said = out(&output);
+    assert!(said.starts_with("FAILED with seed 4"), "{said}");
+    assert!(
+        said.contains("\nwhat each laptop holds of record "),
+        "{said}"
+    );
 }
 
 #[test]
