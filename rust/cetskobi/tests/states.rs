@@ -251,12 +251,7 @@ fn edges_of(from: State, kind: Kind) -> String {
 
 /// What left an event, in the words of the picture and the table.
 fn named(left: Option<Message>) -> &'static str {
-    match left {
-        None => "nothing",
-        Some(Message::Inv(_)) => "INV",
-        Some(Message::Ack(_)) => "ACK",
-        Some(Message::Val(_)) => "VAL",
-    }
+    left.map_or("nothing", Message::name)
 }
 
 /// The edges of the picture between states.

@@ -1,9 +1,9 @@
-//! What is measured: each case with its two sides, on equal inputs.
+//! What is measured: each case with its sides, on equal inputs.
 
 use cetskobi::sys::{Answer, Message, Replica};
 use cetskobi::{Members, Record, State, Timestamp};
 
-use crate::engine::{self, Engine};
+use crate::lent::{both, Lent};
 use crate::packets;
 use crate::plain::{self, Plain};
 use crate::scripts;
@@ -11,11 +11,12 @@ use crate::side::{About, On, Side, Told};
 
 /// What is done with each case.
 pub trait Visit {
-    /// The sides are made only where they are asked for.
-    fn case<E: Side, M: Side>(
+    /// The sides, of which lent bytes have two: the engine's and, if it has
+    /// the case, the C peer's. They are made only where they are asked for.
+    fn case<E: Side, C: Side, M: Side>(
         &mut self,
         about: About,
-        engine: impl FnOnce() -> E,
+        bytes: (impl FnOnce() -> E, Option<impl FnOnce() -> C>),
         model: impl FnOnce() -> M,
     );
 }
@@ -123,11 +124,11 @@ pub fn all(records: usize, visit: &mut impl Visit) {
 fn events(n: usize, visit: &mut impl Visit) {
     visit.case(
         event("read", "read", n, number(TEXT.len())),
-        || On {
-            lent: Engine::new(ME, n, VALID, ()),
+        both!(by => On {
+            lent: Lent::new(ME, n, VALID, ()),
             prepare: |_: &mut _, _| (),
-            call: |e: &mut Engine<()>, i| engine::read(e.me, &e.table, &e.store, i),
-        },
+            call: |e: &mut Lent<()>, i| by::read(e.me, &e.table, &e.store, i),
+        }),
         || On {
             lent: Plain::new(ME, n, VALID, ()),
             prepare: |_: &mut _, _| (),
@@ -154,11 +155,11 @@ fn events(n: usize, visit: &mut impl Visit) {
     );
     visit.case(
         event("validate", "validate", n, sent(3, 8, 2)),
-        || On {
-            lent: Engine::new(ME, n, VALID, ()),
-            prepare: |e: &mut Engine<()>, i| e.set(i, ACKNOWLEDGED),
-            call: |e: &mut Engine<()>, i| engine::validate(e.me, &mut e.table, &e.store, i),
-        },
+        both!(by => On {
+            lent: Lent::new(ME, n, VALID, ()),
+            prepare: |e: &mut Lent<()>, i| e.set(i, ACKNOWLEDGED),
+            call: |e: &mut Lent<()>, i| by::validate(e.me, &mut e.table, &e.store, i),
+        }),
         || On {
             lent: Plain::new(ME, n, VALID, ()),
             prepare: |m: &mut Plain<()>, i| m.table[i] = plain::record(ACKNOWLEDGED),
@@ -167,11 +168,11 @@ fn events(n: usize, visit: &mut impl Visit) {
     );
     visit.case(
         event("replay", "replay", n, sent(1, 8, 4)),
-        || On {
-            lent: Engine::new(ME, n, VALID, ()),
-            prepare: |e: &mut Engine<()>, i| e.set(i, ORPHAN),
-            call: |e: &mut Engine<()>, i| engine::replay(e.me, &mut e.table, &e.store, i),
-        },
+        both!(by => On {
+            lent: Lent::new(ME, n, VALID, ()),
+            prepare: |e: &mut Lent<()>, i| e.set(i, ORPHAN),
+            call: |e: &mut Lent<()>, i| by::replay(e.me, &mut e.table, &e.store, i),
+        }),
         || On {
             lent: Plain::new(ME, n, VALID, ()),
             prepare: |m: &mut Plain<()>, i| m.table[i] = plain::record(ORPHAN),
@@ -180,11 +181,11 @@ fn events(n: usize, visit: &mut impl Visit) {
     );
     visit.case(
         event("resend", "resend", n, sent(1, 8, 2)),
-        || On {
-            lent: Engine::new(ME, n, WRITING, ()),
+        both!(by => On {
+            lent: Lent::new(ME, n, WRITING, ()),
             prepare: |_: &mut _, _| (),
-            call: |e: &mut Engine<()>, i| engine::resend(e.me, &mut e.table, &e.store, i),
-        },
+            call: |e: &mut Lent<()>, i| by::resend(e.me, &mut e.table, &e.store, i),
+        }),
         || On {
             lent: Plain::new(ME, n, WRITING, ()),
             prepare: |_: &mut _, _| (),
@@ -198,13 +199,13 @@ fn write(about: About, record: Record, value: Vec<u8>, visit: &mut impl Visit) {
     let n = about.records;
     visit.case(
         about,
-        || On {
-            lent: Engine::new(ME, n, VALID, value.clone()),
-            prepare: move |e: &mut Engine<Vec<u8>>, i| e.set(i, record),
-            call: |e: &mut Engine<Vec<u8>>, i| {
-                engine::write(e.me, &mut e.table, &mut e.store, i, &e.input)
+        both!(by => On {
+            lent: Lent::new(ME, n, VALID, value.clone()),
+            prepare: move |e: &mut Lent<Vec<u8>>, i| e.set(i, record),
+            call: |e: &mut Lent<Vec<u8>>, i| {
+                by::write(e.me, &mut e.table, &mut e.store, i, &e.input)
             },
-        },
+        }),
         || On {
             lent: Plain::new(ME, n, VALID, value.clone()),
             prepare: move |m: &mut Plain<Vec<u8>>, i| m.table[i] = plain::record(record),
@@ -235,14 +236,14 @@ fn deliver(about: About, record: Record, m: Message, body: Vec<u8>, visit: &mut 
     let n = about.records;
     visit.case(
         about,
-        || On {
-            lent: Engine::new(ME, n, VALID, (m, body.clone())),
-            prepare: move |e: &mut Engine<(Message, Vec<u8>)>, i| e.set(i, record),
-            call: |e: &mut Engine<(Message, Vec<u8>)>, i| {
+        both!(by => On {
+            lent: Lent::new(ME, n, VALID, (m, body.clone())),
+            prepare: move |e: &mut Lent<(Message, Vec<u8>)>, i| e.set(i, record),
+            call: |e: &mut Lent<(Message, Vec<u8>)>, i| {
                 let (message, body) = &e.input;
-                engine::deliver(e.me, &mut e.table, &mut e.store, i, *message, body)
+                by::deliver(e.me, &mut e.table, &mut e.store, i, *message, body)
             },
-        },
+        }),
         || On {
             lent: Plain::new(ME, n, VALID, (plain::envelope(m, 0), body.clone())),
             prepare: move |m: &mut Plain<_>, i| m.table[i] = plain::record(record),
@@ -271,11 +272,11 @@ fn leaving(n: usize, visit: &mut impl Visit) {
             n,
             number(TEXT.len()),
         ),
-        || On {
-            lent: Engine::new(ME, n, WRITING, left),
+        both!(by => On {
+            lent: Lent::new(ME, n, WRITING, left),
             prepare: |_: &mut _, _| (),
-            call: |e: &mut Engine<Answer>, i| engine::body(&e.table, &e.store, i, e.input),
-        },
+            call: |e: &mut Lent<Answer>, i| by::body(&e.table, &e.store, i, e.input),
+        }),
         || On {
             lent: Plain::new(ME, n, WRITING, sent),
             prepare: |_: &mut _, _| (),
@@ -286,11 +287,11 @@ fn leaving(n: usize, visit: &mut impl Visit) {
     );
     visit.case(
         other("recipients", "who gets an INV", n, number(0b10_0010)),
-        || On {
+        both!(by => On {
             lent: (ME, 1u8, 5u8),
             prepare: |_: &mut _, _| (),
-            call: |e: &mut (Replica, u8, u8), _| engine::recipients(e.0, e.1, e.2),
-        },
+            call: |e: &mut (Replica, u8, u8), _| by::recipients(e.0, e.1, e.2),
+        }),
         || On {
             lent: (plain::replica(ME), sent, 5u8),
             prepare: |_: &mut _, _| (),
@@ -304,11 +305,11 @@ fn leaving(n: usize, visit: &mut impl Visit) {
 fn membership(n: usize, visit: &mut impl Visit) {
     visit.case(
         other("view", "view", n, admitted(2, 0b110, 10)),
-        || On {
+        both!(by => On {
             lent: (ME, 10u32, 0b110u16),
             prepare: |_: &mut _, _| (),
-            call: |e: &mut (Replica, u32, u16), _| engine::view(e.0, e.1, e.2),
-        },
+            call: |e: &mut (Replica, u32, u16), _| by::view(e.0, e.1, e.2),
+        }),
         || On {
             lent: (plain::replica(ME), 10u32, 0b110u16),
             prepare: |_: &mut _, _| (),
@@ -328,13 +329,13 @@ fn membership(n: usize, visit: &mut impl Visit) {
 fn start(about: About, n: usize, visit: &mut impl Visit) {
     visit.case(
         about,
-        || On {
-            lent: Engine::new(ME, n, VALID, ()),
+        both!(by => On {
+            lent: Lent::new(ME, n, VALID, ()),
             prepare: |_: &mut _, _| (),
-            call: |e: &mut Engine<()>, _| {
-                engine::start(e.me.number, e.me.view, &mut e.table, &mut e.store)
+            call: |e: &mut Lent<()>, _| {
+                by::start(e.me.number, e.me.view, &mut e.table, &mut e.store)
             },
-        },
+        }),
         || On {
             lent: Plain::new(ME, n, VALID, ()),
             prepare: |_: &mut _, _| (),

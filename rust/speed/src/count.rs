@@ -11,6 +11,7 @@ use crate::side::{measured_calls, About, Side};
 #[derive(Clone, Copy, PartialEq, Eq)]
 pub enum Which {
     Engine,
+    Peer,
     Model,
 }
 
@@ -18,12 +19,13 @@ impl Which {
     pub fn name(self) -> &'static str {
         match self {
             Which::Engine => "engine",
+            Which::Peer => "peer",
             Which::Model => "model",
         }
     }
 
     pub fn of(name: &str) -> Option<Which> {
-        [Which::Engine, Which::Model]
+        [Which::Engine, Which::Peer, Which::Model]
             .into_iter()
             .find(|w| w.name() == name)
     }

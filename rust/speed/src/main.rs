@@ -1,4 +1,4 @@
-//! The engine's speed beside the model's.
+//! The engine's speed beside that of the C peer and of the model.
 //!
 //!     speed                              the table, in Markdown
 //!     speed flat                         no event's cost grows with the table
@@ -6,7 +6,7 @@
 
 mod cases;
 mod count;
-mod engine;
+mod lent;
 mod measure;
 mod packets;
 mod plain;
@@ -48,19 +48,21 @@ struct Calls<'a> {
 }
 
 impl Visit for Calls<'_> {
-    fn case<E: Side, M: Side>(
+    fn case<E: Side, C: Side, M: Side>(
         &mut self,
         about: About,
-        engine: impl FnOnce() -> E,
+        (engine, peer): (impl FnOnce() -> E, Option<impl FnOnce() -> C>),
         model: impl FnOnce() -> M,
     ) {
         if about.name != self.name {
             return;
         }
         self.found = true;
-        match self.which {
-            Which::Engine => count::calls(&about, &mut engine(), self.calls),
-            Which::Model => count::calls(&about, &mut model(), self.calls),
+        match (self.which, peer) {
+            (Which::Engine, _) => count::calls(&about, &mut engine(), self.calls),
+            (Which::Peer, Some(peer)) => count::calls(&about, &mut peer(), self.calls),
+            (Which::Peer, None) => self.found = false,
+            (Which::Model, _) => count::calls(&about, &mut model(), self.calls),
         }
     }
 }

@@ -6,7 +6,7 @@ use cetskobi::sys::Message;
 use model::packet::Entry;
 
 use crate::cases::{event, number, other, sent, Visit, ME, TEXT, VALID};
-use crate::engine::{self, Engine};
+use crate::lent::{self, both, Lent};
 use crate::plain::{self, Plain};
 use crate::side::{About, On};
 
@@ -35,7 +35,7 @@ impl Parcel {
         };
         for (k, &len) in lens.iter().enumerate() {
             let record = (records + k).saturating_sub(lens.len());
-            parcel.words.extend(engine::entry(m, record, len));
+            parcel.words.extend(lent::entry(m, record, len));
             parcel.entries.push(Entry {
                 envelope: plain::envelope(m, record),
                 len: len as u8,
@@ -68,15 +68,15 @@ pub fn all(n: usize, visit: &mut impl Visit) {
             n,
             number(64),
         ),
-        || On {
+        both!(by => On {
             lent: packet.clone(),
             prepare: |_: &mut _, _| (),
             call: |packet: &mut Vec<u8>, _| {
                 (0..64)
-                    .filter(|&k| black_box(engine::fetch(packet, k)).number == 0)
+                    .filter(|&k| black_box(by::fetch(packet, k)).number == 0)
                     .count()
             },
-        },
+        }),
         || On {
             lent: packet.clone(),
             prepare: |_: &mut _, _| (),
@@ -123,13 +123,13 @@ pub fn all(n: usize, visit: &mut impl Visit) {
 fn pack(about: About, parcel: Parcel, visit: &mut impl Visit) {
     visit.case(
         about,
-        || On {
+        both!(by => On {
             lent: (parcel.clone(), vec![0; 1400]),
             prepare: |_: &mut _, _| (),
             call: |(parcel, out): &mut (Parcel, Vec<u8>), _| {
-                engine::pack(&parcel.words, &parcel.bodies, out)
+                by::pack(&parcel.words, &parcel.bodies, out)
             },
-        },
+        }),
         || On {
             lent: (parcel.clone(), vec![0; 1400]),
             prepare: |_: &mut _, _| (),
@@ -151,15 +151,15 @@ fn deliver(about: About, parcels: &[Parcel], visit: &mut impl Visit) {
     let post: Post = (packets, (0..64).map(|k| (k / count, k % count)).collect());
     visit.case(
         about,
-        || On {
-            lent: Engine::new(ME, n, VALID, post.clone()),
-            prepare: |e: &mut Engine<Post>, i| e.set(i, VALID),
-            call: move |e: &mut Engine<Post>, i: usize| {
+        both!(by => On {
+            lent: Lent::new(ME, n, VALID, post.clone()),
+            prepare: |e: &mut Lent<Post>, i| e.set(i, VALID),
+            call: move |e: &mut Lent<Post>, i: usize| {
                 let (p, k) = e.input.1[i + 64 - n];
                 let packet = e.input.0[p].as_slice();
-                engine::deliver_packet(e.me, &mut e.table, &mut e.store, packet, k)
+                by::deliver_packet(e.me, &mut e.table, &mut e.store, packet, k)
             },
-        },
+        }),
         || On {
             lent: Plain::new(ME, n, VALID, post.clone()),
             prepare: |m: &mut Plain<Post>, i| m.table[i] = plain::record(VALID),

@@ -1,8 +1,9 @@
 //! The cases of the playing program.
 
+use cetskobi::sys::{self, Played};
+
 use crate::cases::{number, other, Visit};
-use crate::engine;
-use crate::side::{About, On};
+use crate::side::{About, Answers, Nobody, On, Told};
 
 /// Document 01's example.
 const EXAMPLE: &str = "group 3\nwrite 0 A1\ndeliver 1 0\ndeliver 2 0\ndeliver 0 1\ndeliver 0 2\nvalidate 0\ndeliver 1 3\nread 1\nread 2\n";
@@ -65,24 +66,41 @@ fn play(about: About, script: &str, visit: &mut impl Visit) {
     let room = 25 * script.len() + 2;
     visit.case(
         about,
-        || On {
-            lent: (script.clone(), vec![0; room]),
-            prepare: |_: &mut _, _| (),
-            call: |(script, out): &mut (Vec<u8>, Vec<u8>), _| engine::play(script, out),
-        },
+        (
+            || On {
+                lent: (script.clone(), vec![0; room]),
+                prepare: |_: &mut _, _| (),
+                call: |(script, out): &mut (Vec<u8>, Vec<u8>), _| by_engine(script, out),
+            },
+            // The C peer has no player.
+            None::<fn() -> Nobody>,
+        ),
         || On {
             lent: script.clone(),
             prepare: |_: &mut _, _| (),
-            call: |script: &mut Vec<u8>, _| Played(model::player::play(script)),
+            call: |script: &mut Vec<u8>, _| Printed(model::player::play(script)),
         },
     );
 }
 
-/// What the model printed.
-struct Played(Vec<u8>);
+#[inline(always)]
+fn by_engine(script: &[u8], out: &mut [u8]) -> Played {
+    let (s, o) = (script.as_ptr(), out.as_mut_ptr());
+    // SAFETY: two slices; the output is borrowed mutably, so apart.
+    unsafe { sys::cetskobi_play(s, script.len(), o, out.len()) }
+}
 
-impl crate::side::Answers for Played {
-    fn told(&self) -> crate::side::Told {
+impl Answers for Played {
+    fn told(&self) -> Told {
+        (self.number, [self.len, 0, 0])
+    }
+}
+
+/// What the model printed.
+struct Printed(Vec<u8>);
+
+impl Answers for Printed {
+    fn told(&self) -> Told {
         (0, [self.0.len(), 0, 0])
     }
 }

@@ -1,12 +1,12 @@
-//! The two sides of a case: memory of its own, and one call on it.
+//! The sides of a case, each with memory of its own and one call on it.
 
 use std::fmt::Debug;
 use std::hint::black_box;
 
-/// What is compared of two answers: document 01's number, and what came with it.
+/// What is compared of answers: document 01's number, and what came with it.
 pub type Told = (u8, [usize; 3]);
 
-/// An answer of either side.
+/// An answer of any side.
 pub trait Answers {
     fn told(&self) -> Told;
 }
@@ -40,6 +40,21 @@ impl<S, A: Answers, P: Fn(&mut S, usize), C: Fn(&mut S, usize) -> A> Side for On
     #[inline(always)]
     fn call(&mut self, i: usize) -> A {
         (self.call)(&mut self.lent, i)
+    }
+}
+
+/// No side.
+pub enum Nobody {}
+
+impl Side for Nobody {
+    type Answer = usize;
+
+    fn prepare(&mut self, _: usize) {
+        match *self {}
+    }
+
+    fn call(&mut self, _: usize) -> usize {
+        match *self {}
     }
 }
 

@@ -1,8 +1,8 @@
-//! The table of both, and the rule that an event's cost does not grow.
+//! The table of all sides, and the rule that an event's cost does not grow.
 
 use crate::cases::{self, Visit};
 use crate::count::{instructions, Which};
-use crate::measure::{ratio, Ratio};
+use crate::measure::{ratios, Ratio, Ratios};
 use crate::side::{About, Side};
 
 /// The records of the table that times are taken on.
@@ -16,20 +16,23 @@ const PERCENT: u64 = 2;
 
 /// Times of every case.
 #[derive(Default)]
-struct Times(Vec<(About, Ratio)>);
+struct Times(Vec<(About, Ratios)>);
 
 impl Visit for Times {
-    fn case<E: Side, M: Side>(
+    fn case<E: Side, C: Side, M: Side>(
         &mut self,
         about: About,
-        engine: impl FnOnce() -> E,
+        (engine, peer): (impl FnOnce() -> E, Option<impl FnOnce() -> C>),
         model: impl FnOnce() -> M,
     ) {
-        let (mut engine, mut model) = (engine(), model());
+        let (mut engine, mut peer, mut model) = (engine(), peer.map(|peer| peer()), model());
         about.check_all(&mut engine);
+        if let Some(peer) = &mut peer {
+            about.check_all(peer);
+        }
         about.check_all(&mut model);
-        let ratio = ratio(&about, &mut engine, &mut model);
-        self.0.push((about, ratio));
+        let ratios = ratios(&about, &mut engine, &mut peer, &mut model);
+        self.0.push((about, ratios));
     }
 }
 
@@ -37,10 +40,10 @@ pub fn print() -> Result<(), String> {
     let mut times = Times::default();
     cases::all(RECORDS, &mut times);
 
-    println!("| case | engine, instructions | at 4,096 records | model, instructions | engine : model | time, best | time, median |");
-    println!("|---|--:|--:|--:|--:|--:|--:|");
+    println!("| case | engine, instructions | at 4,096 records | C, instructions | engine : C | model, instructions | engine : model | time : C, best | time : C, median | time : model, best | time : model, median |");
+    println!("|---|--:|--:|--:|--:|--:|--:|--:|--:|--:|--:|");
     let mut grown = vec![];
-    for (about, time) in &times.0 {
+    for (about, ratios) in &times.0 {
         let count = |which, records| {
             instructions(about.name, which, CALLS, records).map_err(|e| e.to_string())
         };
@@ -54,32 +57,45 @@ pub fn print() -> Result<(), String> {
             }
             many = thousands(engine_many);
         }
-        println!(
-            "| {} | {} | {many} | {} | {:.2} | {:.2} | {:.2} |",
-            about.title,
-            thousands(engine),
-            thousands(model),
-            engine as f64 / model as f64,
-            time.best,
-            time.median,
-        );
+        let mut cells = vec![about.title.to_owned(), thousands(engine), many];
+        cells.extend(match ratios.peer {
+            Some(_) => beside(engine, count(Which::Peer, FEW)?),
+            None => Default::default(),
+        });
+        cells.extend(beside(engine, model));
+        cells.extend(ratios.peer.as_ref().map(shown).unwrap_or_default());
+        cells.extend(shown(&ratios.model));
+        println!("| {} |", cells.join(" | "));
     }
     verdict(&grown)
 }
 
-/// The names of the events under the rule, each call checked on both sides.
+/// The count of another side, and the engine's divided by it.
+fn beside(engine: u64, other: u64) -> [String; 2] {
+    let ratio = engine as f64 / other as f64;
+    [thousands(other), format!("{ratio:.2}")]
+}
+
+fn shown(time: &Ratio) -> [String; 2] {
+    [time.best, time.median].map(|ratio| format!("{ratio:.2}"))
+}
+
+/// The names of the events under the rule, each call checked on all sides.
 #[derive(Default)]
 struct Flat(Vec<&'static str>);
 
 impl Visit for Flat {
-    fn case<E: Side, M: Side>(
+    fn case<E: Side, C: Side, M: Side>(
         &mut self,
         about: About,
-        engine: impl FnOnce() -> E,
+        (engine, peer): (impl FnOnce() -> E, Option<impl FnOnce() -> C>),
         model: impl FnOnce() -> M,
     ) {
         if about.flat {
             about.check_all(&mut engine());
+            if let Some(peer) = peer {
+                about.check_all(&mut peer());
+            }
             about.check_all(&mut model());
             self.0.push(about.name);
         }

@@ -1,0 +1,73 @@
+//! Single events on memory of any kind: sound and unsound records, bytes that
+//! are no record, tables and stores of any length.
+
+use cetskobi::sys::Admission;
+use compare::memory::Memory;
+use compare::settings::Settings;
+use compare::single::{compare, Case, Event, Outcome};
+use speed::peer;
+
+pub fn by_peer(case: &Case, memory: &mut Memory) -> Outcome {
+    let (me, i) = (case.me, case.i);
+    let (table, store) = memory.lend();
+    let answer = match &case.event {
+        Event::Start => return admitted(peer::start(me.number, me.view, table, store)),
+        Event::View { epoch, set } => return admitted(peer::view(me, *epoch, *set)),
+        Event::Read => {
+            let read = peer::read(me, table, store, i);
+            let at = if read.number == 0 { 192 * i } else { 0 };
+            return Outcome {
+                number: read.number,
+                sent: (0, 0, 0),
+                part: (at, read.len),
+                me,
+            };
+        }
+        Event::Write { value } => peer::write(me, table, store, i, value),
+        Event::Replay => peer::replay(me, table, store, i),
+        Event::Deliver { message, value } => peer::deliver(me, table, store, i, *message, value),
+        Event::Validate => peer::validate(me, table, store, i),
+        Event::Resend => peer::resend(me, table, store, i),
+    };
+    Outcome::of(me, answer)
+}
+
+fn admitted(admission: Admission) -> Outcome {
+    Outcome {
+        number: admission.number,
+        sent: (0, 0, 0),
+        part: (0, 0),
+        me: admission.replica,
+    }
+}
+
+/// Every answer of every event, and every acceptance at every state.
+#[test]
+fn random_events() {
+    let settings = Settings::from_env();
+    match compare(&settings, by_peer) {
+        Ok(tally) => {
+            println!("{tally}");
+            assert!(tally.total() >= 1_000_000);
+            assert_eq!(tally.stray(), 0);
+            assert!(tally.least() >= 100, "some answer is rare:\n{tally}");
+        }
+        Err(found) => panic!("{settings}\n{found}"),
+    }
+}
+
+/// A wrong peer is found.
+#[test]
+fn a_wrong_peer_is_found() {
+    // An older INV leaves no ACK.
+    fn wrong(case: &Case, memory: &mut Memory) -> Outcome {
+        let before = memory.clone();
+        let mut outcome = by_peer(case, memory);
+        if outcome.sent.0 == 2 && *memory == before {
+            outcome.sent = (0, 0, 0);
+        }
+        outcome
+    }
+    let found = compare(&Settings::USUAL, wrong).expect_err("a difference");
+    println!("{found}");
+}

@@ -1,0 +1,233 @@
+//! Groups from their fresh start: every event in the states that events lead to,
+//! messages by themselves and out of packets, by both sides side by side.
+
+use std::collections::BTreeMap;
+
+use cetskobi::sys::{Answer, Message, Replica};
+use compare::bytes::Bytes;
+use compare::memory::Memory;
+use compare::settings::Settings;
+use compare::single::{by_engine, some_bytes, Case, Event, Kind, Outcome};
+use model::rng::Rng;
+use speed::{engine, peer};
+
+use crate::events::by_peer;
+use crate::often;
+
+const RUNS: usize = 1000;
+const STEPS: usize = 1000;
+const RECORDS: usize = 2;
+
+/// How often each kind of event gave each answer.
+type Tally = BTreeMap<Kind, [u64; 26]>;
+
+/// A replica with the memory of both sides.
+struct Member {
+    me: Replica,
+    engine: Memory,
+    peer: Memory,
+}
+
+/// A message that left, about record `i`, with its bytes.
+struct Post {
+    message: Message,
+    i: usize,
+    body: Vec<u8>,
+}
+
+struct Group {
+    members: Vec<Member>,
+    posts: Vec<Post>,
+    /// The views, by epoch.
+    views: Vec<u16>,
+    tally: Tally,
+}
+
+impl Group {
+    fn start(rng: &mut Rng, tally: Tally) -> Group {
+        let mut numbers: Vec<u8> = (0..16).collect();
+        while numbers.len() > 2 + rng.below(3) {
+            numbers.remove(rng.below(numbers.len()));
+        }
+        let view = numbers.iter().map(|n| 1 << n).sum();
+        let mut group = Group {
+            members: vec![],
+            posts: vec![],
+            views: vec![view],
+            tally,
+        };
+        for (at, &number) in numbers.iter().enumerate() {
+            let (mut table, mut store) = ([0; 16 * RECORDS], [0; 192 * RECORDS]);
+            rng.fill(&mut table);
+            rng.fill(&mut store);
+            let mut memory = Memory::default();
+            memory.lay(&table, &store);
+            let (engine, peer) = (memory.clone(), memory);
+            // The start names the view, and gives epoch 0.
+            let me = Replica {
+                number,
+                view,
+                epoch: 0,
+            };
+            group.members.push(Member { me, engine, peer });
+            assert_eq!(group.play(at, 0, Event::Start), 0);
+        }
+        group
+    }
+
+    /// One entry of a run.
+    fn step(&mut self, rng: &mut Rng) {
+        let at = rng.below(self.members.len());
+        let i = match rng.below(100) {
+            0 => RECORDS,
+            _ => rng.below(RECORDS),
+        };
+        let event = match rng.below(60) {
+            0 => return self.strike(rng),
+            1..4 => {
+                let epoch = rng.below(self.views.len());
+                // Now and then a wrong one.
+                let wrong = u16::from(rng.chance(1, 10)) << rng.below(16);
+                Event::View {
+                    epoch: epoch as u32,
+                    set: self.views[epoch] ^ wrong,
+                }
+            }
+            4..8 => {
+                let len = [0, 1, 192, 193, rng.below(193)][rng.below(5)];
+                let value = some_bytes(rng, len);
+                Event::Write { value }
+            }
+            8..12 => Event::Read,
+            12..18 => Event::Validate,
+            18..22 => Event::Replay,
+            22..26 => Event::Resend,
+            _ => return self.deliver(rng, at),
+        };
+        self.play(at, i, event);
+    }
+
+    /// A further view, within the last, of at least two. The member that is
+    /// struck off is told later, or never.
+    fn strike(&mut self, rng: &mut Rng) {
+        let last = *self.views.last().expect("the first view");
+        let member = &self.members[rng.below(self.members.len())];
+        let next = last & !(1 << member.me.number);
+        if next.count_ones() >= 2 {
+            self.views.push(next);
+        }
+    }
+
+    /// A message, mostly a late one, comes to a member.
+    fn deliver(&mut self, rng: &mut Rng, at: usize) {
+        let few = self.posts.len().min([10, 10, 10, 1000][rng.below(4)]);
+        let Some(k) = self.posts.len().checked_sub(1 + rng.below(few)) else {
+            return;
+        };
+        let Post { message, i, body } = &self.posts[k];
+        if rng.chance(1, 2) {
+            let (message, i, value) = (*message, *i, Bytes(body.clone()));
+            self.play(at, i, Event::Deliver { message, value });
+            return;
+        }
+        let entry = [
+            message.kind.into(),
+            message.sender.into(),
+            message.epoch,
+            *i as u32,
+            message.version,
+            message.tie.into(),
+            body.len() as u32,
+        ];
+        let (mut x, mut y) = ([0; 1400], [0; 1400]);
+        let written = engine::pack(&entry, body, &mut x);
+        assert_eq!(written, peer::pack(&entry, body, &mut y));
+        assert_eq!((written.number, x), (0, y));
+        let packet = &x[..written.len];
+        let member = &mut self.members[at];
+        let (table, store) = member.engine.lend();
+        let a = engine::deliver_packet(member.me, table, store, packet, 0);
+        let (table, store) = member.peer.lend();
+        let b = peer::deliver_packet(member.me, table, store, packet, 0);
+        let value = Bytes(body.clone());
+        let message = *message;
+        let case = Case::on(member.me, *i, Event::Deliver { message, value });
+        let (a, b) = (Outcome::of(member.me, a), Outcome::of(member.me, b));
+        self.same(at, &case, &a, &b);
+    }
+
+    /// An event by both sides: its number.
+    fn play(&mut self, at: usize, i: usize, event: Event) -> u8 {
+        let member = &mut self.members[at];
+        let case = Case::on(member.me, i, event);
+        let a = by_engine(&case, &mut member.engine);
+        let b = by_peer(&case, &mut member.peer);
+        self.same(at, &case, &a, &b);
+        a.number
+    }
+
+    /// Both sides did the same. What left joins the posts.
+    fn same(&mut self, at: usize, case: &Case, a: &Outcome, b: &Outcome) {
+        assert_eq!(a, b, "engine, peer: {:?} of {:?}", case.event, case.me);
+        let member = &mut self.members[at];
+        let difference = member.engine.difference(&member.peer);
+        assert_eq!(difference, None, "{:?} of {:?}", case.event, case.me);
+        let counts = self.tally.entry(case.kind()).or_default();
+        counts[usize::from(a.number)] += 1;
+        member.me = a.me;
+        let (kind, tie, version) = a.sent;
+        if kind == 0 {
+            return;
+        }
+        let left = Answer {
+            number: 0,
+            kind,
+            tie,
+            version,
+        };
+        let (me, i) = (member.me, case.i);
+        let (table, store) = (member.engine.table(), member.engine.store());
+        let len = engine::body(table, store, i, left);
+        assert_eq!(len, peer::body(table, store, i, left), "of {left:?}");
+        let body = store[192 * i..][..len].to_vec();
+        let message = Message {
+            kind,
+            sender: me.number,
+            tie,
+            epoch: me.epoch,
+            version,
+        };
+        self.posts.push(Post { message, i, body });
+    }
+}
+
+#[test]
+fn random_groups() {
+    let settings = Settings::from_env();
+    // Shown if it fails.
+    println!("{settings}");
+    let mut rng = settings.rng("group of peers");
+    let mut tally = Tally::new();
+    for _ in 0..RUNS * settings.times {
+        let mut group = Group::start(&mut rng, tally);
+        for _ in 0..STEPS {
+            group.step(&mut rng);
+        }
+        tally = group.tally;
+    }
+    let reached: [(Kind, &[usize]); 10] = [
+        (Kind::Start, &[0]),
+        (Kind::View, &[0, 3, 18, 19]),
+        (Kind::Read, &[0, 3, 4, 6]),
+        (Kind::Write, &[0, 3, 4, 7, 8]),
+        (Kind::Replay, &[0, 3, 4, 16]),
+        (Kind::Validate, &[0, 3, 4, 15]),
+        (Kind::Resend, &[0, 3, 4, 17]),
+        (Kind::Inv, &[0, 3, 10, 11]),
+        (Kind::Ack, &[0, 3, 10, 11, 13]),
+        (Kind::Val, &[0, 3, 10, 11, 14]),
+    ];
+    for (kind, answers) in reached {
+        often(&format!("{kind:?}"), &tally[&kind], answers, 20);
+    }
+}
