@@ -10,10 +10,9 @@ use borrow.Author.Tests.{lt-ltb, le-ltb, ltb-true, ltb-false, le-leb, lt-leb, le
 use lib.Dec.{T, ltb, leb, eqb}
 use lib.ListN.{length, drop, getD, drop-of-length-le, length-append}
 use lib.Seq.{drop-cons}
-use Rattle.play_script.specs.Text.{digits, decimal, isDigit, more, numberOf}
-use Rattle.play_script.specs.Command.{Below}
-use Rattle.play_script.specs.declared.number.Number.{Number}
-use Rattle.play_script.specs.declared.number.Number.the-variants.{Value, NotANumber}
+use Rattle.play_numbers.specs.Number.{digits, decimal, isDigit, more, numberOf, Below}
+use Rattle.play_numbers.specs.declared.number.Number.{Number}
+use Rattle.play_numbers.specs.declared.number.Number.the-variants.{Value, NotANumber}
 
 zero-one : _≡_ {A = ℕ} 0 1 → ⊥
 zero-one z = omega arith

@@ -1,14 +1,14 @@
--- `play_script::number::digits` meets its contract. The loop reads what is left of the word: the number of the whole word is that of the rest, from the value so far.
+-- `play_numbers::number::digits` meets its contract. The loop reads what is left of the word: the number of the whole word is that of the rest, from the value so far.
 use Prim.Native.Nat.{_-_, _<_, _^_, _≤_}
-use Rattle.play_script.proofs.Numbers.{digit-range, more-end, more-step}
-use Rattle.play_script.specs.Text.{more}
+use Rattle.play_numbers.proofs.Numbers.{digit-range, more-end, more-step}
+use Rattle.play_numbers.specs.Number.{more}
 use borrow.Author.Needs.{needs}
 use borrow.Author.Tests.{le-ltb, lt-ltb, not-false, not-true}
 use lib.ListN.{drop, getD, length}
 use mathlib.Core.Path.{_∙_, _≡_, refl, sym}
 use native.Mathlib.Omega.{arith}
-use Rattle.play_script.proofs.number.digits.Statement.{statement}
-use Rattle.play_script.proofs.number.digits.Tie as tie
+use Rattle.play_numbers.proofs.number.digits.Statement.{statement}
+use Rattle.play_numbers.proofs.number.digits.Tie as tie
 
 abbrev Inv-loop : tie.InvT-loop
 Inv-loop word limit value₀ k₀ value k = (k ≤ length word) × (value < 2 ^ 32) × (more limit 0 word ≡ more limit value (drop k word))

@@ -1,7 +1,7 @@
 // Numbers in decimal.
 ghost use mathlib.Core.Path.{_≡_};
-ghost use Prim.Native.Nat.{_^_, _≤_};
-ghost use Rattle.play_script.specs.Text.{isDigit, more, numberOf};
+ghost use Prim.Native.Nat.{_+_, _^_, _≤_};
+ghost use Rattle.play_numbers.specs.Number.{isDigit, more, numberOf};
 
 // What a word is as a number.
 pub enum Number {
@@ -19,10 +19,9 @@ fn is_digit(b: u8) -> bool
     (ZERO <= b) & (b <= NINE)
 }
 
-// The number that a whole word spells, below `limit` and with no leading zero.
-pub(crate) fn read(word: &[u8], limit: usize) -> Number
-    requires { ⌜ limit ≤ 2 ^ 32 ⌝ }
-    ensures { λ r. ⌜ r ≡ numberOf limit (now (word .entry)) ⌝ }
+// The number that a whole word spells, at most `greatest` and with no leading zero.
+pub fn read(word: &[u8], greatest: u32) -> Number
+    ensures { λ r. ⌜ r ≡ numberOf (greatest + 1) (now (word .entry)) ⌝ }
 {
     if word.len() < 1 {
         return Number::NotANumber;
@@ -32,7 +31,7 @@ pub(crate) fn read(word: &[u8], limit: usize) -> Number
             return Number::NotANumber;
         }
     }
-    digits(word, limit)
+    digits(word, greatest as usize + 1)
 }
 
 fn digits(word: &[u8], limit: usize) -> Number
