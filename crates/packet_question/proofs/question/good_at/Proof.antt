@@ -11,8 +11,8 @@ use Rattle.hermes.proofs.Tests.{and-true}
 use Rattle.packet_format.proofs.Entries.{not-good}
 use Rattle.packet_words.specs.Words.{fieldsAt}
 use borrow.Author.Needs.{needs}
-use Rattle.packet_writer.proofs.question.good_at.Statement.{statement}
-use Rattle.packet_writer.proofs.question.good_at.Tie as tie
+use Rattle.packet_question.proofs.question.good_at.Statement.{statement}
+use Rattle.packet_question.proofs.question.good_at.Tie as tie
 
 -- fields whose sender, tie-breaker, record and length are within their limits
 module _ (f : Fields) (sender : f .sender ≤ 15) (tie : f .tie ≤ 15) (index : f .index ≤ 4095) (len : f .len ≤ 192) where

@@ -4,9 +4,9 @@ use native.Mathlib.Omega.{arith}
 use Rattle.packet_format.proofs.Entries.{good-parts}
 use Rattle.packet_format.proofs.Tests.{yes, no}
 use Rattle.packet_words.specs.Words.{fieldsAt, entriesFrom}
-use Rattle.packet_writer.proofs.Messages.{Measured, measured-none, measured-more, measured-bad, measured-all}
-use Rattle.packet_writer.proofs.question.ask.Statement.{statement}
-use Rattle.packet_writer.proofs.question.ask.Tie as tie
+use Rattle.packet_question.proofs.Messages.{Measured, measured-none, measured-more, measured-bad, measured-all}
+use Rattle.packet_question.proofs.question.ask_first.Statement.{statement}
+use Rattle.packet_question.proofs.question.ask_first.Tie as tie
 
 abbrev Inv-loop : tie.InvT-loop
 Inv-loop words count sum₀ k₀ sum k = Measured (entriesFrom count 0 words) sum k
@@ -53,8 +53,8 @@ loop-again c = measured-more (c .before .before .before .before .before .before 
 returns-2 : tie.Need-returns-2 Inv-loop μ-loop
 returns-2 c = measured-all (c .before .before .before .args .count) (c .before .before .before .args .words .now) (c .before .loop .sum) (c .before .loop .k) (c .loop-test .left) (c .before .loop .inv)
 
-pub ask-spec : {M : Type 1} → statement M
-ask-spec =
+pub ask-first-spec : {M : Type 1} → statement M
+ask-first-spec =
     tie.close
     (tie.spec
     Inv-loop

@@ -3,14 +3,14 @@ ghost use mathlib.Core.Path.{_≡_};
 ghost use Prim.Native.Nat.{_+_, _*_, _≤_};
 ghost use lib.ListN.{length};
 ghost use Rattle.packet_format.specs.Entry.{good};
-ghost use Rattle.packet_words.specs.Words.{fieldsAt, entriesFrom};
-ghost use Rattle.packet_writer.specs.Asking.{asked};
+ghost use Rattle.packet_words.specs.Words.{fieldsAt, entriesFrom, messagesIn};
+ghost use Rattle.packet_question.specs.Asking.{asked};
 use hermes::Record;
 use packet_format::Fields;
 use packet_words::WORDS;
 
 // Passed with the summed length of the bodies, or refused.
-pub(crate) enum Asked {
+pub enum Asked {
     Passed(usize),
     Refused,
 }
@@ -41,7 +41,7 @@ fn good_at(words: &[u32], w: usize) -> bool
 }
 
 // The question, of the first `count` messages.
-pub(crate) fn ask(words: &[u32], count: usize) -> Asked
+fn ask_first(words: &[u32], count: usize) -> Asked
     requires { ⌜ (count ≤ 64) × (7 * count ≤ length (now words)) ⌝ }
     ensures { λ r. ⌜ r ≡ asked (entriesFrom count 0 (now (words .entry))) ⌝ }
 {
@@ -56,4 +56,11 @@ pub(crate) fn ask(words: &[u32], count: usize) -> Asked
         k = k + 1;
     }
     Asked::Passed(sum)
+}
+
+// The question, of all messages that the words hold.
+pub fn ask(words: &[u32]) -> Asked
+    ensures { λ r. ⌜ r ≡ asked (messagesIn (now (words .entry))) ⌝ }
+{
+    ask_first(words, packet_words::count_in(words.len()))
 }
