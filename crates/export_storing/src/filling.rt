@@ -1,9 +1,10 @@
 // What a fresh start makes of the lent bytes.
 ghost use mathlib.Core.Path.{_≡_};
 ghost use lib.ListN.{length, replicate};
-ghost use Rattle.export_records.specs.Layout.{countOf, tableOf, fill};
+ghost use Rattle.export_records.specs.Layout.{countOf, tableOf};
+ghost use Rattle.export_storing.specs.Storing.{fill};
 use crate::putting::put_record;
-use crate::reading::count;
+use export_records::count;
 use hermes::Record;
 
 // Every record that the bytes hold becomes r.

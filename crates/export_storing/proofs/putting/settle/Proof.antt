@@ -1,11 +1,12 @@
--- `export_records::putting::settle` meets its contract.
-use Rattle.export_records.proofs.Lent.{inside, settled-in, settled-out}
-use Rattle.export_records.proofs.Table.{settled-table, settled-nowhere}
+-- `export_storing::putting::settle` meets its contract.
+use Rattle.export_records.proofs.Lent.{inside}
+use Rattle.export_storing.proofs.Stores.{settled-in, settled-out}
+use Rattle.export_storing.proofs.Table.{settled-table, settled-nowhere}
 use Rattle.export_records.specs.Layout.{tableOf}
 use mathlib.Core.Path.{sym, ap, _∙_}
 use borrow.Author.Needs.{needs}
-use Rattle.export_records.proofs.putting.settle.Statement.{statement}
-use Rattle.export_records.proofs.putting.settle.Tie as tie
+use Rattle.export_storing.proofs.putting.settle.Statement.{statement}
+use Rattle.export_storing.proofs.putting.settle.Tie as tie
 
 enum-told : tie.Need-enum-told
 enum-told c = search needs

@@ -13,9 +13,11 @@ use Rattle.hermes.specs.declared.record.Record.{Record}
 use Rattle.hermes.specs.Record.{code}
 use Rattle.hermes.specs.Event.{Step, movedBy}
 use Rattle.hermes.specs.Node.{recordAt}
-use Rattle.export_records.specs.Layout.{two, four, inTwo, inFour, stateOf, orUnsound, decode, encode, countOf, decodeAt, tableOf, put, bytesAfter}
-use Rattle.export_records.specs.Back.{Bytes, PutBack}
-use Rattle.export_records.proofs.Lent.{record-in, settled-in}
+use Rattle.export_records.specs.Layout.{two, four, stateOf, orUnsound, decode, countOf, decodeAt, tableOf}
+use Rattle.export_storing.specs.Storing.{inTwo, inFour, encode, put, bytesAfter}
+use Rattle.export_storing.specs.Back.{Bytes, PutBack}
+use Rattle.export_records.proofs.Lent.{record-in}
+use Rattle.export_storing.proofs.Stores.{settled-in}
 
 code-back : (k : ℕ) → k ≤ 4 → code (stateOf k) ≡ k
 code-back zero h = refl

@@ -4,10 +4,10 @@ use mathlib.Core.Path.{_∙_}
 use native.Mathlib.Omega.{arith}
 use lib.ListN.{length-set}
 use Rattle.hermes.specs.Record.{code}
-use Rattle.export_records.proofs.Lent.{stores}
+use Rattle.export_storing.proofs.Stores.{stores}
 use borrow.Author.Needs.{needs}
-use Rattle.export_records.proofs.putting.put_record.Statement.{statement}
-use Rattle.export_records.proofs.putting.put_record.Tie as tie
+use Rattle.export_storing.proofs.putting.put_record.Statement.{statement}
+use Rattle.export_storing.proofs.putting.put_record.Tie as tie
 
 mul-at : tie.Need-mul-at
 mul-at c = search needs

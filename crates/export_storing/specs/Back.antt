@@ -4,7 +4,8 @@ use mathlib.Core.Path.{_≡_}
 use mathlib.Core.List.{List}
 use lib.ListN.{length, getD}
 use Rattle.hermes.specs.Node.{recordAt}
-use Rattle.export_records.specs.Layout.{countOf, tableOf, put}
+use Rattle.export_records.specs.Layout.{countOf, tableOf}
+use Rattle.export_storing.specs.Storing.{put}
 
 -- every element is a byte
 abbrev pub Bytes : List ℕ → Type 0

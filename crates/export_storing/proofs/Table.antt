@@ -16,9 +16,10 @@ use Rattle.hermes.specs.Record.{freshRecord}
 use Rattle.hermes.specs.Event.{Step, movedBy}
 use Rattle.hermes.specs.Node.{recordAt}
 use Rattle.hermes.proofs.Filling.{filled, filled-suc, filled-all}
-use Rattle.export_records.specs.Layout.{two, four, decode, encode, countOf, decodeAt, tableOf, put, fill, tableAfter}
+use Rattle.export_records.specs.Layout.{two, four, decode, countOf, decodeAt, tableOf}
+use Rattle.export_storing.specs.Storing.{encode, put, fill, tableAfter}
 use Rattle.export_records.proofs.Lent.{length-table, record-in, inside}
-use Rattle.export_records.proofs.RoundTrip.{decode-encode}
+use Rattle.export_storing.proofs.RoundTrip.{decode-encode}
 
 -- ---- a run of stores: the places inside it, before it, after it
 

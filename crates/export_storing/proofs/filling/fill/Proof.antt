@@ -1,15 +1,16 @@
--- `export_records::filling::fill` meets its contract.
+-- `export_storing::filling::fill` meets its contract.
 use Rattle.export_records.proofs.Lent.{inside}
-use Rattle.export_records.proofs.Table.{filled-table}
-use Rattle.export_records.specs.Layout.{countOf, tableOf, fill}
+use Rattle.export_storing.proofs.Table.{filled-table}
+use Rattle.export_records.specs.Layout.{countOf, tableOf}
+use Rattle.export_storing.specs.Storing.{fill}
 use lib.ListN.{length}
 use borrow.Author.Needs.{needs}
 use native.Mathlib.Omega.{arith}
 use native.Mathlib.Numerals.{add-one}
 use mathlib.Core.Path.{_≡_, refl, ap, _∙_}
 use Prim.Native.Nat.{ℕ, _≤_, _<_, _-_}
-use Rattle.export_records.proofs.filling.fill.Statement.{statement}
-use Rattle.export_records.proofs.filling.fill.Tie as tie
+use Rattle.export_storing.proofs.filling.fill.Statement.{statement}
+use Rattle.export_storing.proofs.filling.fill.Tie as tie
 
 abbrev Inv-loop : tie.InvT-loop
 Inv-loop bytes₀ r n i₀ bytes i = (i ≤ n) × ((bytes ≡ fill i bytes₀ r) × (length bytes ≡ length bytes₀))
