@@ -2,16 +2,16 @@
 ghost use mathlib.Core.Path.{_≡_};
 ghost use Rattle.hermes.specs.Order.{higher};
 ghost use Rattle.hermes.specs.Event.{effect};
-use crate::delivery::deliver;
-use replica_reading::read_event;
-use replica_settling::replay;
-use replica_settling::resend;
-use replica_settling::validate;
 use crate::writing::write;
 use hermes::Event;
 use hermes::Moved;
 use hermes::Record;
 use hermes::Replica;
+use replica_delivery::deliver;
+use replica_reading::read_event;
+use replica_settling::replay;
+use replica_settling::resend;
+use replica_settling::validate;
 
 // An event on record i, r, of replica me with count records and this store. A write and a delivery bring the value's bytes; the other events pass over them.
 pub fn step(

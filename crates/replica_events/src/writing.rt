@@ -4,11 +4,11 @@ ghost use Rattle.hermes.specs.Order.{higher};
 ghost use Rattle.hermes.specs.Event.{common, own, effect};
 ghost use Rattle.hermes.specs.declared.event.Event.the-variants.{Write};
 ghost use Rattle.replica_guards.specs.Cascade.{asked};
-use replica_guards::Asked;
 use hermes::Message;
 use hermes::Moved;
 use hermes::Record;
 use hermes::Replica;
+use replica_guards::Asked;
 
 fn asks(me: Replica, count: usize, bytes: usize, i: usize, r: Record, n: usize) -> Asked
     ensures { λ a. ⌜ a ≡ asked (common me count bytes i r (own me r Write n)) r ⌝ }

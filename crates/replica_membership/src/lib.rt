@@ -3,10 +3,10 @@ ghost use mathlib.Core.Path.{_≡_};
 ghost use Rattle.hermes.specs.Node.{admit, firstRecord, view, viewQuestions};
 ghost use Rattle.replica_guards.specs.Cascade.{asked};
 ghost use Rattle.replica_membership.specs.Admitted.{admissionBy};
-use replica_guards::Asked;
 use hermes::Admission;
 use hermes::Record;
 use hermes::Replica;
+use replica_guards::Asked;
 
 // An admission, by what its questions answered.
 fn admission(a: Asked, me: Replica) -> Admission
@@ -34,7 +34,10 @@ pub fn admit(number: u8, view: u16, count: usize, bytes: usize) -> Admission
         epoch: 0,
         view: view,
     };
-    admission(replica_guards::at_start(me, count, bytes, fresh_record(view)), me)
+    admission(
+        replica_guards::at_start(me, count, bytes, fresh_record(view)),
+        me,
+    )
 }
 
 fn asks_view(me: Replica, epoch: u32, set: u16, r: Record) -> Asked

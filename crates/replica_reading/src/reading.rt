@@ -5,12 +5,12 @@ ghost use Rattle.hermes.specs.Order.{higher};
 ghost use Rattle.hermes.specs.Event.{common, own, moved, readPart};
 ghost use Rattle.hermes.specs.declared.event.Event.the-variants.{Read};
 ghost use Rattle.replica_guards.specs.Cascade.{asked};
-use replica_guards::Asked;
 use hermes::Answer;
 use hermes::Moved;
 use hermes::Outgoing;
 use hermes::Record;
 use hermes::Replica;
+use replica_guards::Asked;
 
 fn asks(me: Replica, count: usize, bytes: usize, i: usize, r: Record) -> Asked
     ensures { λ a. ⌜ a ≡ asked (common me count bytes i r (own me r Read 0)) r ⌝ }

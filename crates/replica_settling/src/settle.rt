@@ -5,7 +5,6 @@ ghost use Rattle.hermes.specs.Order.{higher};
 ghost use Rattle.hermes.specs.Event.{common, own, moved, resent};
 ghost use Rattle.hermes.specs.declared.event.Event.the-variants.{Replay, Validate, Resend};
 ghost use Rattle.replica_guards.specs.Cascade.{asked};
-use replica_guards::Asked;
 use hermes::Message;
 use hermes::Moved;
 use hermes::Outgoing;
@@ -13,6 +12,7 @@ use hermes::Record;
 use hermes::Replica;
 use hermes::State;
 use hermes::Timestamp;
+use replica_guards::Asked;
 
 // A replay of record i, r.
 pub fn replay(me: Replica, count: usize, bytes: usize, i: usize, r: Record) -> Moved
@@ -23,7 +23,10 @@ pub fn replay(me: Replica, count: usize, bytes: usize, i: usize, r: Record) -> M
         return replica_guards::stopped(a, r);
     };
     let t = r1.timestamp;
-    replica_outcome::accepted(replica_outgoing::send(me, i, Message::Inv(t)), r1.replay(me.number))
+    replica_outcome::accepted(
+        replica_outgoing::send(me, i, Message::Inv(t)),
+        r1.replay(me.number),
+    )
 }
 
 fn asks_replay(me: Replica, count: usize, bytes: usize, i: usize, r: Record) -> Asked
@@ -45,7 +48,10 @@ pub fn validate(me: Replica, count: usize, bytes: usize, i: usize, r: Record) ->
         return replica_guards::stopped(a, r);
     };
     let t = r1.timestamp;
-    replica_outcome::accepted(replica_outgoing::send(me, i, Message::Val(t)), r1.validate())
+    replica_outcome::accepted(
+        replica_outgoing::send(me, i, Message::Val(t)),
+        r1.validate(),
+    )
 }
 
 fn asks_validate(me: Replica, count: usize, bytes: usize, i: usize, r: Record) -> Asked
