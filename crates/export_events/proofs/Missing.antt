@@ -1,19 +1,25 @@
 -- An exported event on a number where no record stands: question 4 or 5 says no, whatever the event, and nothing has changed.
 use Prim.Native.Nat.{ℕ, suc, _≤_}
-use mathlib.Core.Path.{_≡_, refl, sym, _∙_}
+use mathlib.Core.Path.{_≡_, refl, sym, ap, _∙_}
 use mathlib.Core.Bool.{Bool, true, false, cond, false≢true}
-use mathlib.Core.List.{List, _∷_}
+use mathlib.Core.List.{List, [], _∷_}
 use mathlib.Core.Logic.{_⊎_, inl, inr}
 use lib.ListN.{length}
 use lib.Seq.{set-getD}
 use borrow.Author.Tests.{le-ltb}
 use Rattle.hermes.specs.declared.record.Record.{Record}
+use Rattle.hermes.specs.declared.message.Message.{Message}
+use Rattle.hermes.specs.declared.message.Message.the-variants.{Inv, Ack, Val}
+use Rattle.hermes.specs.declared.message.Outgoing.the-variants.{None, Sent}
+use Rattle.hermes.specs.declared.event.Answer.{Answer}
+use Rattle.hermes.specs.declared.event.Answer.the-variants.{Accepted, Refused}
 use Rattle.hermes.specs.declared.event.Replica.{Replica}
+use Rattle.hermes.specs.Order.{higher}
 use Rattle.hermes.specs.declared.event.Event.{Event}
 use Rattle.hermes.specs.declared.event.Event.the-variants as event
 use Rattle.hermes.specs.Guards.{Question, ask, firstNo, question1, question2, question3, question4, question5}
 use Rattle.hermes.specs.Record.{freshRecord}
-use Rattle.hermes.specs.Event.{own, refusal, moved, effect}
+use Rattle.hermes.specs.Event.{own, refusal, moved, effect, numberOf, readPart}
 use Rattle.hermes.specs.Node.{recordAt, apply}
 use Rattle.export_records.specs.declared.reading.Found.the-variants as found
 use Rattle.export_records.specs.Layout.{unsound, countOf, tableOf, find}
@@ -21,8 +27,9 @@ use Rattle.export_records.proofs.Lent.{length-table}
 use Rattle.export_records.proofs.Finding.{found-missing}
 use Rattle.export_numbers.specs.declared.numbers.CetskobiReplica.{CetskobiReplica}
 use Rattle.export_numbers.specs.declared.numbers.CetskobiAnswer.{CetskobiAnswer}
-use Rattle.export_numbers.specs.Crossing.{replicaOf}
-use Rattle.export_events.specs.Events.{nodeOf, missing, Done}
+use Rattle.export_numbers.specs.Crossing.{replicaOf, messageOut, answerOut}
+use Rattle.export_events.specs.Events.{nodeOf, missing, Done, ReadDone}
+use Rattle.export_events.proofs.Parts.{no-part}
 
 -- the first no of questions 1 to 5, less one, where the fourth or the fifth says no
 abbrev barred : Bool → Bool → Bool → Bool → ℕ
@@ -46,6 +53,17 @@ module _ (me : Replica) (count bytes i : ℕ) (r : Record) where
   unfolding refusal
   refuses h e n = five (question1 me .yes) (question2 count bytes .yes) (question3 me .yes) (question4 i count .yes) (question5 me r .yes) (own me r e n) h
 
+number-sent : (m : Message) → messageOut m .number ≡ 0
+number-sent (Inv t) = refl
+number-sent (Ack t) = refl
+number-sent (Val t) = refl
+
+-- the number of an answer that crossed
+number-out : (a : Answer) → answerOut a .number ≡ numberOf a
+number-out (Accepted None) = refl
+number-out (Accepted (Sent m h)) = number-sent m
+number-out (Refused k) = refl
+
 module _ (me : CetskobiReplica) (bytes store : List ℕ) (i : ℕ) (none : find bytes i ≡ found.Missing) where
   no : (question4 i (length (tableOf bytes)) .yes ≡ false) ⊎ (question5 (replicaOf me) (recordAt (tableOf bytes) i) .yes ≡ false)
   no = go (found-missing bytes i none)
@@ -67,4 +85,12 @@ module _ (me : CetskobiReplica) (bytes store : List ℕ) (i : ℕ) (none : find 
         bytes = rw z;
         table = rw z (sym (set-getD (tableOf bytes) i (freshRecord 0)));
         store = rw z;
+      }
+
+  pub missed-read : (a : CetskobiAnswer) → a ≡ missing me (length bytes) (length store) i → ReadDone (nodeOf me bytes store) i (record { number = a .number; len = 0 })
+  unfolding readPart
+  missed-read a h =
+      record {
+        number = ap (λ (x : CetskobiAnswer). x .number) (missed-done event.Read [] a h .answer) ∙ number-out (apply higher (nodeOf me bytes store) i event.Read [] .answer);
+        part = rw (refused event.Read 0) (no-part store i);
       }

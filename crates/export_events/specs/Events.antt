@@ -12,7 +12,7 @@ use Rattle.export_numbers.specs.declared.numbers.CetskobiReplica.{CetskobiRepli
 use Rattle.export_numbers.specs.declared.numbers.CetskobiAnswer.{CetskobiAnswer}
 use Rattle.export_numbers.specs.declared.numbers.CetskobiReading.{CetskobiReading}
 use Rattle.export_numbers.specs.Crossing.{replicaOf, answerOut}
-use Rattle.export_events.specs.Leaving.{PartAt}
+use Rattle.export_events.specs.Part.{PartAt}
 use Rattle.export_records.specs.Layout.{unsound, countOf, tableOf}
 use Rattle.export_storing.specs.Storing.{bytesAfter, tableAfter}
 

@@ -1,2 +1,2 @@
-pub mod Leaving
+pub mod Part
 pub mod Events

@@ -1,18 +1,16 @@
 // The events on one record, for C and Rust. Each takes the identity, the table as bytes, sixteen for each record, and the store.
 ghost use mathlib.Core.Path.{_≡_};
 ghost use mathlib.Core.List.{[]};
-ghost use Rattle.hermes.specs.declared.event.Event.the-variants.{Write, Replay, Deliver, Validate, Resend};
-ghost use Rattle.export_numbers.specs.Crossing.{receivedIn};
+ghost use Rattle.hermes.specs.declared.event.Event.the-variants.{Write, Replay, Validate, Resend};
 ghost use Rattle.export_events.specs.Events.{nodeOf, missing, Finished, Done, ReadDone};
 use export_numbers::CetskobiAnswer;
-use export_numbers::CetskobiMessage;
 use export_numbers::CetskobiReading;
 use export_numbers::CetskobiReplica;
 use export_records::Found;
 use hermes::Moved;
 
 // The end of an event on record i: its answer, and the bytes of the table.
-fn finish(table: &mut [u8], i: usize, m: Moved) -> CetskobiAnswer
+pub fn finish(table: &mut [u8], i: usize, m: Moved) -> CetskobiAnswer
     ensures { λ a. ⌜ Finished (now (table .entry)) i m a (now (table .exit)) ⌝ }
 {
     export_storing::settle(table, i, m);
@@ -21,7 +19,7 @@ fn finish(table: &mut [u8], i: usize, m: Moved) -> CetskobiAnswer
 }
 
 // The answer to an event on a number where no record stands. It is the same for every event: one of questions 1 to 5 says no.
-fn missed(me: CetskobiReplica, len: usize, bytes: usize, i: usize) -> CetskobiAnswer
+pub fn missed(me: CetskobiReplica, len: usize, bytes: usize, i: usize) -> CetskobiAnswer
     ensures { λ a. ⌜ a ≡ missing me len bytes i ⌝ }
 {
     let who = export_numbers::replica_of(me);
@@ -48,29 +46,6 @@ pub extern "C" fn cetskobi_write(
     let who = export_numbers::replica_of(me);
     let count = export_records::count(table.len());
     let m = replica_events::write(who, count, i, r, store, value);
-    finish(table, i, m)
-}
-
-// Delivery of a message about record i, with the bytes that came with it.
-#[no_mangle]
-pub extern "C" fn cetskobi_deliver(
-    me: CetskobiReplica,
-    table: &mut [u8],
-    store: &mut [u8],
-    i: usize,
-    message: CetskobiMessage,
-    value: &[u8],
-) -> CetskobiAnswer
-    ensures { λ a. ⌜ Done (nodeOf me (now (table .entry)) (now (store .entry))) (now (table .entry)) i (Deliver (receivedIn message)) (now (value .entry)) a (now (table .exit)) (now (store .exit)) ⌝ }
-{
-    let found = export_records::find(table, i);
-    let Found::Here(r) = found else {
-        return missed(me, table.len(), store.len(), i);
-    };
-    let who = export_numbers::replica_of(me);
-    let count = export_records::count(table.len());
-    let received = export_numbers::received_in(message);
-    let m = replica_events::deliver(who, count, i, r, store, received, value);
     finish(table, i, m)
 }
 
@@ -144,14 +119,26 @@ pub extern "C" fn cetskobi_read(
 ) -> CetskobiReading
     ensures { λ p. ⌜ ReadDone (nodeOf me (now (table .entry)) (now (store .entry))) i p ⌝ }
 {
+    let found = export_records::find(table, i);
+    let Found::Here(r) = found else {
+        let a = missed(me, table.len(), store.len(), i);
+        return CetskobiReading {
+            number: a.number,
+            len: 0,
+        };
+    };
     let who = export_numbers::replica_of(me);
     let count = export_records::count(table.len());
-    let r = export_records::record_at(table, i);
     let answer = replica_reading::read_number(who, count, store.len(), i, r);
     let number = export_numbers::number_out(answer);
-    let part = replica_reading::read(who, count, i, r, store);
+    if number != 0 {
+        return CetskobiReading {
+            number: number,
+            len: 0,
+        };
+    }
     CetskobiReading {
-        number: number,
-        len: part.len(),
+        number: 0,
+        len: r.len as usize,
     }
 }

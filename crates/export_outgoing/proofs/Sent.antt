@@ -5,8 +5,7 @@ use mathlib.Core.Bool.{Bool, true, false, cond, not, _&&_, _||_}
 use mathlib.Core.List.{List}
 use native.Mathlib.Omega.{arith}
 use lib.Dec.{eqb, ltb, leb}
-use lib.ListN.{length, take, drop, length-drop}
-use lib.Seq.{length-take-le}
+use lib.ListN.{length}
 use borrow.Author.Tests.{ltb-true, leb-true, le-leb, lt-ltb, le-ltb}
 use Rattle.hermes.specs.declared.timestamp.Timestamp.{Timestamp}
 use Rattle.hermes.specs.declared.record.Record.{Record}
@@ -37,10 +36,10 @@ use Rattle.hermes.proofs.Tests.{both}
 use Rattle.hermes.proofs.Order.{equal-same}
 use Rattle.hermes.proofs.Guards.{slot-fits}
 use Rattle.hermes.proofs.Apply.{Applied, refused, accepted, applied, first-five, sound-step, stepOf, done}
-use Rattle.export_outgoing.specs.Leaving.{leftOf, cameFrom, recipientsOf, Delivered, along, stampOf, holds, alongOf, AlongAt}
-use Rattle.export_events.specs.Leaving.{PartAt}
+use Rattle.export_outgoing.specs.Leaving.{leftOf, fromSender, recipientsOf, Delivered, along, stampOf, holds, alongOf, AlongAt}
+use Rattle.export_events.specs.Part.{PartAt}
 use Rattle.export_events.specs.Events.{Done}
-use Rattle.export_events.proofs.Parts.{no-part}
+use Rattle.export_events.proofs.Parts.{whole-part, no-part}
 
 -- ---- the kinds that the code tells apart
 
@@ -53,14 +52,10 @@ beyond = record { version = 0; tie = 255 }
 -- an INV and a VAL go to all others
 pub to-others : (me : Replica) (sender : ℕ) (inv val : Bool)
     → without (me .view) (me .number)
-    ≡ recipients me (Deliver (cameFrom sender)) (Sent (cond inv (Inv stamp) (cond false (Ack stamp) (cond val (Val stamp) (Val beyond)))) (record { sender = 0; epoch = 0; index = 0 }))
+    ≡ recipients me (Deliver (fromSender sender)) (Sent (cond inv (Inv stamp) (cond false (Ack stamp) (cond val (Val stamp) (Val beyond)))) (record { sender = 0; epoch = 0; index = 0 }))
 to-others me sender true val = refl
 to-others me sender false true = refl
 to-others me sender false false = refl
-
--- so many bytes of a record whose 192 are there
-whole : (store : List ℕ) (i n : ℕ) → n ≤ 192 → i < length store / 192 → PartAt store i (valueAt i n store) n
-whole store i n a b = record { len = sym (length-take-le n (drop (192 * i) store) (simp length-drop (omega arith))); part = refl }
 
 -- what is no INV takes nothing along
 pub nothing-along : (bytes store : List ℕ) (i : ℕ) (left : CetskobiAnswer) → eqb (left .kind) 1 ≡ false → AlongAt store i (alongOf bytes store i left) 0
@@ -97,7 +92,7 @@ module _ (bytes store : List ℕ) (i : ℕ) (left : CetskobiAnswer) (inv : left 
     text-here same e h =
         let (a, b) = both same (leb (r .len) 192 && ltb i (length store / 192)) h in
         let (c, d) = both (leb (r .len) 192) (ltb i (length store / 192)) b in
-        let p : PartAt store i (valueAt i (r .len) store) (r .len) = whole store i (r .len) (leb-true _ _ c) (ltb-true _ _ d) in
+        let p : PartAt store i (valueAt i (r .len) store) (r .len) = whole-part store i (r .len) (omega (arith, leb-true (r .len) 192 c, ltb-true i (length store / 192) d)) in
         rw (inv, test same e ∙ h, ← er) p
 
     pub not-here : (same : Bool) → same ≡ sameTimestamp (stampOf left) (r .timestamp) → (same && (leb (r .len) 192 && ltb i (length store / 192))) ≡ false

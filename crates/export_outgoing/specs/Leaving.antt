@@ -20,7 +20,7 @@ use Rattle.hermes.specs.Node.{recordAt}
 use Rattle.export_records.specs.Layout.{tableOf}
 use Rattle.export_numbers.specs.declared.numbers.CetskobiAnswer.{CetskobiAnswer}
 use Rattle.export_numbers.specs.Crossing.{messageIn}
-use Rattle.export_events.specs.Leaving.{PartAt}
+use Rattle.export_events.specs.Part.{PartAt}
 
 -- a message of this kind about record i, stamped 0; of kind 0 and of an unknown kind nothing
 abbrev pub leftOf : ℕ → ℕ → Outgoing
@@ -30,12 +30,12 @@ leftOf kind i =
 -- ---- who gets it
 
 -- a message that came from this sender
-abbrev pub cameFrom : ℕ → Received
-cameFrom sender = record { sender = sender; epoch = 0; message = Inv (record { version = 0; tie = 0 }) }
+abbrev pub fromSender : ℕ → Received
+fromSender sender = record { sender = sender; epoch = 0; message = Inv (record { version = 0; tie = 0 }) }
 
 -- 01, who gets a message of this kind that left the delivery of a message from this sender
 abbrev pub recipientsOf : Replica → ℕ → ℕ → ℕ
-recipientsOf me kind sender = recipients me (Deliver (cameFrom sender)) (leftOf kind 0)
+recipientsOf me kind sender = recipients me (Deliver (fromSender sender)) (leftOf kind 0)
 
 -- this is the sender of the message that the event delivered; an event that delivers none leaves no ACK, and any number will do
 abbrev pub Delivered : Event → ℕ → Type 0

@@ -33,8 +33,7 @@ pub extern "C" fn cetskobi_pack(messages: &[u32], bodies: &[u8], out: &mut [u8])
     export_numbers::written_out(written)
 }
 
-// Delivery of message i of a packet, with its body, to the record that it is about: that of `cetskobi_deliver`, so that
-// `replica_events::deliver` has one caller and the compiler inlines it.
+// Delivery of message i of a packet, with its body, to the record that it is about: that of `cetskobi_deliver`.
 #[no_mangle]
 pub extern "C" fn cetskobi_deliver_packet(
     me: CetskobiReplica,
@@ -57,7 +56,7 @@ pub extern "C" fn cetskobi_deliver_packet(
                 version: f.version,
             };
             let value = packet_reader::body(packet, fetched);
-            export_events::cetskobi_deliver(me, table, store, f.index, message, value)
+            export_delivery::cetskobi_deliver(me, table, store, f.index, message, value)
         }
         Fetched::Refused(k) => export_numbers::answer_out(Answer::Refused(k)),
     }

@@ -39,7 +39,7 @@ fn deliver_fetched(
         Fetched::Found(entry, _) => {
             let value = packet_reader::body(bytes, fetched);
             let m = received(entry);
-            replica_events::deliver(me, count, entry.header.index, r, store, m, value)
+            replica_delivery::deliver(me, count, entry.header.index, r, store, m, value)
         }
         Fetched::Refused(k) => Moved {
             answer: Answer::Refused(k),

@@ -2,12 +2,12 @@
 ghost use mathlib.Core.Path.{_≡_};
 ghost use Rattle.hermes.specs.Order.{higher};
 ghost use Rattle.hermes.specs.Event.{effect};
-use crate::delivery::deliver;
 use crate::writing::write;
 use hermes::Event;
 use hermes::Moved;
 use hermes::Record;
 use hermes::Replica;
+use replica_delivery::deliver;
 use replica_reading::read_event;
 use replica_settling::replay;
 use replica_settling::resend;

@@ -3,7 +3,6 @@ mod states;
 
 ghost use mathlib.Core.Path.{_≡_};
 ghost use mathlib.Core.List.{[], _∷_};
-ghost use Rattle.hermes.specs.Event.{ofKind};
 ghost use Rattle.hermes.specs.Guards.{question6, question7, question8, question9, question10, question11, question12, question13, question14, question15, question16, question17, question18, question19};
 ghost use Rattle.replica_asking.specs.Cascade.{asked};
 use hermes::Message;
@@ -85,17 +84,6 @@ pub fn question14(t: Timestamp, r: Record) -> Asked
     let valid = states::is_valid(s);
     let same = t.same(r.timestamp);
     question(14, !valid & same, r)
-}
-
-// Question 13 of an acknowledgement, 14 of a validation, none of an invalidation.
-pub fn of_kind(message: Message, sender: u8, r: Record) -> Asked
-    ensures { λ a. ⌜ a ≡ asked (ofKind message sender r) r ⌝ }
-{
-    match message {
-        Message::Inv(_) => Asked::Passed(r),
-        Message::Ack(t) => question13(t, sender, r),
-        Message::Val(t) => question14(t, r),
-    }
 }
 
 pub fn question15(me: Replica, r: Record) -> Asked

@@ -1,0 +1,101 @@
+// Delivery of a message about record i, with the bytes that came with it. The kind is asked first, and each kind has its own way from the
+// bytes of the table to its answer: then the compiler keeps the record in registers.
+ghost use mathlib.Core.Path.{_≡_};
+ghost use Rattle.hermes.specs.declared.event.Event.the-variants.{Deliver};
+ghost use Rattle.hermes.specs.declared.message.Message.the-variants.{Inv, Ack, Val};
+ghost use Rattle.replica_delivery.specs.Kinds.{cameFrom};
+ghost use Rattle.export_numbers.specs.Crossing.{receivedIn};
+ghost use Rattle.export_events.specs.Events.{nodeOf, Done};
+use export_numbers::CetskobiAnswer;
+use export_numbers::CetskobiMessage;
+use export_numbers::CetskobiReplica;
+use export_records::Found;
+use hermes::Message;
+use hermes::Timestamp;
+
+fn arrive_inv(
+    me: CetskobiReplica,
+    table: &mut [u8],
+    store: &mut [u8],
+    i: usize,
+    sender: u8,
+    epoch: u32,
+    t: Timestamp,
+    value: &[u8],
+) -> CetskobiAnswer
+    ensures { λ a. ⌜ Done (nodeOf me (now (table .entry)) (now (store .entry))) (now (table .entry)) i (Deliver (cameFrom sender epoch (Inv t))) (now (value .entry)) a (now (table .exit)) (now (store .exit)) ⌝ }
+{
+    let found = export_records::find(table, i);
+    let Found::Here(r) = found else {
+        return export_events::missed(me, table.len(), store.len(), i);
+    };
+    let who = export_numbers::replica_of(me);
+    let count = export_records::count(table.len());
+    let m = replica_delivery::deliver_inv(who, count, i, r, store, sender, epoch, t, value);
+    export_events::finish(table, i, m)
+}
+
+fn arrive_ack(
+    me: CetskobiReplica,
+    table: &mut [u8],
+    store: &[u8],
+    i: usize,
+    sender: u8,
+    epoch: u32,
+    t: Timestamp,
+    value: &[u8],
+) -> CetskobiAnswer
+    ensures { λ a. ⌜ Done (nodeOf me (now (table .entry)) (now (store .entry))) (now (table .entry)) i (Deliver (cameFrom sender epoch (Ack t))) (now (value .entry)) a (now (table .exit)) (now (store .entry)) ⌝ }
+{
+    let found = export_records::find(table, i);
+    let Found::Here(r) = found else {
+        return export_events::missed(me, table.len(), store.len(), i);
+    };
+    let who = export_numbers::replica_of(me);
+    let count = export_records::count(table.len());
+    let m = replica_delivery::deliver_ack(who, count, i, r, store, sender, epoch, t, value);
+    export_events::finish(table, i, m)
+}
+
+fn arrive_val(
+    me: CetskobiReplica,
+    table: &mut [u8],
+    store: &[u8],
+    i: usize,
+    sender: u8,
+    epoch: u32,
+    t: Timestamp,
+    value: &[u8],
+) -> CetskobiAnswer
+    ensures { λ a. ⌜ Done (nodeOf me (now (table .entry)) (now (store .entry))) (now (table .entry)) i (Deliver (cameFrom sender epoch (Val t))) (now (value .entry)) a (now (table .exit)) (now (store .entry)) ⌝ }
+{
+    let found = export_records::find(table, i);
+    let Found::Here(r) = found else {
+        return export_events::missed(me, table.len(), store.len(), i);
+    };
+    let who = export_numbers::replica_of(me);
+    let count = export_records::count(table.len());
+    let m = replica_delivery::deliver_val(who, count, i, r, store, sender, epoch, t, value);
+    export_events::finish(table, i, m)
+}
+
+// Delivery of a message about record i, with the bytes that came with it.
+#[no_mangle]
+pub extern "C" fn cetskobi_deliver(
+    me: CetskobiReplica,
+    table: &mut [u8],
+    store: &mut [u8],
+    i: usize,
+    message: CetskobiMessage,
+    value: &[u8],
+) -> CetskobiAnswer
+    ensures { λ a. ⌜ Done (nodeOf me (now (table .entry)) (now (store .entry))) (now (table .entry)) i (Deliver (receivedIn message)) (now (value .entry)) a (now (table .exit)) (now (store .exit)) ⌝ }
+{
+    let m = export_numbers::received_in(message);
+    let kind = m.message;
+    match kind {
+        Message::Inv(t) => arrive_inv(me, table, store, i, m.sender, m.epoch, t, value),
+        Message::Ack(t) => arrive_ack(me, table, store, i, m.sender, m.epoch, t, value),
+        Message::Val(t) => arrive_val(me, table, store, i, m.sender, m.epoch, t, value),
+    }
+}

@@ -1,0 +1,45 @@
+-- `replica_delivery::delivery::deliver_ack` meets its contract.
+use Rattle.hermes.specs.declared.message.Message.the-variants.{Ack}
+use Rattle.replica_delivery.specs.Kinds.{cameFrom}
+use Rattle.replica_delivery.proofs.Deliveries.{refuses, accepts}
+use mathlib.Core.Path.{refl, _∙_}
+use borrow.Author.Needs.{needs}
+use Rattle.replica_delivery.proofs.delivery.deliver_ack.Statement.{statement}
+use Rattle.replica_delivery.proofs.delivery.deliver_ack.Tie as tie
+
+asks-ack-requires : tie.Need-asks-ack-requires
+asks-ack-requires c κs = search needs
+
+enum-known-a : tie.Need-enum-known-a
+enum-known-a c = search needs
+
+enum-told : tie.Need-enum-told
+enum-told c = search needs
+
+stopped-requires : tie.Need-stopped-requires
+stopped-requires c κs = search needs
+
+returns : tie.Need-returns
+returns c = let v = c .before .before .before .before .before .before .args in refuses (v .me) (v .count) (v .i) (v .r) (v .store .now) (v .value .now) _ (v .store .now) (cameFrom (v .sender) (v .epoch) (Ack (v .t))) _ (c .before .before .before .asks-ack .ensures) _ (c .before .enum-told .given .1) (c .stopped .ensures) refl
+
+acknowledge-requires : tie.Need-acknowledge-requires
+acknowledge-requires c κs = search needs
+
+accepted-requires : tie.Need-accepted-requires
+accepted-requires c κs = search needs
+
+returns-2 : tie.Need-returns-2
+returns-2 c = let v = c .before .before .before .before .before .before .before .before .args in accepts (v .me) (v .count) (v .i) (v .r) (v .store .now) (v .value .now) _ (v .store .now) (cameFrom (v .sender) (v .epoch) (Ack (v .t))) _ (c .before .before .before .before .before .asks-ack .ensures) _ (c .before .before .before .a .given .1) (c .accepted .ensures ∙ rw (c .before .acknowledge .ensures)) refl
+
+pub deliver-ack-spec : {M : Type 1} → statement M
+deliver-ack-spec =
+    tie.close
+    (tie.spec
+    asks-ack-requires
+    enum-known-a
+    enum-told
+    stopped-requires
+    returns
+    acknowledge-requires
+    accepted-requires
+    returns-2)

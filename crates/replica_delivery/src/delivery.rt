@@ -1,0 +1,141 @@
+// Delivery to record i, r, of replica me with count records and this store, of a message with its value bytes.
+ghost use mathlib.Core.Path.{_≡_};
+ghost use Prim.Native.Nat.{_≤_, _+_, _*_};
+ghost use lib.ListN.{length};
+ghost use Rattle.hermes.specs.Order.{higher, later};
+ghost use Rattle.hermes.specs.Event.{effect, decide, invStep};
+ghost use Rattle.hermes.specs.declared.event.Event.the-variants.{Deliver};
+ghost use Rattle.hermes.specs.declared.message.Message.the-variants.{Inv, Ack, Val};
+ghost use Rattle.replica_delivery.specs.Kinds.{cameFrom};
+use hermes::Message;
+use hermes::Moved;
+use hermes::Outgoing;
+use hermes::Received;
+use hermes::Record;
+use hermes::Replica;
+use hermes::Timestamp;
+use replica_asking::Asked;
+
+// An accepted invalidation: its acknowledgement always leaves; only a greater timestamp is taken.
+fn take_inv(
+    me: Replica,
+    i: usize,
+    r: Record,
+    store: &mut [u8],
+    t: Timestamp,
+    sender: u8,
+    value: &[u8],
+) -> Moved
+    requires { ⌜ (192 * i + 192 ≤ length (now store)) × (length (now value) ≤ 192) ⌝ }
+    ensures { λ m. ⌜ (m ≡ decide 0 i r (now (store .entry)) (invStep (later higher t (r .timestamp)) me i r t sender (now (value .entry))) .moved)
+        × (now (store .exit) ≡ decide 0 i r (now (store .entry)) (invStep (later higher t (r .timestamp)) me i r t sender (now (value .entry))) .store) ⌝ }
+{
+    let ack = replica_outgoing::send(me, i, Message::Ack(t));
+    if t.later(r.timestamp) {
+        replica_outcome::place(store, i, value);
+        return replica_outcome::accepted(ack, r.take_invalidation(t, sender, value.len() as u8));
+    }
+    replica_outcome::accepted(ack, r)
+}
+
+// An invalidation with timestamp t.
+pub fn deliver_inv(
+    me: Replica,
+    count: usize,
+    i: usize,
+    r: Record,
+    store: &mut [u8],
+    sender: u8,
+    epoch: u32,
+    t: Timestamp,
+    value: &[u8],
+) -> Moved
+    ensures { λ d. ⌜ (d ≡ effect higher me count i r (now (store .entry)) (Deliver (cameFrom sender epoch (Inv t))) (now (value .entry)) .moved)
+        × (now (store .exit) ≡ effect higher me count i r (now (store .entry)) (Deliver (cameFrom sender epoch (Inv t))) (now (value .entry)) .store) ⌝ }
+{
+    let m = Received {
+        sender: sender,
+        epoch: epoch,
+        message: Message::Inv(t),
+    };
+    let a = replica_message::asks_inv(me, count, store.len(), i, r, m, value.len());
+    let Asked::Passed(r1) = a else {
+        return replica_asking::stopped(a, r);
+    };
+    take_inv(me, i, r1, store, t, sender, value)
+}
+
+// An acknowledgement with timestamp t. The store stays as it is.
+pub fn deliver_ack(
+    me: Replica,
+    count: usize,
+    i: usize,
+    r: Record,
+    store: &[u8],
+    sender: u8,
+    epoch: u32,
+    t: Timestamp,
+    value: &[u8],
+) -> Moved
+    ensures { λ d. ⌜ (d ≡ effect higher me count i r (now (store .entry)) (Deliver (cameFrom sender epoch (Ack t))) (now (value .entry)) .moved)
+        × (now (store .entry) ≡ effect higher me count i r (now (store .entry)) (Deliver (cameFrom sender epoch (Ack t))) (now (value .entry)) .store) ⌝ }
+{
+    let m = Received {
+        sender: sender,
+        epoch: epoch,
+        message: Message::Ack(t),
+    };
+    let a = replica_message::asks_ack(me, count, store.len(), i, r, m, t, value.len());
+    let Asked::Passed(r1) = a else {
+        return replica_asking::stopped(a, r);
+    };
+    replica_outcome::accepted(Outgoing::None, r1.acknowledge(sender))
+}
+
+// A validation with timestamp t. The store stays as it is.
+pub fn deliver_val(
+    me: Replica,
+    count: usize,
+    i: usize,
+    r: Record,
+    store: &[u8],
+    sender: u8,
+    epoch: u32,
+    t: Timestamp,
+    value: &[u8],
+) -> Moved
+    ensures { λ d. ⌜ (d ≡ effect higher me count i r (now (store .entry)) (Deliver (cameFrom sender epoch (Val t))) (now (value .entry)) .moved)
+        × (now (store .entry) ≡ effect higher me count i r (now (store .entry)) (Deliver (cameFrom sender epoch (Val t))) (now (value .entry)) .store) ⌝ }
+{
+    let m = Received {
+        sender: sender,
+        epoch: epoch,
+        message: Message::Val(t),
+    };
+    let a = replica_message::asks_val(me, count, store.len(), i, r, m, t, value.len());
+    let Asked::Passed(r1) = a else {
+        return replica_asking::stopped(a, r);
+    };
+    replica_outcome::accepted(Outgoing::None, r1.validate())
+}
+
+// A message of any kind.
+pub fn deliver(
+    me: Replica,
+    count: usize,
+    i: usize,
+    r: Record,
+    store: &mut [u8],
+    m: Received,
+    value: &[u8],
+) -> Moved
+    ensures { λ d. ⌜ (d ≡ effect higher me count i r (now (store .entry)) (Deliver m) (now (value .entry)) .moved)
+        × (now (store .exit) ≡ effect higher me count i r (now (store .entry)) (Deliver m) (now (value .entry)) .store) ⌝ }
+{
+    let message = m.message;
+    match message {
+        Message::Inv(t) => deliver_inv(me, count, i, r, store, m.sender, m.epoch, t, value),
+        Message::Ack(t) => deliver_ack(me, count, i, r, store, m.sender, m.epoch, t, value),
+        Message::Val(t) => deliver_val(me, count, i, r, store, m.sender, m.epoch, t, value),
+    }
+}
