@@ -20,13 +20,14 @@ use Rattle.export_numbers.specs.declared.numbers.CetskobiReading.{CetskobiReadi
 use Rattle.export_numbers.specs.Crossing.{replicaOf, answerOut}
 use Rattle.export_records.specs.declared.reading.Found.{Found}
 use Rattle.export_records.specs.declared.reading.Found.the-variants.{Here}
-use Rattle.export_records.specs.Layout.{countOf, tableOf, bytesAfter, tableAfter, find}
+use Rattle.export_records.specs.Layout.{countOf, tableOf, find}
+use Rattle.export_storing.specs.Storing.{bytesAfter, tableAfter}
 use Rattle.export_events.specs.Leaving.{PartAt}
 use Rattle.export_events.specs.Events.{nodeOf, Finished, Done, ReadDone}
 use Rattle.export_records.proofs.Lent.{length-table}
 use Rattle.export_records.proofs.Finding.{found-here}
 use Rattle.export_events.proofs.Parts.{cut, no-part}
-use Rattle.export_records.proofs.Table.{settled-step}
+use Rattle.export_storing.proofs.Table.{settled-step}
 
 -- what the code takes out of the bytes and hands to the engine
 pub record Taken (me : CetskobiReplica) (bytes : List ℕ) (i : ℕ) (who : Replica) (count : ℕ) (r : Record) : Type 0 where

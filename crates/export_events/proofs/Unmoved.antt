@@ -16,9 +16,9 @@ use Rattle.hermes.specs.Node.{recordAt, effectOf}
 use Rattle.hermes.proofs.Guards.{event-passed}
 use Rattle.hermes.proofs.Apply.{refusalOf, stepOf}
 use Rattle.export_records.specs.Layout.{tableOf}
-use Rattle.export_records.specs.Back.{Bytes}
+use Rattle.export_storing.specs.Back.{Bytes}
 use Rattle.export_records.proofs.Lent.{length-table}
-use Rattle.export_records.proofs.Back.{settled-back}
+use Rattle.export_storing.proofs.Back.{settled-back}
 use Rattle.export_numbers.specs.declared.numbers.CetskobiReplica.{CetskobiReplica}
 use Rattle.export_numbers.specs.declared.numbers.CetskobiAnswer.{CetskobiAnswer}
 use Rattle.export_numbers.specs.Crossing.{replicaOf}

@@ -13,7 +13,8 @@ use Rattle.export_numbers.specs.declared.numbers.CetskobiAnswer.{CetskobiAnswer
 use Rattle.export_numbers.specs.declared.numbers.CetskobiReading.{CetskobiReading}
 use Rattle.export_numbers.specs.Crossing.{replicaOf, answerOut}
 use Rattle.export_events.specs.Leaving.{PartAt}
-use Rattle.export_records.specs.Layout.{unsound, countOf, tableOf, bytesAfter, tableAfter}
+use Rattle.export_records.specs.Layout.{unsound, countOf, tableOf}
+use Rattle.export_storing.specs.Storing.{bytesAfter, tableAfter}
 
 -- the replica with the memory that came from outside
 abbrev pub nodeOf : CetskobiReplica → List ℕ → List ℕ → Node

@@ -15,7 +15,7 @@ use hermes::Moved;
 fn finish(table: &mut [u8], i: usize, m: Moved) -> CetskobiAnswer
     ensures { λ a. ⌜ Finished (now (table .entry)) i m a (now (table .exit)) ⌝ }
 {
-    export_records::settle(table, i, m);
+    export_storing::settle(table, i, m);
     let a = m.answer;
     export_numbers::answer_out(a)
 }

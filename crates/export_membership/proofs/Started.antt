@@ -12,7 +12,8 @@ use Rattle.hermes.proofs.Start.{begun}
 use Rattle.hermes.proofs.Filling.{start-admission, start-refused}
 use Rattle.export_numbers.specs.declared.numbers.CetskobiAdmission.{CetskobiAdmission}
 use Rattle.export_numbers.specs.Crossing.{identityOf, admissionOut}
-use Rattle.export_records.specs.Layout.{countOf, tableOf, fill}
+use Rattle.export_records.specs.Layout.{countOf, tableOf}
+use Rattle.export_storing.specs.Storing.{fill}
 use Rattle.export_membership.specs.Admission.{StartDone}
 use Rattle.export_records.proofs.Lent.{length-table}
 

@@ -8,7 +8,8 @@ use Rattle.hermes.specs.declared.event.Admission.the-variants.{Admitted, Refuse
 use Rattle.hermes.specs.Node.{newcomer, firstRecord, start}
 use Rattle.export_numbers.specs.declared.numbers.CetskobiAdmission.{CetskobiAdmission}
 use Rattle.export_numbers.specs.Crossing.{identityOf, admissionOut}
-use Rattle.export_records.specs.Layout.{countOf, tableOf, fill}
+use Rattle.export_records.specs.Layout.{countOf, tableOf}
+use Rattle.export_storing.specs.Storing.{fill}
 
 -- the bytes after an admission: every record the first one; after a refusal as they were
 abbrev pub filledBy : Admission → List ℕ → ℕ → List ℕ

@@ -35,7 +35,7 @@ pub extern "C" fn cetskobi_start(
     };
     match a {
         Admission::Admitted(_) => {
-            export_records::fill(table, replica_membership::fresh_record(view));
+            export_storing::fill(table, replica_membership::fresh_record(view));
             replica_start::zero(store);
             export_numbers::admission_out(a, old)
         }

@@ -2,17 +2,12 @@
 -- 4 to 7 version, 8 to 11 last-write version, 12 and 13 acknowledgements, 14 value length. Byte 15 is nobody's.
 use Prim.Native.Nat.{ℕ, zero, suc, _+_, _*_, _/_, _%_}
 use mathlib.Core.Bool.{Bool, true, false, cond}
-use mathlib.Core.List.{List, [], _∷_, _++_}
+use mathlib.Core.List.{List, [], _∷_}
 use lib.Dec.{ltb, eqb}
-use lib.ListN.{length, getD, set}
-use lib.Seq.{sets}
+use lib.ListN.{length, getD}
 use Rattle.hermes.specs.declared.record.Record.{Record}
 use Rattle.hermes.specs.declared.record.State.{State}
 use Rattle.hermes.specs.declared.record.State.the-variants.{Valid, Invalid, InvalidWrite, Write, Replay}
-use Rattle.hermes.specs.declared.event.Answer.{Answer}
-use Rattle.hermes.specs.declared.event.Answer.the-variants.{Accepted, Refused}
-use Rattle.hermes.specs.declared.event.Moved.{Moved}
-use Rattle.hermes.specs.Record.{code}
 use Rattle.hermes.specs.Node.{recordAt}
 use Rattle.export_records.specs.declared.reading.Found.{Found}
 use Rattle.export_records.specs.declared.reading.Found.the-variants.{Here, Missing}
@@ -24,12 +19,6 @@ two a b = a + b * 256
 
 abbrev pub four : ℕ → ℕ → ℕ → ℕ → ℕ
 four a b c d = a + b * 256 + c * 65536 + d * 16777216
-
-abbrev pub inTwo : ℕ → List ℕ
-inTwo n = n % 256 ∷ n / 256 ∷ []
-
-abbrev pub inFour : ℕ → List ℕ
-inFour n = n % 256 ∷ n / 256 % 256 ∷ n / 65536 % 256 ∷ n / 16777216 ∷ []
 
 -- ---- one record
 
@@ -62,11 +51,6 @@ decode state tie writer writtenTie version writtenVersion acks len =
       len = len;
     })
 
--- a record as its fifteen bytes
-abbrev pub encode : Record → List ℕ
-encode r =
-    code (r .state) ∷ r .timestamp .tie ∷ r .writer ∷ r .written .tie ∷ (inFour (r .timestamp .version) ++ (inFour (r .written .version) ++ (inTwo (r .acks) ++ (r .len ∷ []))))
-
 -- ---- the table
 
 -- how many records bytes hold; bytes that are not sixteen for each hold none, so that question 2 refuses them
@@ -95,30 +79,3 @@ tableOf bytes = records (countOf (length bytes)) 0 bytes
 abbrev pub find : List ℕ → ℕ → Found
 find bytes i =
     cond (ltb i (countOf (length bytes))) (cond (ltb 4 (getD bytes (16 * i) 0)) Missing (Here (recordAt (tableOf bytes) i))) Missing
-
--- ---- the bytes after an event on record i
-
--- record i's bytes replaced
-abbrev pub put : List ℕ → ℕ → Record → List ℕ
-put bytes i r = sets bytes (16 * i) (encode r)
-
--- the first k records all replaced by r
-abbrev pub fill : ℕ → List ℕ → Record → List ℕ
-fill zero bytes r = bytes
-fill (suc k) bytes r = put (fill k bytes r) k r
-
--- 01, "A "no" .. leaves every lent byte and record as found"; an accepted event replaces the bytes of its record
-abbrev pub bytesBy : Answer → List ℕ → ℕ → Record → List ℕ
-bytesBy (Accepted o) bytes i r = cond (ltb i (countOf (length bytes))) (put bytes i r) bytes
-bytesBy (Refused k) bytes i r = bytes
-
-abbrev pub bytesAfter : Moved → List ℕ → ℕ → List ℕ
-bytesAfter m bytes i = bytesBy (m .answer) bytes i (m .after)
-
--- the table that they hold then
-abbrev pub tableBy : Answer → List Record → ℕ → Record → List Record
-tableBy (Accepted o) table i r = set table i r
-tableBy (Refused k) table i r = table
-
-abbrev pub tableAfter : Moved → List Record → ℕ → List Record
-tableAfter m table i = tableBy (m .answer) table i (m .after)

@@ -1,3 +1,2 @@
 -- Records as bytes.
-pub mod Back
 pub mod Layout

@@ -1,13 +1,10 @@
 // The table as bytes, sixteen for each record, for callers that cannot lend records.
 mod decoding;
-mod filling;
-mod putting;
 mod reading;
 
 pub use decoding::none;
-pub use filling::fill;
-pub use putting::settle;
 pub use reading::Found;
+pub use reading::SIZE;
 pub use reading::count;
 pub use reading::find;
 pub use reading::record_at;

@@ -10,7 +10,7 @@ use crate::decoding::two;
 use hermes::Record;
 
 // The bytes of a record.
-pub(crate) const SIZE: usize = 16;
+pub const SIZE: usize = 16;
 
 // How many records so many bytes hold.
 pub fn count(n: usize) -> usize

@@ -14,9 +14,9 @@ use Rattle.packet_format.specs.declared.entry.Entry.{Entry}
 use Rattle.packet_format.specs.declared.answer.Written.the-variants as answer
 use Rattle.packet_format.specs.Writing.{summed, totalOf, allGood, question24, question25, writeRefusal, written}
 use Rattle.packet_format.proofs.Writing.{accepted}
-use Rattle.packet_writer.specs.declared.question.Asked.{Asked}
-use Rattle.packet_writer.specs.declared.question.Asked.the-variants.{Passed, Refused}
-use Rattle.packet_writer.specs.Asking.{asked}
+use Rattle.packet_question.specs.declared.question.Asked.{Asked}
+use Rattle.packet_question.specs.declared.question.Asked.the-variants.{Passed, Refused}
+use Rattle.packet_question.specs.Asking.{asked}
 
 -- what the first loop's answer tells
 pub passed : (es : List Entry) (r : Asked) (sum : ℕ) → r ≡ asked es → r ≡ Passed sum → (allGood es ≡ true) × (summed es ≡ sum)

@@ -1,7 +1,6 @@
 // The writer of packets. What a packet is stands in crate `packet`, and the laws of both with it.
 mod contents;
 mod output;
-mod question;
 mod writer;
 
 pub use writer::write;

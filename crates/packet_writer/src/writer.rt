@@ -6,13 +6,13 @@ ghost use Rattle.packet_words.specs.Words.{messagesIn, packed};
 use crate::contents::put_contents;
 use crate::output::put_all;
 use crate::output::put2;
-use crate::question::Asked;
-use crate::question::ask;
 use packet_format::ENTRY_BYTES;
 use packet_format::HEADER_BYTES;
 use packet_format::RULE;
 use packet_format::TOTAL_MAX;
 use packet_format::Written;
+use packet_question::Asked;
+use packet_question::ask;
 
 // A packet of the messages that the words hold, whose bodies stand end to end, written to the front of `out`.
 pub fn write(words: &[u32], bodies: &[u8], out: &mut [u8]) -> Written
@@ -23,7 +23,7 @@ pub fn write(words: &[u32], bodies: &[u8], out: &mut [u8]) -> Written
     if count < 1 {
         return Written::Refused(24);
     }
-    let asked = ask(words, count);
+    let asked = ask(words);
     let Asked::Passed(sum) = asked else {
         return Written::Refused(24);
     };

@@ -15,8 +15,8 @@ use denote.Enum.Declared.{row, variants}
 use denote.Enum.Laws.{Fields, spellss, owed}
 use Rattle.play_lines.proofs.print.Left.{the-type}
 use Rattle.play_lines.proofs.print.Left.Laws.{the-laws}
-use Rattle.play_script.specs.Text.{decimal}
-use Rattle.play_script.proofs.Numbers.{decimal-small, decimal-large, length-small, length-large, length-decimal}
+use Rattle.play_numbers.specs.Number.{decimal}
+use Rattle.play_numbers.proofs.Numbers.{decimal-small, decimal-large, length-small, length-large, length-decimal}
 use Rattle.hermes.specs.declared.record.Record.{Record}
 use Rattle.play_lines.specs.declared.print.Left.{Left}
 use Rattle.play_lines.specs.declared.print.Left.the-variants.{Message, Nothing}

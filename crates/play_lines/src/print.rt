@@ -4,7 +4,7 @@ ghost use Prim.Native.Nat.{_+_, _≤_};
 ghost use mathlib.Core.List.{[], _∷_, _++_};
 ghost use lib.Dec.{leb};
 ghost use lib.ListN.{length};
-ghost use Rattle.play_script.specs.Text.{decimal};
+ghost use Rattle.play_numbers.specs.Number.{decimal};
 ghost use Rattle.play_lines.specs.Print.{Put, fitting, letterOf, leftOf, answerLine, unknownLine};
 use hermes::Record;
 use hermes::State;

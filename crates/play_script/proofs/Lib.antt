@@ -1,4 +1,3 @@
 -- Laws of the text of a script.
-pub mod Numbers
 pub mod Words
 pub mod Lines

@@ -11,11 +11,12 @@ use lib.Dec.{eqb, leb}
 use lib.ListN.{length, take, drop, getD, length-drop, drop-of-length-le}
 use lib.Seq.{drop-cons, take-all, take-length}
 use Rattle.bytes.specs.Bytes.{indexOf, slice}
-use Rattle.play_script.proofs.Numbers.{number-below}
-use Rattle.play_script.specs.Text.{numberOf, same}
-use Rattle.play_script.specs.Command.{Below, spaced, wordOf, restOf, keywordOf, viewOf, operandsOf, entryOf, longerOf, argumentsOf, lineOf, sizeIn, sizeOf}
-use Rattle.play_script.specs.declared.number.Number.{Number}
-use Rattle.play_script.specs.declared.number.Number.the-variants.{Value, NotANumber}
+use Rattle.play_numbers.proofs.Numbers.{number-below}
+use Rattle.play_numbers.specs.Number.{numberOf, Below}
+use Rattle.play_script.specs.Text.{same}
+use Rattle.play_script.specs.Command.{spaced, wordOf, restOf, keywordOf, viewOf, operandsOf, entryOf, longerOf, argumentsOf, lineOf, sizeIn, sizeOf}
+use Rattle.play_numbers.specs.declared.number.Number.{Number}
+use Rattle.play_numbers.specs.declared.number.Number.the-variants.{Value, NotANumber}
 use Rattle.play_script.specs.declared.command.Keyword.{Keyword}
 use Rattle.play_script.specs.declared.command.Keyword.the-variants.{View}
 use Rattle.play_script.specs.declared.command.Operands.{Operands}

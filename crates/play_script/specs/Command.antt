@@ -1,13 +1,14 @@
 -- The commands of a script (01, "A line is `read`, `validate`, `replay` or `resend` with a laptop, or `write` with laptop and text, or ..").
-use Prim.Native.Nat.{ℕ, _+_, _<_}
+use Prim.Native.Nat.{ℕ, _+_}
 use mathlib.Core.Bool.{Bool, cond, _&&_}
 use mathlib.Core.List.{List, [], _∷_}
 use lib.ListN.{length, take, drop}
 use lib.Dec.{ltb, leb}
 use Rattle.bytes.specs.Bytes.{indexOf}
-use Rattle.play_script.specs.Text.{numberOf, same}
-use Rattle.play_script.specs.declared.number.Number.{Number}
-use Rattle.play_script.specs.declared.number.Number.the-variants.{Value, NotANumber}
+use Rattle.play_numbers.specs.Number.{numberOf}
+use Rattle.play_script.specs.Text.{same}
+use Rattle.play_numbers.specs.declared.number.Number.{Number}
+use Rattle.play_numbers.specs.declared.number.Number.the-variants.{Value, NotANumber}
 use Rattle.play_script.specs.declared.command.Command.the-variants as command
 use Rattle.play_script.specs.declared.command.Line.{Line}
 use Rattle.play_script.specs.declared.command.Line.the-variants as line
@@ -57,11 +58,6 @@ abbrev pub viewOf : Number → Number → Operands
 viewOf (Value epoch) (Value set) = Given (command.View epoch set)
 viewOf (Value epoch) NotANumber = Wrong
 viewOf NotANumber set = Wrong
-
--- a number, if it is one, is below the limit
-abbrev pub Below : ℕ → Number → Type 0
-Below limit (Value v) = v < limit
-Below limit NotANumber = 0 < limit
 
 -- 01, "`deliver 1 0` hands message 0 to laptop 1; `view 1 2 3` gives laptop 1 epoch 2 and the set of value 3";
 -- a log number is below 256, an epoch fits 32 bits, a set 16. Any text is a text.

@@ -1,8 +1,9 @@
 // Commands, and the words that spell them.
 ghost use mathlib.Core.Path.{_≡_};
+ghost use Rattle.play_numbers.specs.Number.{Below};
 ghost use Rattle.play_script.specs.Text.{same};
-ghost use Rattle.play_script.specs.Command.{Below, keywordOf, deliverOf, viewOf};
-use crate::number::Number;
+ghost use Rattle.play_script.specs.Command.{keywordOf, deliverOf, viewOf};
+use play_numbers::Number;
 
 // What a laptop is to do. A write's text is the rest of its line.
 pub enum Command {

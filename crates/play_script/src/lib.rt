@@ -1,7 +1,6 @@
 // The script of the playing program: what a line asks for.
 mod command;
 mod line;
-mod number;
 
 pub use command::Command;
 pub use command::Line;

@@ -6,21 +6,20 @@ use crate::command::Command;
 use crate::command::Keyword;
 use crate::command::Line;
 use crate::command::Operands;
-use crate::number;
-use crate::number::Number;
+use play_numbers::Number;
 
 const SPACE: u8 = b' ';
 
-// One more than the greatest number of a laptop, log number, epoch, view, and size of a group.
-const LAPTOPS: usize = 16;
+// The greatest number of a laptop, log number, epoch, view, and size of a group.
+const LAPTOP_MAX: u32 = 15;
 
-const MESSAGES: usize = 256;
+const MESSAGE_MAX: u32 = 255;
 
-const EPOCHS: usize = 4294967296;
+const EPOCH_MAX: u32 = 4294967295;
 
-const VIEWS: usize = 65536;
+const VIEW_MAX: u32 = 65535;
 
-const SIZES: usize = 5;
+const SIZE_MAX: u32 = 4;
 
 // The number of laptops that line one gives.
 pub enum Size {
@@ -34,7 +33,7 @@ fn operands(keyword: Keyword, rest: &[u8]) -> Operands
     match keyword {
         Keyword::Bare(_) => Operands::Wrong,
         Keyword::Write => Operands::Given(Command::Write),
-        Keyword::Deliver => command::deliver(number::read(rest, MESSAGES)),
+        Keyword::Deliver => command::deliver(play_numbers::read(rest, MESSAGE_MAX)),
         Keyword::View => epoch_and_view(rest),
         Keyword::Unknown => Operands::Wrong,
     }
@@ -48,8 +47,8 @@ fn epoch_and_view(rest: &[u8]) -> Operands
         return Operands::Wrong;
     }
     command::view(
-        number::read(&rest[..k], EPOCHS),
-        number::read(&rest[k + 1..], VIEWS),
+        play_numbers::read(&rest[..k], EPOCH_MAX),
+        play_numbers::read(&rest[k + 1..], VIEW_MAX),
     )
 }
 
@@ -73,7 +72,7 @@ fn longer(keyword: Keyword, rest: &[u8]) -> Line
         return Line::Unknown;
     }
     entry(
-        number::read(&rest[..k], LAPTOPS),
+        play_numbers::read(&rest[..k], LAPTOP_MAX),
         operands(keyword, &rest[k + 1..]),
     )
 }
@@ -82,7 +81,7 @@ fn arguments(keyword: Keyword, rest: &[u8]) -> Line
     ensures { λ r. ⌜ r ≡ argumentsOf keyword (now (rest .entry)) ⌝ }
 {
     match keyword {
-        Keyword::Bare(c) => entry(number::read(rest, LAPTOPS), Operands::Given(c)),
+        Keyword::Bare(c) => entry(play_numbers::read(rest, LAPTOP_MAX), Operands::Given(c)),
         Keyword::Write => longer(Keyword::Write, rest),
         Keyword::Deliver => longer(Keyword::Deliver, rest),
         Keyword::View => longer(Keyword::View, rest),
@@ -140,7 +139,7 @@ pub fn group_size(line: &[u8]) -> Size
         return Size::Wrong;
     }
     if command::is_word(&line[..k], b"group") {
-        return size_in(number::read(&line[k + 1..], SIZES));
+        return size_in(play_numbers::read(&line[k + 1..], SIZE_MAX));
     }
     Size::Wrong
 }

@@ -302,7 +302,7 @@ fn states() -> BTreeMap<String, usize> {
 /// The numbers that the engine puts into a record's byte 0.
 #[test]
 fn states_are_the_engines() {
-    let source = source("export_records");
+    let source = source("export_storing");
     let codes = source.lines().filter_map(|line| {
         let (state, code) = line.trim().strip_prefix("State::")?.split_once(" => ")?;
         let code = code.strip_suffix(',')?.parse().ok()?;

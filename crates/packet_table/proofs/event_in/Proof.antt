@@ -1,6 +1,8 @@
 -- `packet_table::event_in` meets its contract.
-use mathlib.Core.Path.{refl}
+use mathlib.Core.Path.{ap, _∙_}
 use borrow.Author.Needs.{needs}
+use Rattle.packet_table.specs.Arriving.{arrivingOf}
+use Rattle.packet_table.proofs.Receipt.{arrived, turned-away}
 use Rattle.packet_table.proofs.event_in.Statement.{statement}
 use Rattle.packet_table.proofs.event_in.Tie as tie
 
@@ -17,10 +19,10 @@ enum-told : tie.Need-enum-told
 enum-told c = search needs
 
 returns : tie.Need-returns
-returns c = rw (← c .before .before .before .before .fetch .ensures, c .before .before .f .given .1, c .received .ensures) refl
+returns c = arrived _ _ _ _ (c .before .before .f .given .1) (c .received .ensures) ∙ ap arrivingOf (c .before .before .before .before .fetch .ensures)
 
 returns-2 : tie.Need-returns-2
-returns-2 c = rw (← c .before .before .fetch .ensures, c .enum-told .given .1) refl
+returns-2 c = turned-away _ _ (c .enum-told .given .1) ∙ ap arrivingOf (c .before .before .fetch .ensures)
 
 pub event-in-spec : {M : Type 1} → statement M
 event-in-spec =

@@ -10,7 +10,6 @@ use Rattle.packet_format.specs.Reading.{entryAt}
 use Rattle.packet_format.specs.Writing.{contents, totalOf, allGood, outputOf}
 use Rattle.packet_words.specs.Words.{messagesIn}
 use Rattle.packet_words.proofs.Places.{counted}
-use Rattle.packet_writer.specs.Asking.{asked}
 use Rattle.packet_writer.proofs.Messages.{packet-stored}
 use Rattle.packet_writer.proofs.Answers.{passed, refused, roomy, empty, bad, uneven, unroomy, written-whole}
 use borrow.Author.Needs.{needs}
@@ -29,7 +28,7 @@ returns c =
     (empty es _ _ (omega arith), refl)
 
 ask-requires : tie.Need-ask-requires
-ask-requires c κs = let n = counted (c .before .before .before .before .before .args .words .now) (c .before .count-in .result) (c .before .count-in .ensures) in (n .few, n .inside)
+ask-requires c κs = search needs
 
 enum-known-asked : tie.Need-enum-known-asked
 enum-known-asked c = search needs
@@ -43,7 +42,7 @@ returns-2 c =
     let words = c .before .before .before .before .before .before .before .before .args .words .now in
     let es = messagesIn words in
     let n = counted words (c .before .before .before .before .count-in .result) (c .before .before .before .before .count-in .ensures) in
-    (bad es _ _ (omega arith) (omega arith) (refused es (c .before .before .ask .result) (c .before .before .ask .ensures ∙ ap asked (n .whole)) (c .enum-told .given .1)), refl)
+    (bad es _ _ (omega arith) (omega arith) (refused es (c .before .before .ask .result) (c .before .before .ask .ensures) (c .enum-told .given .1)), refl)
 
 returns-3 : tie.Need-returns-3
 unfolding outputOf
@@ -52,7 +51,7 @@ returns-3 c =
     let es = messagesIn words in
     let n = counted words (c .before .before .before .before .before .before .count-in .result) (c .before .before .before .before .before .before .count-in .ensures) in
     let sum = c .before .before .asked .given .0 .0 in
-    let p = passed es (c .before .before .before .before .ask .result) sum (c .before .before .before .before .ask .ensures ∙ ap asked (n .whole)) (c .before .before .asked .given .1) in
+    let p = passed es (c .before .before .before .before .ask .result) sum (c .before .before .before .before .ask .ensures) (c .before .before .asked .given .1) in
     (uneven es _ _ (omega arith) (omega arith) (p .0) (λ e. c .if2 .taken (sym (p .1) ∙ e)), refl)
 
 mul-start : tie.Need-mul-start
@@ -71,7 +70,7 @@ returns-4 c =
     let es = messagesIn words in
     let n = counted words (c .before .before .before .before .before .before .before .count-in .result) (c .before .before .before .before .before .before .before .count-in .ensures) in
     let sum = c .before .before .before .asked .given .0 .0 in
-    let p = passed es (c .before .before .before .before .before .ask .result) sum (c .before .before .before .before .before .ask .ensures ∙ ap asked (n .whole)) (c .before .before .before .asked .given .1) in
+    let p = passed es (c .before .before .before .before .before .ask .result) sum (c .before .before .before .before .before .ask .ensures) (c .before .before .before .asked .given .1) in
     let t : entryAt (c .before .before .before .before .before .before .before .count-in .result) + sum ≡ totalOf (length es) (c .before .before .before .before .before .before .before .before .before .before .before .args .bodies .now) = omega arith in
     (unroomy es _ _ (omega arith) (omega arith) (p .0) (p .1 ∙ c .before .if2 .left) _ t (c .if3 .taken), refl)
 
@@ -93,7 +92,7 @@ put-contents-requires c κs =
     let es = messagesIn words in
     let n = counted words (c .before .before .before .before .before .before .before .before .before .before .before .before .count-in .result) (c .before .before .before .before .before .before .before .before .before .before .before .before .count-in .ensures) in
     let sum = c .before .before .before .before .before .before .before .before .asked .given .0 .0 in
-    let p = passed es (c .before .before .before .before .before .before .before .before .before .before .ask .result) sum (c .before .before .before .before .before .before .before .before .before .before .ask .ensures ∙ ap asked (n .whole)) (c .before .before .before .before .before .before .before .before .asked .given .1) in
+    let p = passed es (c .before .before .before .before .before .before .before .before .before .before .ask .result) sum (c .before .before .before .before .before .before .before .before .before .before .ask .ensures) (c .before .before .before .before .before .before .before .before .asked .given .1) in
     let r = roomy (entryAt (c .before .before .before .before .before .before .before .before .before .before .before .before .count-in .result) + c .before .before .before .before .before .before .before .before .asked .given .0 .0) (length (c .before .before .before .before .before .before .before .before .before .before .before .before .before .before .before .before .args .out .now)) (c .before .before .before .before .before .if3 .left) in
     (n .few, n .inside, ap allGood (n .whole) ∙ p .0, omega (arith, simp length-set at (c .before .before .before .put2 .kept .0)))
 
@@ -110,7 +109,7 @@ returns-5 c =
     let es = messagesIn words in
     let n = counted words (c .before .before .before .before .before .before .before .before .before .before .before .before .before .before .before .before .before .before .before .count-in .result) (c .before .before .before .before .before .before .before .before .before .before .before .before .before .before .before .before .before .before .before .count-in .ensures) in
     let sum = c .before .before .before .before .before .before .before .before .before .before .before .before .before .before .before .asked .given .0 .0 in
-    let p = passed es (c .before .before .before .before .before .before .before .before .before .before .before .before .before .before .before .before .before .ask .result) sum (c .before .before .before .before .before .before .before .before .before .before .before .before .before .before .before .before .before .ask .ensures ∙ ap asked (n .whole)) (c .before .before .before .before .before .before .before .before .before .before .before .before .before .before .before .asked .given .1) in
+    let p = passed es (c .before .before .before .before .before .before .before .before .before .before .before .before .before .before .before .before .before .ask .result) sum (c .before .before .before .before .before .before .before .before .before .before .before .before .before .before .before .before .before .ask .ensures) (c .before .before .before .before .before .before .before .before .before .before .before .before .before .before .before .asked .given .1) in
     let r = roomy (entryAt (c .before .before .before .before .before .before .before .before .before .before .before .before .before .before .before .before .before .before .before .count-in .result) + c .before .before .before .before .before .before .before .before .before .before .before .before .before .before .before .asked .given .0 .0) (length (c .before .before .before .before .before .before .before .before .before .before .before .before .before .before .before .before .before .before .before .before .before .before .before .args .out .now)) (c .before .before .before .before .before .before .before .before .before .before .before .before .if3 .left) in
     let t : entryAt (c .before .before .before .before .before .before .before .before .before .before .before .before .before .before .before .before .before .before .before .count-in .result) + sum ≡ totalOf (length es) (c .before .before .before .before .before .before .before .before .before .before .before .before .before .before .before .before .before .before .before .before .before .before .before .args .bodies .now) = omega arith in (
       written-whole es _ _ (omega arith) (omega arith) (p .0) (p .1 ∙ c .before .before .before .before .before .before .before .before .before .before .before .before .before .if2 .left) _ t (r .0) (r .1),

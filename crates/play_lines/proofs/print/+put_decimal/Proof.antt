@@ -1,7 +1,7 @@
 -- `play_lines::print::put_decimal` meets its contract. The digits but the last are printed by the call on a tenth of the number, which is smaller.
 use Prim.Native.Nat.{_<_, ℕ}
 use Rattle.play_lines.proofs.Printing.{put-digit, put-small}
-use Rattle.play_script.proofs.Numbers.{length-large, length-small}
+use Rattle.play_numbers.proofs.Numbers.{length-large, length-small}
 use borrow.Author.Needs.{needs}
 use lib.ListN.{length-set}
 use mathlib.Core.Path.{_∙_}

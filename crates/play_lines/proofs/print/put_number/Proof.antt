@@ -1,6 +1,6 @@
 -- `play_lines::print::put_number` meets its contract.
 use Rattle.play_lines.proofs.Printing.{put-then}
-use Rattle.play_script.specs.Text.{decimal}
+use Rattle.play_numbers.specs.Number.{decimal}
 use borrow.Author.Needs.{needs}
 use lib.ListN.{length-append}
 use mathlib.Core.List.{[], _∷_}

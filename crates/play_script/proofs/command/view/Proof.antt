@@ -1,5 +1,6 @@
 -- `play_script::command::view` meets its contract.
-use Rattle.play_script.specs.Command.{Below, viewOf}
+use Rattle.play_numbers.specs.Number.{Below}
+use Rattle.play_script.specs.Command.{viewOf}
 use borrow.Author.Needs.{needs}
 use lib.ListN.{set}
 use mathlib.Core.Path.{subst, sym}

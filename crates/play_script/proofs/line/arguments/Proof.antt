@@ -1,5 +1,5 @@
 -- `play_script::line::arguments` meets its contract.
-use Rattle.play_script.specs.declared.number.Number.{Number}
+use Rattle.play_numbers.specs.declared.number.Number.{Number}
 use Rattle.play_script.specs.declared.command.Operands.the-variants.{Given}
 use Rattle.play_script.specs.Command.{argumentsOf, entryOf}
 use borrow.Author.Needs.{needs}

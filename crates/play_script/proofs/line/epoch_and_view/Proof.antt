@@ -1,5 +1,5 @@
 -- `play_script::line::epoch_and_view` meets its contract.
-use Rattle.play_script.proofs.Numbers.{number-below}
+use Rattle.play_numbers.proofs.Numbers.{number-below}
 use Rattle.play_script.proofs.Words.{view-none, view-some}
 use borrow.Author.Needs.{needs}
 use lib.Seq.{length-take-le}

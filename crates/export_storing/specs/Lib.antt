@@ -1,0 +1,3 @@
+-- Records put into their bytes.
+pub mod Back
+pub mod Storing

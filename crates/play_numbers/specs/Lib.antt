@@ -1,0 +1,2 @@
+-- Numbers in decimal (01, "The playing program").
+pub mod Number
