@@ -26,8 +26,8 @@ use Rattle.hermes.proofs.Words.{coded, coded-code}
 use Rattle.packet_format.specs.declared.answer.Fetched.{Fetched}
 use Rattle.packet_format.specs.declared.answer.Fetched.the-variants.{Found, Refused}
 use Rattle.packet_format.specs.Entry.{good, entryBytes}
-use Rattle.packet_format.specs.Reading.{entryAt, walk, fetchRefusal, fetched}
-use Rattle.packet_format.specs.Writing.{contents, encode}
+use Rattle.packet_format.specs.Reading.{entryPlace, walk, fetchRefusal, fetched}
+use Rattle.packet_format.specs.Writing.{contents, packetBytes}
 use Rattle.check_rows.specs.Meaning.{Claim, answers, leaves, stamps, acknowledgedBy, sends, silent, unchanged, Says, SaysAll, Row, row, packs, Holds, before, outcome}
 use Rattle.check_rows.specs.Rows.{lent, rows}
 
@@ -197,14 +197,14 @@ says-all (c ∷ cs) n o e = let (p, q) = both (test c n o) (testAll cs n o) e in
 
 testRow : Node → Row → Bool
 testRow n (row earlier deed claims) = testAll claims (before n earlier) (outcome (before n earlier) deed)
-testRow n (packs e p) = sameList (encode 1 (e ∷ []) []) p && same fetchedCode (fetched p 0) (Found e (entryAt 1))
+testRow n (packs e p) = sameList (packetBytes 1 (e ∷ []) []) p && same fetchedCode (fetched p 0) (Found e (entryPlace 1))
 
 holds : (n : Node) (r : Row) → testRow n r ≡ true → Holds n r
 unfolding testRow
 holds n (row earlier deed claims) e = says-all claims (before n earlier) (outcome (before n earlier) deed) e
 holds n (packs m p) e =
-    let (s, t) = both (sameList (encode 1 (m ∷ []) []) p) (same fetchedCode (fetched p 0) (Found m (entryAt 1))) e in
-    (list-sound (encode 1 (m ∷ []) []) p s, same-sound fetchedCode (fetched p 0) (Found m (entryAt 1)) t)
+    let (s, t) = both (sameList (packetBytes 1 (m ∷ []) []) p) (same fetchedCode (fetched p 0) (Found m (entryPlace 1))) e in
+    (list-sound (packetBytes 1 (m ∷ []) []) p s, same-sound fetchedCode (fetched p 0) (Found m (entryPlace 1)) t)
 
 testRows : Node → List Row → Bool
 testRows n [] = true
@@ -221,7 +221,7 @@ hold-all n (q ∷ rs) e r m = go (List·Memᴰ·cases-cons m) (hold-all n rs (bo
 
 -- the test, computed
 computed : testRows lent rows ≡ true
-unfolding testRows testRow testAll test same sameList sameTable sameNode stateCode timestampCode recordCode recordNumbers replicaCode outgoingCode outgoingNumbers messageNumbers lent rows apply effect refusal start view viewed has size lowest within othersIn with later sameTimestamp padded place fetchedCode fetchedNumbers good entryBytes walk fetchRefusal fetched contents encode
+unfolding testRows testRow testAll test same sameList sameTable sameNode stateCode timestampCode recordCode recordNumbers replicaCode outgoingCode outgoingNumbers messageNumbers lent rows apply effect refusal start view viewed has size lowest within othersIn with later sameTimestamp padded place fetchedCode fetchedNumbers good entryBytes walk fetchRefusal fetched contents packetBytes
 computed = refl
 
 -- Every worked row holds.

@@ -10,8 +10,8 @@ use Rattle.hermes.specs.Order.{higher}
 use Rattle.hermes.specs.Event.{answerOf, numberOf, sentBy, send}
 use Rattle.packet_format.specs.declared.entry.Entry.{Entry}
 use Rattle.packet_format.specs.declared.answer.Fetched.the-variants.{Found}
-use Rattle.packet_format.specs.Reading.{entryAt, fetched}
-use Rattle.packet_format.specs.Writing.{encode}
+use Rattle.packet_format.specs.Reading.{entryPlace, fetched}
+use Rattle.packet_format.specs.Writing.{packetBytes}
 use Rattle.hermes.specs.Node.{Node, Outcome, Start, recordOf, apply, start, viewed, identity, admissionNumber}
 
 -- what happens to the laptop of the rows, on its one record
@@ -72,4 +72,4 @@ SaysAll (c ∷ cs) n o = Says c n o × SaysAll cs n o
 -- the row, of a laptop that was lent this memory
 abbrev pub Holds : Node → Row → Type 0
 Holds n (row earlier deed claims) = SaysAll claims (before n earlier) (outcome (before n earlier) deed)
-Holds n (packs e p) = (encode 1 (e ∷ []) [] ≡ p) × (fetched p 0 ≡ Found e (entryAt 1))
+Holds n (packs e p) = (packetBytes 1 (e ∷ []) [] ≡ p) × (fetched p 0 ≡ Found e (entryPlace 1))

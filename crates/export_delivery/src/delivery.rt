@@ -25,7 +25,7 @@ fn arrive_inv(
 ) -> CetskobiAnswer
     ensures { λ a. ⌜ Done (nodeOf me (now (table .entry)) (now (store .entry))) (now (table .entry)) i (Deliver (cameFrom sender epoch (Inv t))) (now (value .entry)) a (now (table .exit)) (now (store .exit)) ⌝ }
 {
-    let found = export_records::find(table, i);
+    let found = export_records::found_at(table, i);
     let Found::Here(r) = found else {
         return export_events::missed(me, table.len(), store.len(), i);
     };
@@ -47,7 +47,7 @@ fn arrive_ack(
 ) -> CetskobiAnswer
     ensures { λ a. ⌜ Done (nodeOf me (now (table .entry)) (now (store .entry))) (now (table .entry)) i (Deliver (cameFrom sender epoch (Ack t))) (now (value .entry)) a (now (table .exit)) (now (store .entry)) ⌝ }
 {
-    let found = export_records::find(table, i);
+    let found = export_records::found_at(table, i);
     let Found::Here(r) = found else {
         return export_events::missed(me, table.len(), store.len(), i);
     };
@@ -69,7 +69,7 @@ fn arrive_val(
 ) -> CetskobiAnswer
     ensures { λ a. ⌜ Done (nodeOf me (now (table .entry)) (now (store .entry))) (now (table .entry)) i (Deliver (cameFrom sender epoch (Val t))) (now (value .entry)) a (now (table .exit)) (now (store .entry)) ⌝ }
 {
-    let found = export_records::find(table, i);
+    let found = export_records::found_at(table, i);
     let Found::Here(r) = found else {
         return export_events::missed(me, table.len(), store.len(), i);
     };

@@ -21,7 +21,7 @@ use Rattle.export_numbers.specs.declared.numbers.CetskobiAnswer.{CetskobiAnswer
 use Rattle.export_numbers.specs.Crossing.{replicaOf, answerOut}
 use Rattle.export_records.specs.declared.reading.Found.{Found}
 use Rattle.export_records.specs.declared.reading.Found.the-variants.{Here}
-use Rattle.export_records.specs.Layout.{countOf, tableOf, find}
+use Rattle.export_records.specs.Layout.{countOf, tableOf, foundAt}
 use Rattle.export_storing.specs.Storing.{bytesAfter, tableAfter}
 use Rattle.export_events.specs.Part.{PartAt}
 use Rattle.export_events.specs.Events.{nodeOf, Finished, Done, ReadDone}
@@ -38,7 +38,7 @@ pub record Taken (me : CetskobiReplica) (bytes : List ℕ) (i : ℕ) (who : Repl
 
 -- the same where the record was found
 pub taken-here : (me : CetskobiReplica) (bytes : List ℕ) (i : ℕ) (who : Replica) (count : ℕ) (f : Found) (r : Record) → who ≡ replicaOf me → count ≡ countOf (length bytes)
-    → f ≡ find bytes i → f ≡ Here r → Taken me bytes i who count r
+    → f ≡ foundAt bytes i → f ≡ Here r → Taken me bytes i who count r
 taken-here me bytes i who count f r hw hc finds here = record { identity = hw; counted = hc; found = found-here bytes i r (sym finds ∙ here) }
 
 module _ (me : CetskobiReplica) (bytes : List ℕ) (i : ℕ) (who : Replica) (count : ℕ) (r : Record) (t : Taken me bytes i who count r) where

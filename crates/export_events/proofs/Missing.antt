@@ -22,7 +22,7 @@ use Rattle.hermes.specs.Record.{freshRecord}
 use Rattle.hermes.specs.Event.{own, refusal, moved, effect, numberOf, readPart}
 use Rattle.hermes.specs.Node.{recordAt, apply}
 use Rattle.export_records.specs.declared.reading.Found.the-variants as found
-use Rattle.export_records.specs.Layout.{unsound, countOf, tableOf, find}
+use Rattle.export_records.specs.Layout.{unsound, countOf, tableOf, foundAt}
 use Rattle.export_records.proofs.Lent.{length-table}
 use Rattle.export_records.proofs.Finding.{found-missing}
 use Rattle.export_numbers.specs.declared.numbers.CetskobiReplica.{CetskobiReplica}
@@ -64,7 +64,7 @@ number-out (Accepted None) = refl
 number-out (Accepted (Sent m h)) = number-sent m
 number-out (Refused k) = refl
 
-module _ (me : CetskobiReplica) (bytes store : List ℕ) (i : ℕ) (none : find bytes i ≡ found.Missing) where
+module _ (me : CetskobiReplica) (bytes store : List ℕ) (i : ℕ) (none : foundAt bytes i ≡ found.Missing) where
   no : (question4 i (length (tableOf bytes)) .yes ≡ false) ⊎ (question5 (replicaOf me) (recordAt (tableOf bytes) i) .yes ≡ false)
   no = go (found-missing bytes i none)
     where

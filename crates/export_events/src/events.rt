@@ -39,7 +39,7 @@ pub extern "C" fn cetskobi_write(
 ) -> CetskobiAnswer
     ensures { λ a. ⌜ Done (nodeOf me (now (table .entry)) (now (store .entry))) (now (table .entry)) i Write (now (value .entry)) a (now (table .exit)) (now (store .exit)) ⌝ }
 {
-    let found = export_records::find(table, i);
+    let found = export_records::found_at(table, i);
     let Found::Here(r) = found else {
         return missed(me, table.len(), store.len(), i);
     };
@@ -59,7 +59,7 @@ pub extern "C" fn cetskobi_replay(
 ) -> CetskobiAnswer
     ensures { λ a. ⌜ Done (nodeOf me (now (table .entry)) (now (store .entry))) (now (table .entry)) i Replay [] a (now (table .exit)) (now (store .entry)) ⌝ }
 {
-    let found = export_records::find(table, i);
+    let found = export_records::found_at(table, i);
     let Found::Here(r) = found else {
         return missed(me, table.len(), store.len(), i);
     };
@@ -79,7 +79,7 @@ pub extern "C" fn cetskobi_validate(
 ) -> CetskobiAnswer
     ensures { λ a. ⌜ Done (nodeOf me (now (table .entry)) (now (store .entry))) (now (table .entry)) i Validate [] a (now (table .exit)) (now (store .entry)) ⌝ }
 {
-    let found = export_records::find(table, i);
+    let found = export_records::found_at(table, i);
     let Found::Here(r) = found else {
         return missed(me, table.len(), store.len(), i);
     };
@@ -99,7 +99,7 @@ pub extern "C" fn cetskobi_resend(
 ) -> CetskobiAnswer
     ensures { λ a. ⌜ Done (nodeOf me (now (table .entry)) (now (store .entry))) (now (table .entry)) i Resend [] a (now (table .exit)) (now (store .entry)) ⌝ }
 {
-    let found = export_records::find(table, i);
+    let found = export_records::found_at(table, i);
     let Found::Here(r) = found else {
         return missed(me, table.len(), store.len(), i);
     };
@@ -119,7 +119,7 @@ pub extern "C" fn cetskobi_read(
 ) -> CetskobiReading
     ensures { λ p. ⌜ ReadDone (nodeOf me (now (table .entry)) (now (store .entry))) i p ⌝ }
 {
-    let found = export_records::find(table, i);
+    let found = export_records::found_at(table, i);
     let Found::Here(r) = found else {
         let a = missed(me, table.len(), store.len(), i);
         return CetskobiReading {

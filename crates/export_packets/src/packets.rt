@@ -3,7 +3,7 @@ ghost use mathlib.Core.Path.{_≡_};
 ghost use lib.ListN.{length};
 ghost use Rattle.packet_format.specs.Reading.{fetched};
 ghost use Rattle.packet_format.specs.Writing.{outputOf};
-ghost use Rattle.packet_words.specs.Words.{messagesIn, packed};
+ghost use Rattle.packet_words.specs.Words.{wordMessages, packed};
 ghost use Rattle.export_numbers.specs.Packets.{fetchedOut, writtenOut};
 ghost use Rattle.export_packets.specs.Packets.{Arrived};
 ghost use Rattle.export_events.specs.Events.{nodeOf};
@@ -27,7 +27,7 @@ pub extern "C" fn cetskobi_fetch(packet: &[u8], i: usize) -> CetskobiFetched
 #[no_mangle]
 pub extern "C" fn cetskobi_pack(messages: &[u32], bodies: &[u8], out: &mut [u8]) -> CetskobiWritten
     ensures { λ r. ⌜ (r ≡ writtenOut (packed (now (messages .entry)) (now (bodies .entry)) (length (now (out .entry)))))
-        × (now (out .exit) ≡ outputOf (packed (now (messages .entry)) (now (bodies .entry)) (length (now (out .entry)))) (messagesIn (now (messages .entry))) (now (bodies .entry)) (now (out .entry))) ⌝ }
+        × (now (out .exit) ≡ outputOf (packed (now (messages .entry)) (now (bodies .entry)) (length (now (out .entry)))) (wordMessages (now (messages .entry))) (now (bodies .entry)) (now (out .entry))) ⌝ }
 {
     let written = packet_writer::write(messages, bodies, out);
     export_numbers::written_out(written)

@@ -2,7 +2,7 @@
 // and the compiler inlines it.
 ghost use mathlib.Core.Path.{_≡_};
 ghost use lib.ListN.{length};
-ghost use Rattle.play_game.specs.Play.{answerOf, outputOf};
+ghost use Rattle.play_game.specs.Play.{playedAnswer, outputOf};
 ghost use Rattle.export_play.specs.Playing.{playedOut};
 use play_game::Played;
 
@@ -31,7 +31,7 @@ fn played_out(p: Played) -> CetskobiPlayed
 // What a script prints, at the front of the output.
 #[no_mangle]
 pub extern "C" fn cetskobi_play(script: &[u8], out: &mut [u8]) -> CetskobiPlayed
-    ensures { λ r. ⌜ (r ≡ playedOut (answerOf (now (script .entry)) (length (now (out .entry)))))
+    ensures { λ r. ⌜ (r ≡ playedOut (playedAnswer (now (script .entry)) (length (now (out .entry)))))
         × (now (out .exit) ≡ outputOf (now (script .entry)) (now (out .entry))) ⌝ }
 {
     let p = play_game::play(script, out);

@@ -11,7 +11,7 @@ use Rattle.hermes.specs.declared.record.Record.{Record}
 use Rattle.hermes.specs.Node.{recordAt}
 use Rattle.export_records.specs.declared.reading.Found.{Found}
 use Rattle.export_records.specs.declared.reading.Found.the-variants.{Here, Missing}
-use Rattle.export_records.specs.Layout.{unsound, decode, countOf, decodeAt, tableOf, find}
+use Rattle.export_records.specs.Layout.{unsound, decode, countOf, decodeAt, tableOf, foundAt}
 use Rattle.export_records.proofs.Lent.{record-in}
 
 -- a record that is found, and another where there is none
@@ -23,7 +23,7 @@ abbrev isHere : Found → Bool
 isHere (Here x) = true
 isHere Missing = false
 
-pub found-here : (bytes : List ℕ) (i : ℕ) (r : Record) → find bytes i ≡ Here r → r ≡ recordAt (tableOf bytes) i
+pub found-here : (bytes : List ℕ) (i : ℕ) (r : Record) → foundAt bytes i ≡ Here r → r ≡ recordAt (tableOf bytes) i
 found-here bytes i r e = sym (ap (foundOr x) e) ∙ same (ltb i (countOf (length bytes))) (ltb 4 (getD bytes (16 * i) 0))
   where
     x : Record
@@ -38,7 +38,7 @@ no-state : (bytes : List ℕ) (at : ℕ) → ltb 4 (getD bytes at 0) ≡ true �
 unfolding decode
 no-state bytes at e = rw e
 
-pub found-missing : (bytes : List ℕ) (i : ℕ) → find bytes i ≡ Missing → (countOf (length bytes) ≤ i) ⊎ (recordAt (tableOf bytes) i ≡ unsound)
+pub found-missing : (bytes : List ℕ) (i : ℕ) → foundAt bytes i ≡ Missing → (countOf (length bytes) ≤ i) ⊎ (recordAt (tableOf bytes) i ≡ unsound)
 found-missing bytes i e = go (ltb i (countOf (length bytes))) (ltb 4 (getD bytes (16 * i) 0)) refl refl e
   where
     go : (a b : Bool) → ltb i (countOf (length bytes)) ≡ a → ltb 4 (getD bytes (16 * i) 0) ≡ b

@@ -76,6 +76,6 @@ unfoldable pub tableOf : List ℕ → List Record
 tableOf bytes = records (countOf (length bytes)) 0 bytes
 
 -- what an event finds at number i: the record, unless it lies past the table's end or its bytes have no state
-abbrev pub find : List ℕ → ℕ → Found
-find bytes i =
+abbrev pub foundAt : List ℕ → ℕ → Found
+foundAt bytes i =
     cond (ltb i (countOf (length bytes))) (cond (ltb 4 (getD bytes (16 * i) 0)) Missing (Here (recordAt (tableOf bytes) i))) Missing

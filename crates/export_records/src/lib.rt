@@ -6,5 +6,5 @@ pub use decoding::none;
 pub use reading::Found;
 pub use reading::SIZE;
 pub use reading::count;
-pub use reading::find;
+pub use reading::found_at;
 pub use reading::record_at;

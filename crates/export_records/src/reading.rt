@@ -2,7 +2,7 @@
 ghost use mathlib.Core.Path.{_≡_};
 ghost use lib.ListN.{length};
 ghost use Rattle.hermes.specs.Node.{recordAt};
-ghost use Rattle.export_records.specs.Layout.{decodeAt, countOf, tableOf, find};
+ghost use Rattle.export_records.specs.Layout.{decodeAt, countOf, tableOf, foundAt};
 ghost use Prim.Native.Nat.{_+_, _*_, _≤_};
 use crate::decoding::decoded;
 use crate::decoding::four;
@@ -36,8 +36,8 @@ pub enum Found {
 }
 
 // Record i of the table, if its bytes are there and are a record.
-pub fn find(bytes: &[u8], i: usize) -> Found
-    ensures { λ f. ⌜ f ≡ find (now (bytes .entry)) i ⌝ }
+pub fn found_at(bytes: &[u8], i: usize) -> Found
+    ensures { λ f. ⌜ f ≡ foundAt (now (bytes .entry)) i ⌝ }
 {
     if count(bytes.len()) <= i {
         return Found::Missing;

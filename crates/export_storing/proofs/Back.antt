@@ -14,7 +14,7 @@ use Rattle.hermes.specs.Record.{code}
 use Rattle.hermes.specs.Event.{Step, movedBy}
 use Rattle.hermes.specs.Node.{recordAt}
 use Rattle.export_records.specs.Layout.{two, four, stateOf, orUnsound, decode, countOf, decodeAt, tableOf}
-use Rattle.export_storing.specs.Storing.{inTwo, inFour, encode, put, bytesAfter}
+use Rattle.export_storing.specs.Storing.{inTwo, inFour, recordBytes, put, bytesAfter}
 use Rattle.export_storing.specs.Back.{Bytes, PutBack}
 use Rattle.export_records.proofs.Lent.{record-in}
 use Rattle.export_storing.proofs.Stores.{settled-in}
@@ -37,7 +37,7 @@ state-known s t w ot v ov a l h = go (ltb 4 s) refl _ h
     go false e r g = ltb-false 4 s e
 
 encode-decode : (s t w ot v ov a l : ℕ) → s ≤ 4
-    → encode (decode s t w ot v ov a l) ≡ s ∷ t ∷ w ∷ ot ∷ (inFour v ++ (inFour ov ++ (inTwo a ++ (l ∷ []))))
+    → recordBytes (decode s t w ot v ov a l) ≡ s ∷ t ∷ w ∷ ot ∷ (inFour v ++ (inFour ov ++ (inTwo a ++ (l ∷ []))))
 unfolding decode
 encode-decode s t w ot v ov a l h = simp (le-ltb 4 s h, code-back s h)
 
@@ -74,7 +74,7 @@ again bytes at j (suc n) =
     (λ i. sets (set-getD bytes (at + j) 0 i) (sym (add-suc at j) i) (run bytes at (suc j) n)) ∙ again bytes at (suc j) n
 
 -- the bytes of the record that they are
-spelt : (bytes : List ℕ) (at : ℕ) → Bytes bytes → decodeAt bytes at .len ≤ 192 → encode (decodeAt bytes at) ≡ getD bytes at 0 ∷ run bytes at 1 14
+spelt : (bytes : List ℕ) (at : ℕ) → Bytes bytes → decodeAt bytes at .len ≤ 192 → recordBytes (decodeAt bytes at) ≡ getD bytes at 0 ∷ run bytes at 1 14
 spelt bytes at b h =
     let v = in-four _ _ _ (getD bytes (at + 7) 0) (b (at + 4)) (b (at + 5)) (b (at + 6)) in
     let o = in-four _ _ _ (getD bytes (at + 11) 0) (b (at + 8)) (b (at + 9)) (b (at + 10)) in
@@ -82,7 +82,7 @@ spelt bytes at b h =
     encode-decode _ _ _ _ _ _ _ _ (state-known _ _ _ _ _ _ _ _ h)
     ∙ (λ i. getD bytes at 0 ∷ getD bytes (at + 1) 0 ∷ getD bytes (at + 2) 0 ∷ getD bytes (at + 3) 0 ∷ (v i ++ (o i ++ (a i ++ (getD bytes (at + 14) 0 ∷ [])))))
 
-stored-back : (bytes : List ℕ) (at : ℕ) → Bytes bytes → decodeAt bytes at .len ≤ 192 → sets bytes at (encode (decodeAt bytes at)) ≡ bytes
+stored-back : (bytes : List ℕ) (at : ℕ) → Bytes bytes → decodeAt bytes at .len ≤ 192 → sets bytes at (recordBytes (decodeAt bytes at)) ≡ bytes
 stored-back bytes at b h =
     let here : at ≡ at + 0 = omega arith in
     ap (sets bytes at) (spelt bytes at b h) ∙ (λ i. sets bytes (here i) (getD bytes (here i) 0 ∷ run bytes at 1 14)) ∙ again bytes at 0 15

@@ -8,7 +8,7 @@ use Rattle.hermes.specs.declared.record.State.{State}
 use Rattle.hermes.specs.declared.record.State.the-variants.{Valid, Invalid, InvalidWrite, Write, Replay}
 use Rattle.hermes.specs.Record.{code}
 use Rattle.export_records.specs.Layout.{two, four, stateOf, decode, decodeAt}
-use Rattle.export_storing.specs.Storing.{encode}
+use Rattle.export_storing.specs.Storing.{recordBytes}
 
 two-back : (n : ℕ) → two (n % 256) (n / 256) ≡ n
 two-back n = omega arith
@@ -30,7 +30,7 @@ known InvalidWrite = omega arith
 known Write = omega arith
 known Replay = omega arith
 
-pub decode-encode : (r : Record) → decodeAt (encode r) 0 ≡ r
+pub decode-encode : (r : Record) → decodeAt (recordBytes r) 0 ≡ r
 unfolding decode
 decode-encode r =
     simp (le-ltb 4 (code (r .state)) (known (r .state)), state-back (r .state), four-back (r .timestamp .version), four-back (r .written .version), two-back (r .acks))

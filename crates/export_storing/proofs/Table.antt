@@ -17,7 +17,7 @@ use Rattle.hermes.specs.Event.{Step, movedBy}
 use Rattle.hermes.specs.Node.{recordAt}
 use Rattle.hermes.proofs.Filling.{filled, filled-suc, filled-all}
 use Rattle.export_records.specs.Layout.{two, four, decode, countOf, decodeAt, tableOf}
-use Rattle.export_storing.specs.Storing.{encode, put, fill, tableAfter}
+use Rattle.export_storing.specs.Storing.{recordBytes, put, fill, tableAfter}
 use Rattle.export_records.proofs.Lent.{length-table, record-in, inside}
 use Rattle.export_storing.proofs.RoundTrip.{decode-encode}
 
@@ -60,12 +60,12 @@ same-bytes xs ys a b h =
 
 module _ (bytes : List ℕ) (i : ℕ) (r : Record) (l : i < countOf (length bytes)) where
   count-put : countOf (length (put bytes i r)) ≡ countOf (length bytes)
-  count-put = ap countOf (length-sets bytes (16 * i) (encode r))
+  count-put = ap countOf (length-sets bytes (16 * i) (recordBytes r))
 
   there : decodeAt (put bytes i r) (16 * i) ≡ r
   there =
       let room : 16 * i + 15 ≤ length bytes = omega (arith, inside (length bytes) i l) in
-      same-bytes (put bytes i r) (encode r) (16 * i) 0 (λ k h. sets-inside (encode r) bytes (16 * i) k h room ∙ ap (λ (p : ℕ). getD (encode r) p 0) (z k)) ∙ decode-encode r
+      same-bytes (put bytes i r) (recordBytes r) (16 * i) 0 (λ k h. sets-inside (recordBytes r) bytes (16 * i) k h room ∙ ap (λ (p : ℕ). getD (recordBytes r) p 0) (z k)) ∙ decode-encode r
     where
       z : (k : ℕ) → k ≡ 0 + k
       z k = omega arith
@@ -74,8 +74,8 @@ module _ (bytes : List ℕ) (i : ℕ) (r : Record) (l : i < countOf (length byte
   elsewhere j d = same-bytes (put bytes i r) bytes (16 * j) (16 * j) (go (decLt j i))
     where
       go : Dec (j < i) → (k : ℕ) → k < 15 → getD (put bytes i r) (16 * j + k) 0 ≡ getD bytes (16 * j + k) 0
-      go (yes b) k h = sets-before (encode r) bytes (16 * i) (16 * j + k) (omega arith)
-      go (no b) k h = sets-after (encode r) bytes (16 * i) (16 * j + k) (omega arith)
+      go (yes b) k h = sets-before (recordBytes r) bytes (16 * i) (16 * j + k) (omega arith)
+      go (no b) k h = sets-after (recordBytes r) bytes (16 * i) (16 * j + k) (omega arith)
 
   pub table-put : tableOf (put bytes i r) ≡ set (tableOf bytes) i r
   table-put = ext-getD (freshRecord 0) (tableOf (put bytes i r)) (set (tableOf bytes) i r) lengths at
@@ -97,7 +97,7 @@ module _ (bytes : List ℕ) (i : ℕ) (r : Record) (l : i < countOf (length byte
 
 length-fill : (k : ℕ) (bytes : List ℕ) (r : Record) → length (fill k bytes r) ≡ length bytes
 length-fill zero bytes r = refl
-length-fill (suc k) bytes r = length-sets (fill k bytes r) (16 * k) (encode r) ∙ length-fill k bytes r
+length-fill (suc k) bytes r = length-sets (fill k bytes r) (16 * k) (recordBytes r) ∙ length-fill k bytes r
 
 module _ (bytes : List ℕ) (r : Record) where
   -- the first k

@@ -20,15 +20,15 @@ abbrev pub inFour : ℕ → List ℕ
 inFour n = n % 256 ∷ n / 256 % 256 ∷ n / 65536 % 256 ∷ n / 16777216 ∷ []
 
 -- a record as its fifteen bytes
-abbrev pub encode : Record → List ℕ
-encode r =
+abbrev pub recordBytes : Record → List ℕ
+recordBytes r =
     code (r .state) ∷ r .timestamp .tie ∷ r .writer ∷ r .written .tie ∷ (inFour (r .timestamp .version) ++ (inFour (r .written .version) ++ (inTwo (r .acks) ++ (r .len ∷ []))))
 
 -- ---- the bytes after an event on record i
 
 -- record i's bytes replaced
 abbrev pub put : List ℕ → ℕ → Record → List ℕ
-put bytes i r = sets bytes (16 * i) (encode r)
+put bytes i r = sets bytes (16 * i) (recordBytes r)
 
 -- the first k records all replaced by r
 abbrev pub fill : ℕ → List ℕ → Record → List ℕ

@@ -19,7 +19,7 @@ use Rattle.hermes.specs.declared.event.Answer.the-variants.{Accepted, Re
 use Rattle.hermes.specs.declared.event.Moved.{Moved}
 use Rattle.hermes.specs.Members.{with, without}
 use Rattle.hermes.specs.Order.{later}
-use Rattle.hermes.specs.Record.{written, replayed, invalidated, acknowledged, validated}
+use Rattle.hermes.specs.Record.{writtenBy, replayed, invalidated, acknowledged, validated}
 use Rattle.hermes.specs.Store.{valueAt, place}
 use Rattle.hermes.specs.Guards.{
   Question,
@@ -94,7 +94,7 @@ readStep r = record { after = r; stored = kept; sent = None }
 -- 01, Write: value stored; an INV leaves with the value
 abbrev pub writeStep : Replica → ℕ → Record → List ℕ → Step
 writeStep me i r v =
-    record { after = written r (me .number) (length v); stored = placed v; sent = send me i (Inv (written r (me .number) (length v) .timestamp)) }
+    record { after = writtenBy r (me .number) (length v); stored = placed v; sent = send me i (Inv (writtenBy r (me .number) (length v) .timestamp)) }
 
 -- 01, Replay: an INV leaves with stamp and value
 abbrev pub replayStep : Replica → ℕ → Record → Step

@@ -42,8 +42,8 @@ abbrev pub nextTimestamp : Timestamp → ℕ → Timestamp
 nextTimestamp t me = record { version = nextVersion (t .version); tie = me }
 
 -- 01, Write: the new timestamp for both; last writer is self; acknowledgements emptied; state write
-abbrev pub written : Record → ℕ → ℕ → Record
-written r me n = record {
+abbrev pub writtenBy : Record → ℕ → ℕ → Record
+writtenBy r me n = record {
   state = Write;
   timestamp = nextTimestamp (r .timestamp) me;
   writer = me;

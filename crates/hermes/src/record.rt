@@ -1,6 +1,6 @@
 // One record, moved by value.
 ghost use mathlib.Core.Path.{_≡_};
-ghost use Rattle.hermes.specs.Record.{freshRecord, written, replayed, invalidatedState, invalidated, acknowledged, validated};
+ghost use Rattle.hermes.specs.Record.{freshRecord, writtenBy, replayed, invalidatedState, invalidated, acknowledged, validated};
 use crate::timestamp::Timestamp;
 
 pub enum State {
@@ -54,7 +54,7 @@ impl Record {
 
     // A write by replica `me` of a value of `len` bytes.
     pub fn write(self, me: u8, len: u8) -> Record
-        ensures { λ r. ⌜ r ≡ written self me len ⌝ }
+        ensures { λ r. ⌜ r ≡ writtenBy self me len ⌝ }
     {
         let old = self.timestamp.version;
         let mut version = old;

@@ -14,7 +14,7 @@ use Rattle.packet_format.specs.declared.entry.Fields.{Fields}
 use Rattle.packet_format.specs.declared.answer.Fetched.the-variants.{Found, Refused}
 use Rattle.packet_format.specs.Bytes.{num, window}
 use Rattle.packet_format.specs.Entry.{fieldsOf, entryOf, good}
-use Rattle.packet_format.specs.Reading.{countOf, entryAt, question20, question22, walk, fetchRefusal, fetchedAs, fetched, numberOf}
+use Rattle.packet_format.specs.Reading.{countOf, entryPlace, question20, question22, walk, fetchRefusal, fetchedAs, fetched, fetchedNumber}
 use Rattle.hermes.proofs.Tests.{both}
 
 -- a part to the end is what is left after the start
@@ -49,10 +49,10 @@ pub record Walked (p : List ℕ) (count k pos at : ℕ) : Type 0 where
   pub below : k ≤ count
   pub place : pos ≡ 4 + 16 * k
   pub small : at + 255 * (count - k) ≤ 17348
-  pub rest : walk count (drop 4 p) (entryAt count) (length p) ≡ walk (count - k) (drop pos p) at (length p)
+  pub rest : walk count (drop 4 p) (entryPlace count) (length p) ≡ walk (count - k) (drop pos p) at (length p)
 
 -- the walk's end
-pub walked-all : (p : List ℕ) (count k pos at : ℕ) → Walked p count k pos at → count ≤ k → eqb at (length p) ≡ walk count (drop 4 p) (entryAt count) (length p)
+pub walked-all : (p : List ℕ) (count k pos at : ℕ) → Walked p count k pos at → count ≤ k → eqb at (length p) ≡ walk count (drop 4 p) (entryPlace count) (length p)
 walked-all p count k pos at w h =
     let none : count - k ≤ 0 = omega arith in
     sym (w .rest ∙ walk-done (count - k) (drop pos p) at (length p) none)
@@ -101,11 +101,11 @@ module _ (p : List ℕ) (i : ℕ) where
   fetch-20 a = simp a
 
   module _ (a : question20 p .yes ≡ true) where
-    pub fetch-21 : length p < entryAt (countOf p) → Refused 21 ≡ fetched p i
+    pub fetch-21 : length p < entryPlace (countOf p) → Refused 21 ≡ fetched p i
     unfolding fetched fetchRefusal
     fetch-21 b = simp (a, lt-leb _ _ b)
 
-    module _ (b : entryAt (countOf p) ≤ length p) where
+    module _ (b : entryPlace (countOf p) ≤ length p) where
       pub fetch-22 : question22 p .yes ≡ false → Refused 22 ≡ fetched p i
       unfolding fetched fetchRefusal
       fetch-22 d = simp (a, le-leb _ _ b, d)
@@ -115,16 +115,16 @@ module _ (p : List ℕ) (i : ℕ) where
         unfolding fetched fetchRefusal
         fetch-23 e = simp (a, le-leb _ _ b, d, le-ltb _ _ e)
 
-        pub fetch-0 : i < countOf p → (f : Fields) → f ≡ fieldsOf (take (length p - entryAt i) (drop (entryAt i) p)) → Found (entryOf f) (f .offset) ≡ fetched p i
+        pub fetch-0 : i < countOf p → (f : Fields) → f ≡ fieldsOf (take (length p - entryPlace i) (drop (entryPlace i) p)) → Found (entryOf f) (f .offset) ≡ fetched p i
         unfolding fetched fetchRefusal
         fetch-0 l f e =
-            simp (a, le-leb _ _ b, d, lt-ltb _ _ l) (ap (λ (x : Fields). Found (entryOf x) (x .offset)) (e ∙ ap fieldsOf (part-to-end p (entryAt i))))
+            simp (a, le-leb _ _ b, d, lt-ltb _ _ l) (ap (λ (x : Fields). Found (entryOf x) (x .offset)) (e ∙ ap fieldsOf (part-to-end p (entryPlace i))))
 
 -- the number of an answer is that of the first question that said no
-pub fetched-number : (p : List ℕ) (i : ℕ) → numberOf (fetched p i) ≡ fetchRefusal p i
+pub fetched-number : (p : List ℕ) (i : ℕ) → fetchedNumber (fetched p i) ≡ fetchRefusal p i
 unfolding fetched
-fetched-number p i = go (fetchRefusal p i) (fieldsOf (drop (entryAt i) p))
+fetched-number p i = go (fetchRefusal p i) (fieldsOf (drop (entryPlace i) p))
   where
-    go : (k : ℕ) (f : Fields) → numberOf (fetchedAs k f) ≡ k
+    go : (k : ℕ) (f : Fields) → fetchedNumber (fetchedAs k f) ≡ k
     go zero f = refl
     go (suc k) f = refl

@@ -13,8 +13,8 @@ use Rattle.packet_format.specs.declared.answer.Fetched.the-variants.{Fou
 use Rattle.packet_format.specs.declared.answer.Written.the-variants.{Total}
 use Rattle.packet_format.specs.Bytes.{be, window, Bytes}
 use Rattle.packet_format.specs.Entry.{fieldsOf, fieldsFor, noEntry, AllFit}
-use Rattle.packet_format.specs.Reading.{countOf, entryAt, messagesIn, bodiesIn, question20, question21, question22, question23, walk, fetchRefusal, fetchedAs, fetched, bodyOf}
-use Rattle.packet_format.specs.Writing.{summed, contents, totalOf, encode, allGood, written, outputOf}
+use Rattle.packet_format.specs.Reading.{countOf, entryPlace, packetMessages, bodiesIn, question20, question21, question22, question23, walk, fetchRefusal, fetchedAs, fetched, bodyOf}
+use Rattle.packet_format.specs.Writing.{summed, contents, totalOf, packetBytes, allGood, packetWritten, outputOf}
 use Rattle.packet_format.specs.RoundTrip.{ReadsBack, WrittenReadsBack, Rewritten, AcceptedIsWritten}
 use Rattle.packet_format.proofs.Width.{num-be, window-drop, be-window}
 use Rattle.packet_format.proofs.Writing.{Accepts, accepts, accepted, total-yes}
@@ -24,11 +24,11 @@ use Rattle.packet_format.proofs.Contents.{length-contents, length-entri
 
 -- ---- what is written is read
 
-pub length-encode : (rule : ℕ) (es : List Entry) (bodies : List ℕ) → length (encode rule es bodies) ≡ totalOf (length es) bodies
-unfolding encode
+pub length-encode : (rule : ℕ) (es : List Entry) (bodies : List ℕ) → length (packetBytes rule es bodies) ≡ totalOf (length es) bodies
+unfolding packetBytes
 length-encode rule es bodies =
-    let h = length-append (contents (entryAt (length es)) es) bodies in
-    let t = length-contents es (entryAt (length es)) in
+    let h = length-append (contents (entryPlace (length es)) es) bodies in
+    let t = length-contents es (entryPlace (length es)) in
     omega arith
 
 -- what the writer accepts, of the messages es that are written
@@ -40,8 +40,8 @@ record Writable (es : List Entry) (bodies : List ℕ) : Type 0 where
   short : totalOf (length es) bodies ≤ 1400
 
 module _ (es : List Entry) (bodies : List ℕ) (w : Writable es bodies) where
-  header-encode : Header (encode 1 es bodies)
-  unfolding encode
+  header-encode : Header (packetBytes 1 es bodies)
+  unfolding packetBytes
   header-encode =
       let n = length-encode 1 es bodies in
       let t : totalOf (length es) bodies < 256 ^ 2 = omega (arith, w .short) in
@@ -54,31 +54,31 @@ module _ (es : List Entry) (bodies : List ℕ) (w : Writable es bodies) where
         short = omega (arith, w .short);
       }
 
-  walk-encode : AllFit es → question22 (encode 1 es bodies) .yes ≡ true
-  unfolding encode
+  walk-encode : AllFit es → question22 (packetBytes 1 es bodies) .yes ≡ true
+  unfolding packetBytes
   walk-encode s =
-      ap (walk (length es) (contents (entryAt (length es)) es ++ bodies) (entryAt (length es)))
-      (length-encode 1 es bodies ∙ ap (λ (k : ℕ). entryAt (length es) + k) (sym (w .exact)))
-      ∙ walk-contents es (entryAt (length es)) bodies s (w .good) (omega (arith, w .short, w .exact))
+      ap (walk (length es) (contents (entryPlace (length es)) es ++ bodies) (entryPlace (length es)))
+      (length-encode 1 es bodies ∙ ap (λ (k : ℕ). entryPlace (length es) + k) (sym (w .exact)))
+      ∙ walk-contents es (entryPlace (length es)) bodies s (w .good) (omega (arith, w .short, w .exact))
 
-count-encode : (rule : ℕ) (es : List Entry) (bodies : List ℕ) → countOf (encode rule es bodies) ≡ length es
-unfolding encode
+count-encode : (rule : ℕ) (es : List Entry) (bodies : List ℕ) → countOf (packetBytes rule es bodies) ≡ length es
+unfolding packetBytes
 count-encode rule es bodies = refl
 
 -- behind the header of a written packet
-drop-header : (rule : ℕ) (es : List Entry) (bodies : List ℕ) (a : ℕ) → drop (4 + a) (encode rule es bodies) ≡ drop a (contents (entryAt (length es)) es ++ bodies)
-unfolding encode
-drop-header rule es bodies a = sym (drop-drop a 4 (encode rule es bodies))
+drop-header : (rule : ℕ) (es : List Entry) (bodies : List ℕ) (a : ℕ) → drop (4 + a) (packetBytes rule es bodies) ≡ drop a (contents (entryPlace (length es)) es ++ bodies)
+unfolding packetBytes
+drop-header rule es bodies a = sym (drop-drop a 4 (packetBytes rule es bodies))
 
 -- behind its contents table
-drop-contents : (rule : ℕ) (es : List Entry) (bodies : List ℕ) (a : ℕ) → drop (entryAt (length es) + a) (encode rule es bodies) ≡ drop a bodies
+drop-contents : (rule : ℕ) (es : List Entry) (bodies : List ℕ) (a : ℕ) → drop (entryPlace (length es) + a) (packetBytes rule es bodies) ≡ drop a bodies
 drop-contents rule es bodies a =
-    sym (drop-drop a (entryAt (length es)) (encode rule es bodies))
+    sym (drop-drop a (entryPlace (length es)) (packetBytes rule es bodies))
     ∙ ap (drop a)
-    (drop-header rule es bodies (16 * length es) ∙ drop-at (contents (entryAt (length es)) es) bodies (16 * length es) (length-contents es (entryAt (length es))))
+    (drop-header rule es bodies (16 * length es) ∙ drop-at (contents (entryPlace (length es)) es) bodies (16 * length es) (length-contents es (entryPlace (length es))))
 
-encode-reads-back : (es : List Entry) (bodies : List ℕ) → Writable es bodies → AllFit es → ReadsBack (encode 1 es bodies) es bodies
-unfolding encode
+encode-reads-back : (es : List Entry) (bodies : List ℕ) → Writable es bodies → AllFit es → ReadsBack (packetBytes 1 es bodies) es bodies
+unfolding packetBytes
 encode-reads-back es bodies w s =
     record {
       message = message;
@@ -87,24 +87,24 @@ encode-reads-back es bodies w s =
     }
   where
     p : List ℕ
-    p = encode 1 es bodies
+    p = packetBytes 1 es bodies
 
     yes20 : question20 p .yes ≡ true
     yes20 = header-yes p (header-encode es bodies w)
 
-    yes21 : entryAt (countOf p) ≤ length p
+    yes21 : entryPlace (countOf p) ≤ length p
     yes21 = omega (arith, count-encode 1 es bodies, length-encode 1 es bodies)
 
     yes22 : question22 p .yes ≡ true
     yes22 = walk-encode es bodies w s
 
-    message : (i : ℕ) → i < length es → fetched p i ≡ Found (getD es i noEntry) (entryAt (length es) + summed (take i es))
+    message : (i : ℕ) → i < length es → fetched p i ≡ Found (getD es i noEntry) (entryPlace (length es) + summed (take i es))
     message i l =
-        let at = entryAt (length es) + summed (take i es) in
+        let at = entryPlace (length es) + summed (take i es) in
         let e = getD es i noEntry in
-        let f : fieldsOf (drop (entryAt i) p) ≡ fieldsFor e at =
-        ap fieldsOf (drop-header 1 es bodies (16 * i)) ∙ entry-at es i (entryAt (length es)) bodies s (w .good) (omega (arith, w .short, w .exact)) l in
-        sym (fetch-0 p i yes20 yes21 yes22 l (fieldsFor e at) (sym (ap fieldsOf (part-to-end p (entryAt i)) ∙ f))) ∙ ap (λ (x : Entry). Found x at) (entry-back e at)
+        let f : fieldsOf (drop (entryPlace i) p) ≡ fieldsFor e at =
+        ap fieldsOf (drop-header 1 es bodies (16 * i)) ∙ entry-at es i (entryPlace (length es)) bodies s (w .good) (omega (arith, w .short, w .exact)) l in
+        sym (fetch-0 p i yes20 yes21 yes22 l (fieldsFor e at) (sym (ap fieldsOf (part-to-end p (entryPlace i)) ∙ f))) ∙ ap (λ (x : Entry). Found x at) (entry-back e at)
 
 -- a packet written reads back as the same messages
 pub written-reads-back : WrittenReadsBack
@@ -114,7 +114,7 @@ written-reads-back ms count bodies out n l s h =
     let t = total-yes ms count bodies (length out) n h in
     let a = accepts ms count bodies (length out) (t .0) in
     let k : length es ≡ count = length-take-le count ms l in
-    let m : length (encode 1 es bodies) ≡ n = length-encode 1 es bodies ∙ ap (λ (x : ℕ). totalOf x bodies) k ∙ t .1 in
+    let m : length (packetBytes 1 es bodies) ≡ n = length-encode 1 es bodies ∙ ap (λ (x : ℕ). totalOf x bodies) k ∙ t .1 in
     let w : Writable es bodies =
     record {
       good = a .good;
@@ -123,7 +123,7 @@ written-reads-back ms count bodies out n l s h =
       exact = a .exact;
       short = omega (arith, a .short);
     } in
-    rw (take-at (encode 1 es bodies) (drop n out) n m) (encode-reads-back es bodies w s)
+    rw (take-at (packetBytes 1 es bodies) (drop n out) n m) (encode-reads-back es bodies w s)
 
 -- ---- what is read is written
 
@@ -142,45 +142,45 @@ found-zero (suc k) f e at h = let z : _≡_ {A = ℕ} 0 1 = cc in absurd (omega 
 -- what an accepted fetch tells of its packet
 record Read (p : List ℕ) : Type 0 where
   header : Header p
-  whole : entryAt (countOf p) ≤ length p
+  whole : entryPlace (countOf p) ≤ length p
   walked : question22 p .yes ≡ true
 
 read : (p : List ℕ) (i : ℕ) (e : Entry) (at : ℕ) → fetched p i ≡ Found e at → Read p
 unfolding fetched fetchRefusal
 read p i e at h =
-    let z = found-zero (fetchRefusal p i) (fieldsOf (drop (entryAt i) p)) e at h in
+    let z = found-zero (fetchRefusal p i) (fieldsOf (drop (entryPlace i) p)) e at h in
     let s = all-passed (question20 p .yes) (question21 p .yes) (question22 p .yes) (question23 p i .yes) z in
     record { header = header p (s .0); whole = leb-true _ _ (s .1); walked = s .2 }
 
 module _ (p : List ℕ) (b : Bytes p) (r : Read p) where
-  read-contents : (contents (entryAt (countOf p)) (messagesIn p) ++ drop (16 * countOf p) (drop 4 p) ≡ drop 4 p)
-      × (entryAt (countOf p) + summed (messagesIn p) ≡ length p)
-      × (allGood (messagesIn p) ≡ true)
+  read-contents : (contents (entryPlace (countOf p)) (packetMessages p) ++ drop (16 * countOf p) (drop 4 p) ≡ drop 4 p)
+      × (entryPlace (countOf p) + summed (packetMessages p) ≡ length p)
+      × (allGood (packetMessages p) ≡ true)
   read-contents =
-      contents-walk (countOf p) (drop 4 p) (entryAt (countOf p)) (length p) (simp length-drop (omega (arith, r .whole))) (bytes-drop 4 p b) (r .walked)
+      contents-walk (countOf p) (drop 4 p) (entryPlace (countOf p)) (length p) (simp length-drop (omega (arith, r .whole))) (bytes-drop 4 p b) (r .walked)
 
   -- an accepted packet is that of its messages
-  encode-read : encode 1 (messagesIn p) (bodiesIn p) ≡ p
-  unfolding encode
+  encode-read : packetBytes 1 (packetMessages p) (bodiesIn p) ≡ p
+  unfolding packetBytes
   encode-read =
       let n = countOf p in
-      let es = messagesIn p in
+      let es = packetMessages p in
       let rest = bodiesIn p in
       let k : length es ≡ n = length-entries n (drop 4 p) in
       let two : be 2 (length p) ≡ window p 2 2 = ap (be 2) (sym (r .header .total)) ∙ be-window p 2 2 b in
-      let tail : contents (entryAt n) es ++ rest ≡ drop 4 p =
-      ap (λ (l : List ℕ). contents (entryAt n) es ++ l) (sym (drop-drop (16 * n) 4 p)) ∙ read-contents .0 in
-      let total : totalOf (length es) rest ≡ length p = omega (arith, length-drop (entryAt n) p, r .whole) in
-      let e1 : encode 1 es rest ≡ 1 ∷ n ∷ be 2 (length p) ++ contents (entryAt n) es ++ rest =
-      λ i. 1 ∷ k i ∷ be 2 (total i) ++ contents (entryAt (k i)) es ++ rest in
-      let e2 : 1 ∷ n ∷ be 2 (length p) ++ contents (entryAt n) es ++ rest ≡ window p 0 4 ++ drop 4 p =
+      let tail : contents (entryPlace n) es ++ rest ≡ drop 4 p =
+      ap (λ (l : List ℕ). contents (entryPlace n) es ++ l) (sym (drop-drop (16 * n) 4 p)) ∙ read-contents .0 in
+      let total : totalOf (length es) rest ≡ length p = omega (arith, length-drop (entryPlace n) p, r .whole) in
+      let e1 : packetBytes 1 es rest ≡ 1 ∷ n ∷ be 2 (length p) ++ contents (entryPlace n) es ++ rest =
+      λ i. 1 ∷ k i ∷ be 2 (total i) ++ contents (entryPlace (k i)) es ++ rest in
+      let e2 : 1 ∷ n ∷ be 2 (length p) ++ contents (entryPlace n) es ++ rest ≡ window p 0 4 ++ drop 4 p =
       λ i. sym (r .header .first) i ∷ n ∷ two i ++ tail i in
       e1 ∙ e2 ∙ sym (window-drop p 0 4 (r .header .long))
 
-  writable-read : Writable (messagesIn p) (bodiesIn p)
+  writable-read : Writable (packetMessages p) (bodiesIn p)
   writable-read =
       let k = length-entries (countOf p) (drop 4 p) in
-      let d = length-drop (entryAt (countOf p)) p in
+      let d = length-drop (entryPlace (countOf p)) p in
       record {
         good = read-contents .2;
         some = omega (arith, r .header .some);
@@ -196,8 +196,8 @@ accepted-is-written p i e at ms out b h same l =
     let r = read p i e at h in
     let n = countOf p in
     let w = writable-read p b r in
-    let k : length (messagesIn p) ≡ n = length-entries n (drop 4 p) in
-    let d = length-drop (entryAt n) p in
+    let k : length (packetMessages p) ≡ n = length-entries n (drop 4 p) in
+    let d = length-drop (entryPlace n) p in
     let total : totalOf n (bodiesIn p) ≡ length p = omega (arith, r .whole) in
     let a : Accepts ms n (bodiesIn p) (length out) =
     record {
@@ -211,6 +211,6 @@ accepted-is-written p i e at ms out b h same l =
     let made = encode-read p b r in
     record {
       answer = accepted ms n (bodiesIn p) (length out) a ∙ ap Total total;
-      output = ap (λ (es : List Entry). encode 1 es (bodiesIn p) ++ drop (length p) out) same ∙ ap (λ (q : List ℕ). q ++ drop (length p) out) made;
-      reads = rw made at (encode-reads-back (messagesIn p) (bodiesIn p) w (fit-entries n (drop 4 p) (bytes-drop 4 p b)));
+      output = ap (λ (es : List Entry). packetBytes 1 es (bodiesIn p) ++ drop (length p) out) same ∙ ap (λ (q : List ℕ). q ++ drop (length p) out) made;
+      reads = rw made at (encode-reads-back (packetMessages p) (bodiesIn p) w (fit-entries n (drop 4 p) (bytes-drop 4 p b)));
     }

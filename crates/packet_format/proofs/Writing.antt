@@ -9,7 +9,7 @@ use lib.Dec.{leb, eqb}
 use lib.ListN.{length, take}
 use Rattle.packet_format.specs.declared.entry.Entry.{Entry}
 use Rattle.packet_format.specs.declared.answer.Written.the-variants.{Total}
-use Rattle.packet_format.specs.Writing.{summed, totalOf, allGood, question24, question25, writeRefusal, writtenAs, written, numberOf}
+use Rattle.packet_format.specs.Writing.{summed, totalOf, allGood, question24, question25, writeRefusal, writtenAs, packetWritten, writtenNumber}
 use Rattle.hermes.proofs.Tests.{both}
 
 -- the parts of questions 24 and 25
@@ -53,19 +53,19 @@ module _ (ms : List Entry) (count : ℕ) (bodies : List ℕ) (room : ℕ) where
   all-yes a =
       simp (le-leb _ _ (a .some), le-leb _ _ (a .few), a .good, eq-eqb _ _ (a .exact), le-leb _ _ (a .short), le-leb _ _ (a .fits))
 
-  pub accepted : Accepts ms count bodies room → written ms count bodies room ≡ Total (totalOf count bodies)
-  unfolding written
+  pub accepted : Accepts ms count bodies room → packetWritten ms count bodies room ≡ Total (totalOf count bodies)
+  unfolding packetWritten
   accepted a = ap (λ (k : ℕ). writtenAs k (totalOf count bodies)) (all-yes a)
 
-  pub total-yes : (n : ℕ) → written ms count bodies room ≡ Total n → (writeRefusal ms count bodies room ≡ 0) × (totalOf count bodies ≡ n)
-  unfolding written
+  pub total-yes : (n : ℕ) → packetWritten ms count bodies room ≡ Total n → (writeRefusal ms count bodies room ≡ 0) × (totalOf count bodies ≡ n)
+  unfolding packetWritten
   total-yes n h = total-of (writeRefusal ms count bodies room) (totalOf count bodies) n h
 
 -- the number of an answer is that of the first question that said no
-pub written-number : (ms : List Entry) (count : ℕ) (bodies : List ℕ) (room : ℕ) → numberOf (written ms count bodies room) ≡ writeRefusal ms count bodies room
-unfolding written
+pub written-number : (ms : List Entry) (count : ℕ) (bodies : List ℕ) (room : ℕ) → writtenNumber (packetWritten ms count bodies room) ≡ writeRefusal ms count bodies room
+unfolding packetWritten
 written-number ms count bodies room = go (writeRefusal ms count bodies room) (totalOf count bodies)
   where
-    go : (k n : ℕ) → numberOf (writtenAs k n) ≡ k
+    go : (k n : ℕ) → writtenNumber (writtenAs k n) ≡ k
     go zero n = refl
     go (suc k) n = refl

@@ -17,15 +17,15 @@ abbrev pub countOf : List ℕ → ℕ
 countOf p = getD p 1 0
 
 -- where entry i begins; for the count, where the contents table ends and the first body begins
-abbrev pub entryAt : ℕ → ℕ
-entryAt i = 4 + 16 * i
+abbrev pub entryPlace : ℕ → ℕ
+entryPlace i = 4 + 16 * i
 
 -- the messages of a packet, and their bodies end to end
-abbrev pub messagesIn : List ℕ → List Entry
-messagesIn p = entriesOf (countOf p) (drop 4 p)
+abbrev pub packetMessages : List ℕ → List Entry
+packetMessages p = entriesOf (countOf p) (drop 4 p)
 
 abbrev pub bodiesIn : List ℕ → List ℕ
-bodiesIn p = drop (entryAt (countOf p)) p
+bodiesIn p = drop (entryPlace (countOf p)) p
 
 -- 20: at least 4 bytes, byte 0 is 1, count 1 to 64, total equal to the bytes lent and at most 1,400?
 abbrev pub question20 : List ℕ → Question
@@ -34,7 +34,7 @@ question20 p =
 
 -- 21: contents table whole?
 abbrev pub question21 : List ℕ → Question
-question21 p = ask 21 (leb (entryAt (countOf p)) (length p))
+question21 p = ask 21 (leb (entryPlace (countOf p)) (length p))
 
 -- n entries at the front of q are good, their bodies follow one another without gaps from `at`, and the last ends at the total
 unfoldable pub walk : ℕ → List ℕ → ℕ → ℕ → Bool
@@ -44,7 +44,7 @@ walk (suc n) q at total =
 
 -- 22: every entry good, offsets as ruled, last body ending at the total?
 abbrev pub question22 : List ℕ → Question
-question22 p = ask 22 (walk (countOf p) (drop 4 p) (entryAt (countOf p)) (length p))
+question22 p = ask 22 (walk (countOf p) (drop 4 p) (entryPlace (countOf p)) (length p))
 
 -- 23: i below the count?
 abbrev pub question23 : List ℕ → ℕ → Question
@@ -61,12 +61,12 @@ fetchedAs (suc k) f = Refused (suc k)
 
 -- message i of the packet p
 unfoldable pub fetched : List ℕ → ℕ → Fetched
-fetched p i = fetchedAs (fetchRefusal p i) (fieldsOf (drop (entryAt i) p))
+fetched p i = fetchedAs (fetchRefusal p i) (fieldsOf (drop (entryPlace i) p))
 
 -- the number of an answer
-abbrev pub numberOf : Fetched → ℕ
-numberOf (Found e at) = 0
-numberOf (Refused k) = k
+abbrev pub fetchedNumber : Fetched → ℕ
+fetchedNumber (Found e at) = 0
+fetchedNumber (Refused k) = k
 
 -- 01, "The body is handed on as the part of the packet that begins at its offset. A refused fetch hands on the empty part."
 abbrev pub bodyOf : List ℕ → Fetched → List ℕ

@@ -8,29 +8,29 @@ use Rattle.packet_format.specs.declared.answer.Fetched.the-variants.{Fou
 use Rattle.packet_format.specs.declared.answer.Written.the-variants.{Total}
 use Rattle.packet_format.specs.Bytes.{Bytes}
 use Rattle.packet_format.specs.Entry.{noEntry, AllFit}
-use Rattle.packet_format.specs.Reading.{countOf, entryAt, messagesIn, bodiesIn, fetched, bodyOf}
-use Rattle.packet_format.specs.Writing.{summed, written, outputOf}
+use Rattle.packet_format.specs.Reading.{countOf, entryPlace, packetMessages, bodiesIn, fetched, bodyOf}
+use Rattle.packet_format.specs.Writing.{summed, packetWritten, outputOf}
 
 -- A packet p reads back as the messages es with these bodies end to end: at every i below their number the message, with its body; past it a 23.
 pub record ReadsBack (p : List ℕ) (es : List Entry) (bodies : List ℕ) : Type 0 where
-  pub message : (i : ℕ) → i < length es → fetched p i ≡ Found (getD es i noEntry) (entryAt (length es) + summed (take i es))
+  pub message : (i : ℕ) → i < length es → fetched p i ≡ Found (getD es i noEntry) (entryPlace (length es) + summed (take i es))
   pub body : (i : ℕ) → i < length es → bodyOf p (fetched p i) ≡ take (getD es i noEntry .len) (drop (summed (take i es)) bodies)
   pub beyond : (i : ℕ) → length es ≤ i → fetched p i ≡ Refused 23
 
 -- A packet written reads back as the same messages: whatever the writer accepts, the first n bytes of its output read back as what was handed to it.
 abbrev pub WrittenReadsBack : Type 0
 WrittenReadsBack = (ms : List Entry) (count : ℕ) (bodies out : List ℕ) (n : ℕ) → count ≤ length ms → AllFit (take count ms)
-    → written ms count bodies (length out) ≡ Total n
+    → packetWritten ms count bodies (length out) ≡ Total n
     → ReadsBack (take n (outputOf (Total n) (take count ms) bodies out)) (take count ms) bodies
 
 -- The writer, handed the messages of the packet p as the first of ms, and their bodies, accepts them and makes exactly p;
 -- and those messages are the ones that p reads as.
 pub record Rewritten (p : List ℕ) (ms : List Entry) (out : List ℕ) : Type 0 where
-  pub answer : written ms (countOf p) (bodiesIn p) (length out) ≡ Total (length p)
+  pub answer : packetWritten ms (countOf p) (bodiesIn p) (length out) ≡ Total (length p)
   pub output : outputOf (Total (length p)) (take (countOf p) ms) (bodiesIn p) out ≡ p ++ drop (length p) out
-  pub reads : ReadsBack p (messagesIn p) (bodiesIn p)
+  pub reads : ReadsBack p (packetMessages p) (bodiesIn p)
 
 -- An accepted packet is the one that the writer makes of its messages, wherever the output has room for it.
 abbrev pub AcceptedIsWritten : Type 0
 AcceptedIsWritten = (p : List ℕ) (i : ℕ) (e : Entry) (at : ℕ) (ms : List Entry) (out : List ℕ) → Bytes p → fetched p i ≡ Found e at
-    → take (countOf p) ms ≡ messagesIn p → length p ≤ length out → Rewritten p ms out
+    → take (countOf p) ms ≡ packetMessages p → length p ≤ length out → Rewritten p ms out

@@ -10,7 +10,7 @@ use Rattle.packet_format.specs.declared.answer.Written.{Written}
 use Rattle.packet_format.specs.declared.answer.Written.the-variants as answer
 use Rattle.packet_format.specs.Bytes.{be}
 use Rattle.packet_format.specs.Entry.{fieldsFor, entryBytes, good}
-use Rattle.packet_format.specs.Reading.{entryAt}
+use Rattle.packet_format.specs.Reading.{entryPlace}
 
 -- the summed length of the bodies
 unfoldable pub summed : List Entry → ℕ
@@ -24,12 +24,12 @@ contents at (e ∷ es) = entryBytes (fieldsFor e at) ++ contents (at + e .len) e
 
 -- the total length of a packet of so many messages
 abbrev pub totalOf : ℕ → List ℕ → ℕ
-totalOf count bodies = entryAt count + length bodies
+totalOf count bodies = entryPlace count + length bodies
 
 -- 01, "contents first": byte 0, the count, the total, the contents table, the bodies
-unfoldable pub encode : ℕ → List Entry → List ℕ → List ℕ
-encode rule es bodies =
-    rule ∷ length es ∷ be 2 (totalOf (length es) bodies) ++ contents (entryAt (length es)) es ++ bodies
+unfoldable pub packetBytes : ℕ → List Entry → List ℕ → List ℕ
+packetBytes rule es bodies =
+    rule ∷ length es ∷ be 2 (totalOf (length es) bodies) ++ contents (entryPlace (length es)) es ++ bodies
 
 -- fields as in 22, of every message; an offset is none of them
 unfoldable pub allGood : List Entry → Bool
@@ -54,15 +54,15 @@ abbrev pub writtenAs : ℕ → ℕ → Written
 writtenAs zero total = answer.Total total
 writtenAs (suc k) total = answer.Refused (suc k)
 
-unfoldable pub written : List Entry → ℕ → List ℕ → ℕ → Written
-written es count bodies room = writtenAs (writeRefusal es count bodies room) (totalOf count bodies)
+unfoldable pub packetWritten : List Entry → ℕ → List ℕ → ℕ → Written
+packetWritten es count bodies room = writtenAs (writeRefusal es count bodies room) (totalOf count bodies)
 
 -- the number of an answer
-abbrev pub numberOf : Written → ℕ
-numberOf (answer.Total n) = 0
-numberOf (answer.Refused k) = k
+abbrev pub writtenNumber : Written → ℕ
+writtenNumber (answer.Total n) = 0
+writtenNumber (answer.Refused k) = k
 
 -- 01, "Byte 0 is 1"; "Output past the total is untouched"; a "no" leaves every lent byte as found
 unfoldable pub outputOf : Written → List Entry → List ℕ → List ℕ → List ℕ
-outputOf (answer.Total n) es bodies out = encode 1 es bodies ++ drop n out
+outputOf (answer.Total n) es bodies out = packetBytes 1 es bodies ++ drop n out
 outputOf (answer.Refused k) es bodies out = out

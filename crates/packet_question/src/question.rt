@@ -3,7 +3,7 @@ ghost use mathlib.Core.Path.{_≡_};
 ghost use Prim.Native.Nat.{_+_, _*_, _≤_};
 ghost use lib.ListN.{length};
 ghost use Rattle.packet_format.specs.Entry.{good};
-ghost use Rattle.packet_words.specs.Words.{fieldsAt, entriesFrom, messagesIn};
+ghost use Rattle.packet_words.specs.Words.{fieldsAt, entriesFrom, wordMessages};
 ghost use Rattle.packet_question.specs.Asking.{asked};
 use hermes::Record;
 use packet_format::Fields;
@@ -60,7 +60,7 @@ fn ask_first(words: &[u32], count: usize) -> Asked
 
 // The question, of all messages that the words hold.
 pub fn ask(words: &[u32]) -> Asked
-    ensures { λ r. ⌜ r ≡ asked (messagesIn (now (words .entry))) ⌝ }
+    ensures { λ r. ⌜ r ≡ asked (wordMessages (now (words .entry))) ⌝ }
 {
     ask_first(words, packet_words::count_in(words.len()))
 }

@@ -9,7 +9,7 @@ use lib.Dec.{leb, eqb}
 use lib.ListN.{length, getD}
 use borrow.Author.Tests.{leb-true}
 use Rattle.packet_format.specs.Entry.{noEntry}
-use Rattle.packet_words.specs.Words.{entryAt, countIn, entriesFrom, messagesIn}
+use Rattle.packet_words.specs.Words.{entryAt, countIn, entriesFrom, wordMessages}
 
 -- there are at most 64 of them
 few : (n : ℕ) → countIn n ≤ 64
@@ -36,11 +36,11 @@ length-entries (suc n) at words = ap suc (length-entries n (at + 7) words)
 pub record Counted (words : List ℕ) (count : ℕ) : Type 0 where
   pub few : count ≤ 64
   pub inside : 7 * count ≤ length words
-  pub size : length (messagesIn words) ≡ count
-  pub whole : entriesFrom count 0 words ≡ messagesIn words
+  pub size : length (wordMessages words) ≡ count
+  pub whole : entriesFrom count 0 words ≡ wordMessages words
 
 pub counted : (words : List ℕ) (count : ℕ) → count ≡ countIn (length words) → Counted words count
-unfolding messagesIn
+unfolding wordMessages
 counted words count h =
     let n = length words in
     record {

@@ -9,8 +9,8 @@ use lib.Seq.{take-length}
 use Rattle.packet_format.specs.declared.entry.Entry.{Entry}
 use Rattle.packet_format.specs.declared.answer.Written.the-variants.{Refused}
 use Rattle.packet_format.specs.Entry.{fieldsFor, good}
-use Rattle.packet_format.specs.Writing.{allGood, writeRefusal, written}
-use Rattle.packet_words.specs.Words.{unfit, entryAt, countIn, entriesFrom, messagesIn, packed}
+use Rattle.packet_format.specs.Writing.{allGood, writeRefusal, packetWritten}
+use Rattle.packet_words.specs.Words.{unfit, entryAt, countIn, entriesFrom, wordMessages, packed}
 
 -- question 24, "fields as in 22", says no to what stands for no message
 unfit-bad : (e : Entry) → e ≡ unfit → good (fieldsFor e 0) ≡ false
@@ -29,8 +29,8 @@ some-bad (suc n) at words (suc k) l h =
 
 pub refuses : (words bodies : List ℕ) (room k : ℕ) → k < countIn (length words) → entryAt words (7 * k) ≡ unfit
     → packed words bodies room ≡ Refused 24
-unfolding written writeRefusal messagesIn
+unfolding packetWritten writeRefusal wordMessages
 refuses words bodies room k l h =
     let e : 0 + 7 * k ≡ 7 * k = omega arith in
-    let es = messagesIn words in
+    let es = wordMessages words in
     simp (take-length es, some-bad (countIn (length words)) 0 words k l (ap (entryAt words) e ∙ h), and-false)

@@ -9,7 +9,7 @@ use Rattle.packet_format.specs.declared.entry.Entry.{Entry}
 use Rattle.packet_format.specs.declared.entry.Fields.{Fields}
 use Rattle.packet_format.specs.declared.answer.Written.{Written}
 use Rattle.packet_format.specs.Entry.{entryOf}
-use Rattle.packet_format.specs.Writing.{written}
+use Rattle.packet_format.specs.Writing.{packetWritten}
 
 -- ---- one message
 
@@ -57,9 +57,9 @@ entriesFrom zero at words = []
 entriesFrom (suc n) at words = entryAt words at ∷ entriesFrom n (at + 7) words
 
 -- the messages that words hold
-unfoldable pub messagesIn : List ℕ → List Entry
-messagesIn words = entriesFrom (countIn (length words)) 0 words
+unfoldable pub wordMessages : List ℕ → List Entry
+wordMessages words = entriesFrom (countIn (length words)) 0 words
 
 -- 01, "Writing takes messages and their bodies": what the writer answers to the messages that words hold
 abbrev pub packed : List ℕ → List ℕ → ℕ → Written
-packed words bodies room = written (messagesIn words) (length (messagesIn words)) bodies room
+packed words bodies room = packetWritten (wordMessages words) (length (wordMessages words)) bodies room

@@ -12,7 +12,7 @@ use lib.Seq.{take-length}
 use Rattle.hermes.proofs.Tests.{either, neither, and-false}
 use Rattle.packet_format.specs.declared.entry.Entry.{Entry}
 use Rattle.packet_format.specs.declared.answer.Written.the-variants as answer
-use Rattle.packet_format.specs.Writing.{summed, totalOf, allGood, question24, question25, writeRefusal, written}
+use Rattle.packet_format.specs.Writing.{summed, totalOf, allGood, question24, question25, writeRefusal, packetWritten}
 use Rattle.packet_format.proofs.Writing.{accepted}
 use Rattle.packet_question.specs.declared.question.Asked.{Asked}
 use Rattle.packet_question.specs.declared.question.Asked.the-variants.{Passed, Refused}
@@ -40,32 +40,32 @@ pub roomy : (total room : ℕ) → (ltb 1400 total || ltb room total) ≡ false 
 roomy total room h = let s = neither (ltb 1400 total) (ltb room total) h in (ltb-false _ _ (s .0), ltb-false _ _ (s .1))
 
 module _ (es : List Entry) (bodies : List ℕ) (room : ℕ) where
-  refused-24 : question24 es (length es) bodies .yes ≡ false → answer.Refused 24 ≡ written es (length es) bodies room
-  unfolding written writeRefusal
+  refused-24 : question24 es (length es) bodies .yes ≡ false → answer.Refused 24 ≡ packetWritten es (length es) bodies room
+  unfolding packetWritten writeRefusal
   refused-24 a = simp a
 
-  pub empty : length es < 1 → answer.Refused 24 ≡ written es (length es) bodies room
+  pub empty : length es < 1 → answer.Refused 24 ≡ packetWritten es (length es) bodies room
   empty h = refused-24 (simp (lt-leb 1 (length es) h))
 
   module _ (a : 1 ≤ length es) (b : length es ≤ 64) where
-    pub bad : allGood es ≡ false → answer.Refused 24 ≡ written es (length es) bodies room
+    pub bad : allGood es ≡ false → answer.Refused 24 ≡ packetWritten es (length es) bodies room
     bad g = refused-24 (simp (le-leb _ _ a, le-leb _ _ b, take-length es, g))
 
     module _ (g : allGood es ≡ true) where
-      pub uneven : (summed es ≡ length bodies → ⊥) → answer.Refused 24 ≡ written es (length es) bodies room
+      pub uneven : (summed es ≡ length bodies → ⊥) → answer.Refused 24 ≡ packetWritten es (length es) bodies room
       uneven n = refused-24 (simp (le-leb _ _ a, le-leb _ _ b, take-length es, g, ne-eqb _ _ n))
 
       module _ (e : summed es ≡ length bodies) (total : ℕ) (t : total ≡ totalOf (length es) bodies) where
-        refused-25 : question25 (length es) bodies room .yes ≡ false → answer.Refused 25 ≡ written es (length es) bodies room
-        unfolding written writeRefusal
+        refused-25 : question25 (length es) bodies room .yes ≡ false → answer.Refused 25 ≡ packetWritten es (length es) bodies room
+        unfolding packetWritten writeRefusal
         refused-25 q = simp (le-leb _ _ a, le-leb _ _ b, take-length es, g, eq-eqb _ _ e, q)
 
-        pub unroomy : (ltb 1400 total || ltb room total) ≡ true → answer.Refused 25 ≡ written es (length es) bodies room
+        pub unroomy : (ltb 1400 total || ltb room total) ≡ true → answer.Refused 25 ≡ packetWritten es (length es) bodies room
         unroomy h =
             ⊎-elim (λ l. refused-25 (rw (← t, lt-leb total 1400 (ltb-true 1400 total l))))
             (λ l. refused-25 (rw (← t, lt-leb total room (ltb-true room total l)) (and-false (leb total 1400)))) (either (ltb 1400 total) (ltb room total) h)
 
-        pub written-whole : total ≤ 1400 → total ≤ room → answer.Total total ≡ written es (length es) bodies room
+        pub written-whole : total ≤ 1400 → total ≤ room → answer.Total total ≡ packetWritten es (length es) bodies room
         written-whole s f =
             ap answer.Total t
             ∙ sym

@@ -12,8 +12,8 @@ use Rattle.packet_format.specs.declared.entry.Entry.{Entry}
 use Rattle.packet_format.specs.declared.entry.Fields.{Fields}
 use Rattle.packet_format.specs.Bytes.{be}
 use Rattle.packet_format.specs.Entry.{fieldsFor, entryBytes, good, noEntry}
-use Rattle.packet_format.specs.Reading.{entryAt}
-use Rattle.packet_format.specs.Writing.{summed, contents, totalOf, encode, allGood}
+use Rattle.packet_format.specs.Reading.{entryPlace}
+use Rattle.packet_format.specs.Writing.{summed, contents, totalOf, packetBytes, allGood}
 use Rattle.hermes.proofs.Tests.{both}
 use Rattle.packet_format.proofs.Entries.{good-parts}
 use Rattle.packet_format.proofs.Contents.{length-contents}
@@ -94,17 +94,17 @@ module _ (d : List ℕ) (n : ℕ) (words : List ℕ) (start : ℕ) (out : List �
 -- header, contents table and bodies, stored one after another, are the packet, and the rest of the output is as it was
 pub packet-stored : (d h t o bodies : List ℕ) (es : List Entry) (n total : ℕ) → length es ≡ n → total ≡ totalOf n bodies → total ≤ length d
     → h ≡ sets (set (set d 0 1) 1 n) 2 (be 2 total)
-    → t ≡ sets h 4 (contents (entryAt n) es)
-    → o ≡ sets t (entryAt n) bodies
-    → o ≡ encode 1 es bodies ++ drop total d
-unfolding encode
+    → t ≡ sets h 4 (contents (entryPlace n) es)
+    → o ≡ sets t (entryPlace n) bodies
+    → o ≡ packetBytes 1 es bodies ++ drop total d
+unfolding packetBytes
 packet-stored d h t o bodies es n total en et room eh eq eo =
-    let c = contents (entryAt n) es in
-    let lc = length-contents es (entryAt n) in
+    let c = contents (entryPlace n) es in
+    let lc = length-contents es (entryPlace n) in
     let front : List ℕ = 1 ∷ n ∷ be 2 total in
     let s1 : t ≡ sets d 0 (front ++ c) = eq ∙ sets-then d h 0 4 front c eh refl in
-    let p : entryAt n ≡ 0 + length (front ++ c) = omega (arith, lc) in
-    let s2 : o ≡ sets d 0 (front ++ c ++ bodies) = eo ∙ sets-then d t 0 (entryAt n) (front ++ c) bodies s1 p in
-    let whole : front ++ c ++ bodies ≡ encode 1 es bodies = λ i. 1 ∷ sym en i ∷ be 2 ((et ∙ ap (λ (x : ℕ). totalOf x bodies) (sym en)) i) ++ contents (entryAt (sym en i)) es ++ bodies in
-    let len : length (encode 1 es bodies) ≡ total = length-encode 1 es bodies ∙ ap (λ (x : ℕ). totalOf x bodies) en ∙ sym et in
-    s2 ∙ ap (sets d 0) whole ∙ sets-eq (encode 1 es bodies) d 0 (omega arith) ∙ ap (λ (x : ℕ). encode 1 es bodies ++ drop x d) (zero-add (length (encode 1 es bodies)) ∙ len)
+    let p : entryPlace n ≡ 0 + length (front ++ c) = omega (arith, lc) in
+    let s2 : o ≡ sets d 0 (front ++ c ++ bodies) = eo ∙ sets-then d t 0 (entryPlace n) (front ++ c) bodies s1 p in
+    let whole : front ++ c ++ bodies ≡ packetBytes 1 es bodies = λ i. 1 ∷ sym en i ∷ be 2 ((et ∙ ap (λ (x : ℕ). totalOf x bodies) (sym en)) i) ++ contents (entryPlace (sym en i)) es ++ bodies in
+    let len : length (packetBytes 1 es bodies) ≡ total = length-encode 1 es bodies ∙ ap (λ (x : ℕ). totalOf x bodies) en ∙ sym et in
+    s2 ∙ ap (sets d 0) whole ∙ sets-eq (packetBytes 1 es bodies) d 0 (omega arith) ∙ ap (λ (x : ℕ). packetBytes 1 es bodies ++ drop x d) (zero-add (length (packetBytes 1 es bodies)) ∙ len)

@@ -5,7 +5,7 @@ ghost use Prim.Native.Nat.{_+_, _*_, _≤_, _<_};
 ghost use lib.ListN.{length};
 ghost use lib.Seq.{sets};
 ghost use Rattle.packet_format.specs.Entry.{entryBytes, good};
-ghost use Rattle.packet_format.specs.Reading.{entryAt};
+ghost use Rattle.packet_format.specs.Reading.{entryPlace};
 ghost use Rattle.packet_format.specs.Writing.{contents, allGood};
 ghost use Rattle.packet_words.specs.Words.{fieldsAt, entriesFrom};
 use crate::output::put2;
@@ -32,8 +32,8 @@ fn put_entry(out: &mut [u8], pos: usize, words: &[u32], w: usize, at: usize)
 
 // The entries of the first `count` messages, all of them good.
 pub(crate) fn put_contents(out: &mut [u8], words: &[u32], count: usize)
-    requires { ⌜ (count ≤ 64) × (7 * count ≤ length (now words)) × (allGood (entriesFrom count 0 (now words)) ≡ true) × (entryAt count ≤ length (now out)) ⌝ }
-    ensures { λ _. ⌜ now (out .exit) ≡ sets (now (out .entry)) 4 (contents (entryAt count) (entriesFrom count 0 (now (words .entry)))) ⌝ }
+    requires { ⌜ (count ≤ 64) × (7 * count ≤ length (now words)) × (allGood (entriesFrom count 0 (now words)) ≡ true) × (entryPlace count ≤ length (now out)) ⌝ }
+    ensures { λ _. ⌜ now (out .exit) ≡ sets (now (out .entry)) 4 (contents (entryPlace count) (entriesFrom count 0 (now (words .entry)))) ⌝ }
 {
     let mut at = HEADER_BYTES + ENTRY_BYTES * count;
     let mut j = 0;

@@ -2,7 +2,7 @@
 ghost use mathlib.Core.Path.{_≡_};
 ghost use lib.ListN.{length};
 ghost use Rattle.packet_format.specs.Writing.{outputOf};
-ghost use Rattle.packet_words.specs.Words.{messagesIn, packed};
+ghost use Rattle.packet_words.specs.Words.{wordMessages, packed};
 use crate::contents::put_contents;
 use crate::output::put_all;
 use crate::output::put2;
@@ -17,7 +17,7 @@ use packet_question::ask;
 // A packet of the messages that the words hold, whose bodies stand end to end, written to the front of `out`.
 pub fn write(words: &[u32], bodies: &[u8], out: &mut [u8]) -> Written
     ensures answer { λ r. ⌜ r ≡ packed (now (words .entry)) (now (bodies .entry)) (length (now (out .entry))) ⌝ }
-    ensures output { λ r. ⌜ now (out .exit) ≡ outputOf r (messagesIn (now (words .entry))) (now (bodies .entry)) (now (out .entry)) ⌝ }
+    ensures output { λ r. ⌜ now (out .exit) ≡ outputOf r (wordMessages (now (words .entry))) (now (bodies .entry)) (now (out .entry)) ⌝ }
 {
     let count = packet_words::count_in(words.len());
     if count < 1 {

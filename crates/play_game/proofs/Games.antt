@@ -23,7 +23,7 @@ use Rattle.play_game.specs.declared.cluster.Cluster.{Cluster}
 use Rattle.play_game.specs.declared.turn.Done.{Done}
 use Rattle.play_game.specs.declared.game.Played.the-variants.{Printed, Refused}
 use Rattle.play_lines.specs.Print.{Put}
-use Rattle.play_game.specs.Play.{freshNode, freshGroup, reply, turn, turnOf, after, prints, begun, opened, printed, answerOf, outputOf}
+use Rattle.play_game.specs.Play.{freshNode, freshGroup, reply, turn, turnOf, after, prints, begun, opened, printed, playedAnswer, outputOf}
 use Rattle.play_log.specs.Log.{upTo, logOf}
 use Rattle.play_game.specs.Cluster.{noMember, nodeOf, groupOf, freshMember, freshCluster, Sound, whoOf, lineResult, nodeBy, logBy, commit, DoneIs}
 use Rattle.play_game.proofs.Clusters.{node-at, group-set, log-is, log-length}
@@ -152,20 +152,20 @@ first-line (b ∷ input) end e =
 
 -- what is refused, and what is played
 module _ (input out : List ℕ) where
-  pub too-long : 65536 < length input → (Refused ≡ answerOf input (length out)) × (out ≡ outputOf input out)
-  unfolding answerOf outputOf
+  pub too-long : 65536 < length input → (Refused ≡ playedAnswer input (length out)) × (out ≡ outputOf input out)
+  unfolding playedAnswer outputOf
   too-long h = (rw (lt-leb (length input) 65536 h), rw (lt-leb (length input) 65536 h))
 
-  pub too-short : length input ≤ 65536 → length out < 25 * length input + 2 → (Refused ≡ answerOf input (length out)) × (out ≡ outputOf input out)
-  unfolding answerOf outputOf
+  pub too-short : length input ≤ 65536 → length out < 25 * length input + 2 → (Refused ≡ playedAnswer input (length out)) × (out ≡ outputOf input out)
+  unfolding playedAnswer outputOf
   too-short l h = (
     rw (le-leb (length input) 65536 l, lt-leb (25 * length input + 2) (length out) h),
     rw (le-leb (length input) 65536 l, lt-leb (25 * length input + 2) (length out) h),
   )
 
   pub all-played : length input ≤ 65536 → 25 * length input + 2 ≤ length out → (text : List ℕ) (to : ℕ) (out′ : List ℕ) → printed input ≡ text → Put text 0 out to out′
-      → (Printed to ≡ answerOf input (length out)) × (out′ ≡ outputOf input out)
-  unfolding answerOf outputOf
+      → (Printed to ≡ playedAnswer input (length out)) × (out′ ≡ outputOf input out)
+  unfolding playedAnswer outputOf
   all-played l h text to out′ e p =
       let q : to ≡ length (printed input) = p .end ∙ zero-add (length text) ∙ ap length (sym e) in (
         rw (le-leb (length input) 65536 l, le-leb (25 * length input + 2) (length out) h) (ap Printed q),

@@ -129,8 +129,8 @@ abbrev pub playable : List ℕ → ℕ → Bool
 playable input room = leb (length input) 65536 && leb (25 * length input + 2) room
 
 -- what `play` answers: how many bytes it printed, or a refusal where input or room are not as above
-unfoldable pub answerOf : List ℕ → ℕ → Played
-answerOf input room = cond (playable input room) (outcome.Printed (length (printed input))) outcome.Refused
+unfoldable pub playedAnswer : List ℕ → ℕ → Played
+playedAnswer input room = cond (playable input room) (outcome.Printed (length (printed input))) outcome.Refused
 
 -- the output after it: what is printed, then the bytes that were there; refused, all as it was
 unfoldable pub outputOf : List ℕ → List ℕ → List ℕ

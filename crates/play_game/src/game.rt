@@ -4,7 +4,7 @@ ghost use Prim.Native.Nat.{_+_, _*_, _≤_, _<_};
 ghost use lib.ListN.{length, drop};
 ghost use Rattle.play_script.specs.Text.{lines};
 ghost use Rattle.play_lines.specs.Print.{Put};
-ghost use Rattle.play_game.specs.Play.{freshGroup, prints, answerOf, outputOf};
+ghost use Rattle.play_game.specs.Play.{freshGroup, prints, playedAnswer, outputOf};
 use crate::cluster::Cluster;
 use crate::turn;
 use play_lines::LINE_MAX;
@@ -68,7 +68,7 @@ fn play_lines(
 
 // Plays a script: what it prints stands at the front of the output.
 pub fn play(input: &[u8], out: &mut [u8]) -> Played
-    ensures { λ r. ⌜ (r ≡ answerOf (now (input .entry)) (length (now (out .entry)))) × (now (out .exit) ≡ outputOf (now (input .entry)) (now (out .entry))) ⌝ }
+    ensures { λ r. ⌜ (r ≡ playedAnswer (now (input .entry)) (length (now (out .entry)))) × (now (out .exit) ≡ outputOf (now (input .entry)) (now (out .entry))) ⌝ }
 {
     if INPUT_MAX < input.len() {
         return Played::Refused;

@@ -15,7 +15,7 @@ use Rattle.hermes.specs.declared.message.Message.the-variants.{Inv, Ack, Val}
 use Rattle.hermes.specs.Run.{Logged, missing, found, find}
 use Rattle.play_log.specs.declared.memory.Envelope.{Envelope}
 use Rattle.packet_format.specs.Entry.{kindOf, timestampOf, messageOf}
-use Rattle.play_log.specs.Log.{encode, decode, decodeAll, Fits, kept, envelopeAt, hasPlace, Appended, loggedAt, upTo, logOf, Stored}
+use Rattle.play_log.specs.Log.{envelopeWords, decode, decodeAll, Fits, kept, envelopeAt, hasPlace, Appended, loggedAt, upTo, logOf, Stored}
 
 left-true : (a b : Bool) → a && b ≡ true → a ≡ true
 left-true true b h = refl
@@ -106,7 +106,7 @@ message-back (Inv t) = refl
 message-back (Ack t) = refl
 message-back (Val t) = refl
 
-decode-encode : (e : Envelope) → Fits e → decodeAll (encode e) ≡ e
+decode-encode : (e : Envelope) → Fits e → decodeAll (envelopeWords e) ≡ e
 decode-encode e f = λ i. record {
   sender = mod-eq-of-lt (f .sender) i;
   epoch = e .epoch;
@@ -150,18 +150,18 @@ six-stores words at a b c d e f h =
 
 module _ (heads bodies body : List ℕ) (n : ℕ) (e : Envelope) (fits : Fits e) (l : e .len ≡ length body) (room : n < 256) (s : Stored heads bodies n) where
   abbrev heads′ : List ℕ
-  heads′ = kept 6 heads n (encode e)
+  heads′ = kept 6 heads n (envelopeWords e)
 
   slots′ : length heads′ ≡ 1536
-  slots′ = length-paste heads (6 * n) (encode e) 6 (omega (arith, s .slots)) (omega arith) ∙ s .slots
+  slots′ = length-paste heads (6 * n) (envelopeWords e) 6 (omega (arith, s .slots)) (omega arith) ∙ s .slots
 
   old : (k : ℕ) → k < n → envelopeAt heads′ k ≡ envelopeAt heads k
   old k h =
-      sym (within heads′ k (omega (arith, slots′))) ∙ ap decodeAll (paste-front heads (encode e) (6 * n) 6 6 (6 * k) (omega arith) (omega (arith, s .slots)))
+      sym (within heads′ k (omega (arith, slots′))) ∙ ap decodeAll (paste-front heads (envelopeWords e) (6 * n) 6 6 (6 * k) (omega arith) (omega (arith, s .slots)))
       ∙ within heads k (omega (arith, s .slots))
 
   new : envelopeAt heads′ n ≡ e
-  new = sym (within heads′ n (omega (arith, slots′))) ∙ ap decodeAll (paste-same heads (encode e) (6 * n) (omega (arith, s .slots))) ∙ decode-encode e fits
+  new = sym (within heads′ n (omega (arith, slots′))) ∙ ap decodeAll (paste-same heads (envelopeWords e) (6 * n) (omega (arith, s .slots))) ∙ decode-encode e fits
 
   logged-old : (k : ℕ) → k < n → loggedAt heads′ (kept 192 bodies n body) k ≡ loggedAt heads bodies k
   logged-old k h = λ i. record {
@@ -224,7 +224,7 @@ module _ (heads bodies body : List ℕ) (n : ℕ) (e : Envelope) where
       no t = let z : _≡_ {A = ℕ} 0 1 = ap (λ (x : Bool). cond x 1 0) t in omega arith
 
   pub append-one : (b : Bool) → b ≡ hasPlace (length heads) (length bodies) n (length body) → not b ≡ false → (heads′ bodies′ : List ℕ)
-      → heads′ ≡ kept 6 heads n (encode e) → Fits e → bodies′ ≡ kept 192 bodies n body
+      → heads′ ≡ kept 6 heads n (envelopeWords e) → Fits e → bodies′ ≡ kept 192 bodies n body
       → Appended (hasPlace (length heads) (length bodies) n (length body)) heads bodies n e body (n + 1) heads′ bodies′
   append-one b q p heads′ bodies′ eh f eb =
       let z : hasPlace (length heads) (length bodies) n (length body) ≡ true = sym q ∙ not-false b p in rw z (record { count = refl; words = eh; bytes = eb; fits = λ t. f })

@@ -14,8 +14,8 @@ use Rattle.play_log.specs.declared.memory.Envelope.{Envelope}
 
 -- ---- a message as six words: kind, as in a packet, sender, epoch, version, tie-breaker, length of the body; any number is a kind
 
-abbrev pub encode : Envelope → List ℕ
-encode e = kindOf (e .message) ∷ e .sender ∷ e .epoch ∷ timestampOf (e .message) .version ∷ timestampOf (e .message) .tie ∷ e .len ∷ []
+abbrev pub envelopeWords : Envelope → List ℕ
+envelopeWords e = kindOf (e .message) ∷ e .sender ∷ e .epoch ∷ timestampOf (e .message) .version ∷ timestampOf (e .message) .tie ∷ e .len ∷ []
 
 -- any six words are an envelope
 abbrev pub decode : ℕ → ℕ → ℕ → ℕ → ℕ → ℕ → Envelope
@@ -51,7 +51,7 @@ hasPlace words bytes n len = ltb n (words / 6) && ltb n (bytes / 192) && leb len
 -- what appending message n comes to, by whether it has its place: how many messages are logged then, and the memory
 pub record Appended (place : Bool) (heads bodies : List ℕ) (n : ℕ) (e : Envelope) (body : List ℕ) (r : ℕ) (heads′ bodies′ : List ℕ) : Type 0 where
   pub count : r ≡ cond place (n + 1) n
-  pub words : heads′ ≡ cond place (kept 6 heads n (encode e)) heads
+  pub words : heads′ ≡ cond place (kept 6 heads n (envelopeWords e)) heads
   pub bytes : bodies′ ≡ cond place (kept 192 bodies n body) bodies
   pub fits : place ≡ true → Fits e
 

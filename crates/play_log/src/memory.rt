@@ -4,7 +4,7 @@ ghost use Prim.Native.Nat.{_+_, _*_, _≤_};
 ghost use lib.ListN.{length, take, drop};
 ghost use lib.Seq.{paste};
 ghost use Rattle.packet_format.specs.Entry.{kindOf, timestampOf, messageOf};
-ghost use Rattle.play_log.specs.Log.{decodeAll, envelopeAt, envelopeOf, encode, Fits, kept, hasPlace, Appended};
+ghost use Rattle.play_log.specs.Log.{decodeAll, envelopeAt, envelopeOf, envelopeWords, Fits, kept, hasPlace, Appended};
 use hermes::Header;
 use hermes::Message;
 use hermes::Record;
@@ -91,7 +91,7 @@ pub fn envelope_at(heads: &[u32], k: usize) -> Envelope
 // Message k's words are replaced.
 fn put_envelope(heads: &mut [u32], k: usize, e: Envelope)
     requires { ⌜ 6 * k + 6 ≤ length (now heads) ⌝ }
-    ensures { λ _. ⌜ (now (heads .exit) ≡ kept 6 (now (heads .entry)) k (encode e)) × Fits e ⌝ }
+    ensures { λ _. ⌜ (now (heads .exit) ≡ kept 6 (now (heads .entry)) k (envelopeWords e)) × Fits e ⌝ }
 {
     let at = WORDS * k;
     let m = e.message;

@@ -10,7 +10,7 @@ use borrow.Author.Tests.{lt-ltb, le-ltb, ltb-true, ltb-false, le-leb, lt-leb, le
 use lib.Dec.{T, ltb, leb, eqb}
 use lib.ListN.{length, drop, getD, drop-of-length-le, length-append}
 use lib.Seq.{drop-cons}
-use Rattle.play_numbers.specs.Number.{digits, decimal, isDigit, more, numberOf, Below}
+use Rattle.play_numbers.specs.Number.{digits, decimal, isDigit, more, wordNumber, Below}
 use Rattle.play_numbers.specs.declared.number.Number.{Number}
 use Rattle.play_numbers.specs.declared.number.Number.the-variants.{Value, NotANumber}
 
@@ -88,20 +88,20 @@ digit-range b h = go (leb 48 b) refl h
     go false e r = absurd (subst T (sym r) tt)
 
 module _ (limit : ℕ) (s : List ℕ) where
-  pub number-empty : length s < 1 → NotANumber ≡ numberOf limit s
-  unfolding numberOf
+  pub number-empty : length s < 1 → NotANumber ≡ wordNumber limit s
+  unfolding wordNumber
   number-empty h = simp (lt-leb _ _ h)
 
-  pub number-zero : 1 ≤ length s → getD s 0 0 ≡ 48 → 2 ≤ length s → NotANumber ≡ numberOf limit s
-  unfolding numberOf
+  pub number-zero : 1 ≤ length s → getD s 0 0 ≡ 48 → 2 ≤ length s → NotANumber ≡ wordNumber limit s
+  unfolding wordNumber
   number-zero h z l = simp (le-leb _ _ h, eq-eqb _ _ z, le-leb _ _ l)
 
-  pub number-one : 1 ≤ length s → getD s 0 0 ≡ 48 → length s < 2 → more limit 0 s ≡ numberOf limit s
-  unfolding numberOf
+  pub number-one : 1 ≤ length s → getD s 0 0 ≡ 48 → length s < 2 → more limit 0 s ≡ wordNumber limit s
+  unfolding wordNumber
   number-one h z l = simp (le-leb _ _ h, eq-eqb _ _ z, lt-leb _ _ l)
 
-  pub number-more : 1 ≤ length s → (getD s 0 0 ≡ 48 → ⊥) → more limit 0 s ≡ numberOf limit s
-  unfolding numberOf
+  pub number-more : 1 ≤ length s → (getD s 0 0 ≡ 48 → ⊥) → more limit 0 s ≡ wordNumber limit s
+  unfolding wordNumber
   number-more h z = simp (le-leb _ _ h, ne-eqb _ _ z)
 
 -- ---- a number that is read is below its limit
@@ -117,8 +117,8 @@ more-below limit v (b ∷ s) h = go (isDigit b) (ltb (v * 10 + (b - 48)) limit) 
     go true false q r = omega arith
     go false t q r = omega arith
 
-pub number-below : (limit : ℕ) (s : List ℕ) → 0 < limit → Below limit (numberOf limit s)
-unfolding numberOf
+pub number-below : (limit : ℕ) (s : List ℕ) → 0 < limit → Below limit (wordNumber limit s)
+unfolding wordNumber
 number-below limit s h = go (leb 1 (length s)) (eqb (getD s 0 0) 48 && leb 2 (length s))
   where
     go : (a b : Bool) → Below limit (cond a (cond b NotANumber (more limit 0 s)) NotANumber)
@@ -205,10 +205,10 @@ first-digit n b l =
     (λ n t b r l e. r (omega arith) (sym (head-append (decimal (n / 10)) ((48 + n % 10) ∷ []) (some (n / 10) (omega arith))) ∙ sym (ap (λ (x : List ℕ). getD x 0 0) (decimal-large n t b)) ∙ e))
     10 n (omega arith) b l
 
-pub printed-reads : (limit n : ℕ) → limit ≤ 2 ^ 32 → n < limit → numberOf limit (decimal n) ≡ Value n
+pub printed-reads : (limit n : ℕ) → limit ≤ 2 ^ 32 → n < limit → wordNumber limit (decimal n) ≡ Value n
 printed-reads limit n h l = go (eqb n 0) refl
   where
-    go : (t : Bool) → eqb n 0 ≡ t → numberOf limit (decimal n) ≡ Value n
+    go : (t : Bool) → eqb n 0 ≡ t → wordNumber limit (decimal n) ≡ Value n
     go true e = let z = eqb-true n 0 e in sym (number-one limit (decimal n) (some n (omega arith)) (zero-digit n z) (length-zero n z)) ∙ more-decimal limit n (omega arith) l
     go false e = sym (number-more limit (decimal n) (some n (omega arith)) (first-digit n (omega arith) (above n (eqb-false n 0 e)))) ∙ more-decimal limit n (omega arith) l
 
@@ -257,8 +257,8 @@ from-first limit n b (c ∷ s) h d z e false et = let r = digit-range b d in let
     long : suc (suc (length s)) < 2 → ⊥
     long l = omega arith
 
-pub read-printed : (limit n : ℕ) (s : List ℕ) → limit ≤ 2 ^ 32 → numberOf limit s ≡ Value n → s ≡ decimal n
-unfolding numberOf more
+pub read-printed : (limit n : ℕ) (s : List ℕ) → limit ≤ 2 ^ 32 → wordNumber limit s ≡ Value n → s ≡ decimal n
+unfolding wordNumber more
 read-printed limit n [] h e = let z : _≡_ {A = ℕ} 0 1 = cc in absurd (zero-one z)
 read-printed limit n (b ∷ s) h e = go (leb 1 (length (b ∷ s))) (eqb b 48) refl (leb 2 (length (b ∷ s))) refl (isDigit b) refl (ltb (0 * 10 + (b - 48)) limit) e
   where

@@ -26,8 +26,8 @@ more limit v (b ∷ bs) =
     cond (isDigit b && ltb (v * 10 + (b - 48)) limit) (more limit (v * 10 + (b - 48)) bs) NotANumber
 
 -- 01, "a number has no leading zero and fits its width": a whole word as a number below the limit
-unfoldable pub numberOf : ℕ → List ℕ → Number
-numberOf limit s =
+unfoldable pub wordNumber : ℕ → List ℕ → Number
+wordNumber limit s =
     cond (leb 1 (length s)) (cond (eqb (getD s 0 0) 48 && leb 2 (length s)) NotANumber (more limit 0 s)) NotANumber
 
 -- a number, if it is one, is below the limit

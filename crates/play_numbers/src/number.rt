@@ -1,7 +1,7 @@
 // Numbers in decimal.
 ghost use mathlib.Core.Path.{_≡_};
 ghost use Prim.Native.Nat.{_+_, _^_, _≤_};
-ghost use Rattle.play_numbers.specs.Number.{isDigit, more, numberOf};
+ghost use Rattle.play_numbers.specs.Number.{isDigit, more, wordNumber};
 
 // What a word is as a number.
 pub enum Number {
@@ -21,7 +21,7 @@ fn is_digit(b: u8) -> bool
 
 // The number that a whole word spells, at most `greatest` and with no leading zero.
 pub fn read(word: &[u8], greatest: u32) -> Number
-    ensures { λ r. ⌜ r ≡ numberOf (greatest + 1) (now (word .entry)) ⌝ }
+    ensures { λ r. ⌜ r ≡ wordNumber (greatest + 1) (now (word .entry)) ⌝ }
 {
     if word.len() < 1 {
         return Number::NotANumber;

@@ -12,7 +12,7 @@ use lib.ListN.{length, take, drop, getD, length-drop, drop-of-length-le}
 use lib.Seq.{drop-cons, take-all, take-length}
 use Rattle.bytes.specs.Bytes.{indexOf, slice}
 use Rattle.play_numbers.proofs.Numbers.{number-below}
-use Rattle.play_numbers.specs.Number.{numberOf, Below}
+use Rattle.play_numbers.specs.Number.{wordNumber, Below}
 use Rattle.play_script.specs.Text.{same}
 use Rattle.play_script.specs.Command.{spaced, wordOf, restOf, keywordOf, viewOf, operandsOf, entryOf, longerOf, argumentsOf, lineOf, sizeIn, sizeOf}
 use Rattle.play_numbers.specs.declared.number.Number.{Number}
@@ -85,21 +85,21 @@ module _ (s : List ℕ) (k : ℕ) (e : k ≡ 0 + indexOf 32 (slice 0 (length s) 
   unfolding operandsOf
   view-none h = rw (no-space h)
 
-  pub view-some : k < length s → (o : Operands) (x y : Number) → o ≡ viewOf x y → x ≡ numberOf 4294967296 (take k s)
-      → y ≡ numberOf 65536 (take (length s - (k + 1)) (drop (k + 1) s)) → o ≡ operandsOf View s
+  pub view-some : k < length s → (o : Operands) (x y : Number) → o ≡ viewOf x y → x ≡ wordNumber 4294967296 (take k s)
+      → y ≡ wordNumber 65536 (take (length s - (k + 1)) (drop (k + 1) s)) → o ≡ operandsOf View s
   unfolding operandsOf
   view-some h o x y eo ex ey =
-      rw (one-space h) (eo ∙ (λ i. viewOf ((ex ∙ ap (numberOf 4294967296) word-is) i) ((ey ∙ ap (numberOf 65536) rest-is) i)))
+      rw (one-space h) (eo ∙ (λ i. viewOf ((ex ∙ ap (wordNumber 4294967296) word-is) i) ((ey ∙ ap (wordNumber 65536) rest-is) i)))
 
   pub longer-none : (w : Keyword) → length s ≤ k → Unknown ≡ longerOf w s
   unfolding longerOf
   longer-none w h = rw (no-space h)
 
-  pub longer-some : (w : Keyword) → k < length s → (l : Line) (x : Number) (o : Operands) → l ≡ entryOf x o → x ≡ numberOf 16 (take k s)
+  pub longer-some : (w : Keyword) → k < length s → (l : Line) (x : Number) (o : Operands) → l ≡ entryOf x o → x ≡ wordNumber 16 (take k s)
       → o ≡ operandsOf w (take (length s - (k + 1)) (drop (k + 1) s)) → l ≡ longerOf w s
   unfolding longerOf
   longer-some w h l x o el ex eo =
-      rw (one-space h) (el ∙ (λ i. entryOf ((ex ∙ ap (numberOf 16) word-is) i) ((eo ∙ ap (operandsOf w) rest-is) i)))
+      rw (one-space h) (el ∙ (λ i. entryOf ((ex ∙ ap (wordNumber 16) word-is) i) ((eo ∙ ap (operandsOf w) rest-is) i)))
 
   pub line-none : length s ≤ k → Unknown ≡ lineOf s
   unfolding lineOf
@@ -119,9 +119,9 @@ module _ (s : List ℕ) (k : ℕ) (e : k ≡ 0 + indexOf 32 (slice 0 (length s) 
   size-other t h e f = rw (one-space h, ← word-is, ← e, f)
 
   pub size-some : (t : Bool) → k < length s → t ≡ same (take k s) (103 ∷ 114 ∷ 111 ∷ 117 ∷ 112 ∷ []) → t ≡ true → (z : Size) (x : Number) → z ≡ sizeIn x
-      → x ≡ numberOf 5 (take (length s - (k + 1)) (drop (k + 1) s)) → z ≡ sizeOf s
+      → x ≡ wordNumber 5 (take (length s - (k + 1)) (drop (k + 1) s)) → z ≡ sizeOf s
   unfolding sizeOf
-  size-some t h e f z x ez ex = rw (one-space h, ← word-is, ← e, f) (ez ∙ ap sizeIn (ex ∙ ap (numberOf 5) rest-is))
+  size-some t h e f z x ez ex = rw (one-space h, ← word-is, ← e, f) (ez ∙ ap sizeIn (ex ∙ ap (wordNumber 5) rest-is))
 
 -- ---- line one gives no more than four laptops
 
@@ -137,8 +137,8 @@ pub size-few : (s : List ℕ) (n : ℕ) → sizeOf s ≡ size.Of n → n < 5
 unfolding sizeOf
 size-few s n e = go (spaced s && same (wordOf s) (103 ∷ 114 ∷ 111 ∷ 117 ∷ 112 ∷ [])) e
   where
-    go : (t : Bool) → cond t (sizeIn (numberOf 5 (restOf s))) size.Wrong ≡ size.Of n → n < 5
-    go true e = in-few (numberOf 5 (restOf s)) n (number-below 5 (restOf s) (omega arith)) e
+    go : (t : Bool) → cond t (sizeIn (wordNumber 5 (restOf s))) size.Wrong ≡ size.Of n → n < 5
+    go true e = in-few (wordNumber 5 (restOf s)) n (number-below 5 (restOf s) (omega arith)) e
     go false e = let z : _≡_ {A = ℕ} 0 1 = cc in omega arith
 
 -- the empty line is no line one

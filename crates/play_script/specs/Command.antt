@@ -5,7 +5,7 @@ use mathlib.Core.List.{List, [], _∷_}
 use lib.ListN.{length, take, drop}
 use lib.Dec.{ltb, leb}
 use Rattle.bytes.specs.Bytes.{indexOf}
-use Rattle.play_numbers.specs.Number.{numberOf}
+use Rattle.play_numbers.specs.Number.{wordNumber}
 use Rattle.play_script.specs.Text.{same}
 use Rattle.play_numbers.specs.declared.number.Number.{Number}
 use Rattle.play_numbers.specs.declared.number.Number.the-variants.{Value, NotANumber}
@@ -64,8 +64,8 @@ viewOf NotANumber set = Wrong
 unfoldable pub operandsOf : Keyword → List ℕ → Operands
 operandsOf (Bare c) s = Wrong
 operandsOf Write s = Given command.Write
-operandsOf Deliver s = deliverOf (numberOf 256 s)
-operandsOf View s = cond (spaced s) (viewOf (numberOf 4294967296 (wordOf s)) (numberOf 65536 (restOf s))) Wrong
+operandsOf Deliver s = deliverOf (wordNumber 256 s)
+operandsOf View s = cond (spaced s) (viewOf (wordNumber 4294967296 (wordOf s)) (wordNumber 65536 (restOf s))) Wrong
 operandsOf Unknown s = Wrong
 
 -- ---- the whole line
@@ -78,11 +78,11 @@ entryOf NotANumber o = line.Unknown
 
 -- a laptop's number, which is below 16, and operands
 unfoldable pub longerOf : Keyword → List ℕ → Line
-longerOf k s = cond (spaced s) (entryOf (numberOf 16 (wordOf s)) (operandsOf k (restOf s))) line.Unknown
+longerOf k s = cond (spaced s) (entryOf (wordNumber 16 (wordOf s)) (operandsOf k (restOf s))) line.Unknown
 
 -- what stands behind the first word
 unfoldable pub argumentsOf : Keyword → List ℕ → Line
-argumentsOf (Bare c) s = entryOf (numberOf 16 s) (Given c)
+argumentsOf (Bare c) s = entryOf (wordNumber 16 s) (Given c)
 argumentsOf Write s = longerOf Write s
 argumentsOf Deliver s = longerOf Deliver s
 argumentsOf View s = longerOf View s
@@ -104,4 +104,4 @@ sizeIn NotANumber = size.Wrong
 
 -- 01, "Line one is `group` and 2 to 4"
 unfoldable pub sizeOf : List ℕ → Size
-sizeOf s = cond (spaced s && same (wordOf s) (103 ∷ 114 ∷ 111 ∷ 117 ∷ 112 ∷ [])) (sizeIn (numberOf 5 (restOf s))) size.Wrong
+sizeOf s = cond (spaced s && same (wordOf s) (103 ∷ 114 ∷ 111 ∷ 117 ∷ 112 ∷ [])) (sizeIn (wordNumber 5 (restOf s))) size.Wrong

@@ -7,8 +7,8 @@ use borrow.Author.Needs.{needs}
 use Rattle.export_events.proofs.events.cetskobi_read.Statement.{statement}
 use Rattle.export_events.proofs.events.cetskobi_read.Tie as tie
 
-find-requires : tie.Need-find-requires
-find-requires c κs = search needs
+found-at-requires : tie.Need-found-at-requires
+found-at-requires c κs = search needs
 
 enum-known-found : tie.Need-enum-known-found
 enum-known-found c = search needs
@@ -20,7 +20,7 @@ missed-requires : tie.Need-missed-requires
 missed-requires c κs = search needs
 
 returns : tie.Need-returns
-returns c = let v = c .before .before .before .before .before .before .args in missed-read (v .me) (v .table .now) (v .store .now) (v .i) (sym (c .before .before .before .find .ensures) ∙ c .before .enum-told .given .1) _ (c .missed .ensures)
+returns c = let v = c .before .before .before .before .before .before .args in missed-read (v .me) (v .table .now) (v .store .now) (v .i) (sym (c .before .before .before .found-at .ensures) ∙ c .before .enum-told .given .1) _ (c .missed .ensures)
 
 replica-of-requires : tie.Need-replica-of-requires
 replica-of-requires c κs = search needs
@@ -35,19 +35,19 @@ number-out-requires : tie.Need-number-out-requires
 number-out-requires c κs = search needs
 
 returns-2 : tie.Need-returns-2
-returns-2 c = let v = c .before .before .before .before .before .before .before .before .before .before .before .args in read-refused (v .me) (v .table .now) (v .i) _ _ _ (taken-here (v .me) (v .table .now) (v .i) _ _ _ _ (c .before .before .before .before .replica-of .ensures) (c .before .before .before .count .ensures) (c .before .before .before .before .before .before .before .before .find .ensures) (c .before .before .before .before .before .before .found .given .1)) (v .store .now) _ _ (c .before .before .read-number .ensures) (c .before .number-out .ensures) (omega (arith, c .if1 .taken))
+returns-2 c = let v = c .before .before .before .before .before .before .before .before .before .before .before .args in read-refused (v .me) (v .table .now) (v .i) _ _ _ (taken-here (v .me) (v .table .now) (v .i) _ _ _ _ (c .before .before .before .before .replica-of .ensures) (c .before .before .before .count .ensures) (c .before .before .before .before .before .before .before .before .found-at .ensures) (c .before .before .before .before .before .before .found .given .1)) (v .store .now) _ _ (c .before .before .read-number .ensures) (c .before .number-out .ensures) (omega (arith, c .if1 .taken))
 
 cast-t14 : tie.Need-cast-t14
 cast-t14 c = search needs
 
 returns-3 : tie.Need-returns-3
-returns-3 c = let v = c .before .before .before .before .before .before .before .before .before .before .before .before .args in read-accepted (v .me) (v .table .now) (v .i) _ _ _ (taken-here (v .me) (v .table .now) (v .i) _ _ _ _ (c .before .before .before .before .before .replica-of .ensures) (c .before .before .before .before .count .ensures) (c .before .before .before .before .before .before .before .before .before .find .ensures) (c .before .before .before .before .before .before .before .found .given .1)) (v .store .now) _ _ (c .before .before .before .read-number .ensures) (c .before .before .number-out .ensures) (omega (arith, c .before .if1 .left))
+returns-3 c = let v = c .before .before .before .before .before .before .before .before .before .before .before .before .args in read-accepted (v .me) (v .table .now) (v .i) _ _ _ (taken-here (v .me) (v .table .now) (v .i) _ _ _ _ (c .before .before .before .before .before .replica-of .ensures) (c .before .before .before .before .count .ensures) (c .before .before .before .before .before .before .before .before .before .found-at .ensures) (c .before .before .before .before .before .before .before .found .given .1)) (v .store .now) _ _ (c .before .before .before .read-number .ensures) (c .before .before .number-out .ensures) (omega (arith, c .before .if1 .left))
 
 pub cetskobi-read-spec : {M : Type 1} → statement M
 cetskobi-read-spec =
     tie.close
     (tie.spec
-    find-requires
+    found-at-requires
     enum-known-found
     enum-told
     missed-requires

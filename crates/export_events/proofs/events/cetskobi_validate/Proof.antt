@@ -10,8 +10,8 @@ use borrow.Author.Needs.{needs}
 use Rattle.export_events.proofs.events.cetskobi_validate.Statement.{statement}
 use Rattle.export_events.proofs.events.cetskobi_validate.Tie as tie
 
-find-requires : tie.Need-find-requires
-find-requires c κs = search needs
+found-at-requires : tie.Need-found-at-requires
+found-at-requires c κs = search needs
 
 enum-known-found : tie.Need-enum-known-found
 enum-known-found c = search needs
@@ -26,7 +26,7 @@ same-length : tie.Need-same-length
 same-length c = search needs
 
 returns : tie.Need-returns
-returns c = let v = c .before .before .before .before .before .before .before .args in missed-done (v .me) (v .table .now) (v .store .now) (v .i) (sym (c .before .before .before .find .ensures) ∙ c .before .enum-told .given .1) event.Validate [] _ (c .missed .ensures)
+returns c = let v = c .before .before .before .before .before .before .before .args in missed-done (v .me) (v .table .now) (v .store .now) (v .i) (sym (c .before .before .before .found-at .ensures) ∙ c .before .enum-told .given .1) event.Validate [] _ (c .missed .ensures)
 
 replica-of-requires : tie.Need-replica-of-requires
 replica-of-requires c κs = search needs
@@ -44,13 +44,13 @@ same-length-2 : tie.Need-same-length-2
 same-length-2 c = search needs
 
 returns-2 : tie.Need-returns-2
-returns-2 c = let v = c .before .before .before .before .before .before .before .before .before .before .before .before .before .before .args in done-quiet (v .me) (v .table .now) (v .i) _ _ _ (taken-here (v .me) (v .table .now) (v .i) _ _ _ _ (c .before .before .before .before .before .before .replica-of .ensures) (c .before .before .before .before .before .count .ensures) (c .before .before .before .before .before .before .before .before .before .before .find .ensures) (c .before .before .before .before .before .before .before .before .found .given .1)) (v .store .now) event.Validate _ _ _ (quiet higher _ _ _ _ _ event.Validate [] tt) (c .before .before .before .before .validate .ensures) (c .before .before .finish .ensures)
+returns-2 c = let v = c .before .before .before .before .before .before .before .before .before .before .before .before .before .before .args in done-quiet (v .me) (v .table .now) (v .i) _ _ _ (taken-here (v .me) (v .table .now) (v .i) _ _ _ _ (c .before .before .before .before .before .before .replica-of .ensures) (c .before .before .before .before .before .count .ensures) (c .before .before .before .before .before .before .before .before .before .before .found-at .ensures) (c .before .before .before .before .before .before .before .before .found .given .1)) (v .store .now) event.Validate _ _ _ (quiet higher _ _ _ _ _ event.Validate [] tt) (c .before .before .before .before .validate .ensures) (c .before .before .finish .ensures)
 
 pub cetskobi-validate-spec : {M : Type 1} → statement M
 cetskobi-validate-spec =
     tie.close
     (tie.spec
-    find-requires
+    found-at-requires
     enum-known-found
     enum-told
     missed-requires

@@ -7,7 +7,7 @@ use native.Mathlib.Omega.{arith}
 use borrow.Author.Needs.{needs}
 use borrow.Author.Tests.{not-true, not-false}
 use lib.ListN.{length, drop, length-drop}
-use Rattle.packet_format.specs.Reading.{walk, entryAt}
+use Rattle.packet_format.specs.Reading.{walk, entryPlace}
 use Rattle.packet_format.proofs.Reading.{part-to-end, turn, Walked, walked-all}
 use Rattle.packet_reader.proofs.reader.table_good.Statement.{statement}
 use Rattle.packet_reader.proofs.reader.table_good.Tie as tie
@@ -32,7 +32,7 @@ loop-holds c =
       below = omega arith;
       place = refl;
       small = omega arith;
-      rest = ap (λ (x : ℕ). walk x (drop 4 p) (entryAt n) (length p)) (sym (sub-zero n));
+      rest = ap (λ (x : ℕ). walk x (drop 4 p) (entryPlace n) (length p)) (sym (sub-zero n));
     }
 
 sub-fields-of : tie.Need-sub-fields-of Inv-loop μ-loop

@@ -1,7 +1,7 @@
 -- The loop's invariant: which entries stand from byte 4 on, and where the next body begins.
 use Prim.Native.Nat.{_-_, _*_}
 use native.Mathlib.Omega.{arith}
-use Rattle.packet_format.specs.Reading.{entryAt}
+use Rattle.packet_format.specs.Reading.{entryPlace}
 use Rattle.packet_format.proofs.Entries.{good-parts}
 use Rattle.packet_words.specs.Words.{fieldsAt, entriesFrom}
 use Rattle.packet_writer.proofs.Messages.{good-words, Stored, stored-none, stored-more, stored-all}
@@ -9,7 +9,7 @@ use Rattle.packet_writer.proofs.contents.put_contents.Statement.{statem
 use Rattle.packet_writer.proofs.contents.put_contents.Tie as tie
 
 abbrev Inv-loop : tie.InvT-loop
-Inv-loop out₀ words count at₀ j₀ out at j = Stored out₀ (entriesFrom count 0 words) (entryAt count) out at j
+Inv-loop out₀ words count at₀ j₀ out at j = Stored out₀ (entriesFrom count 0 words) (entryPlace count) out at j
 
 abbrev μ-loop : tie.MeasureT-loop
 μ-loop out₀ words count at₀ j₀ out at j = count - j

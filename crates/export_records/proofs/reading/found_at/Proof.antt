@@ -1,4 +1,4 @@
--- `export_records::reading::find` meets its contract.
+-- `export_records::reading::found_at` meets its contract.
 use Rattle.export_records.specs.declared.reading.Found.the-variants.{Here}
 use Rattle.export_records.proofs.Lent.{record-in, inside}
 use mathlib.Core.Path.{sym, ap, _∙_}
@@ -6,8 +6,8 @@ use native.Mathlib.Omega.{arith}
 use lib.ListN.{length}
 use borrow.Author.Tests.{lt-ltb, le-ltb}
 use borrow.Author.Needs.{needs}
-use Rattle.export_records.proofs.reading.find.Statement.{statement}
-use Rattle.export_records.proofs.reading.find.Tie as tie
+use Rattle.export_records.proofs.reading.found_at.Statement.{statement}
+use Rattle.export_records.proofs.reading.found_at.Tie as tie
 
 count-requires : tie.Need-count-requires
 count-requires c κs = search needs
@@ -32,8 +32,8 @@ record-in-requires c κs = inside _ _ (rw (c .before .before .before .count .ens
 returns-3 : tie.Need-returns-3
 returns-3 c = let l = rw (c .before .before .before .before .count .ensures) at (c .before .before .before .if1 .left) in simp (lt-ltb _ _ l, le-ltb _ _ (c .before .if2 .left)) (ap Here (c .record-in .ensures ∙ sym (record-in _ _ l)))
 
-pub find-spec : {M : Type 1} → statement M
-find-spec =
+pub found-at-spec : {M : Type 1} → statement M
+found-at-spec =
     tie.close
     (tie.spec
     count-requires
