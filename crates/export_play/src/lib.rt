@@ -1,5 +1,5 @@
-// The playing program on one script, for C and Rust: an archive of its own, so that `replica_events::deliver` has one caller in the engine's
-// and the compiler inlines it.
+// The playing program on one script, for C and Rust: a member of its own, so that what it calls has one caller in the other members and is
+// inlined there.
 ghost use mathlib.Core.Path.{_≡_};
 ghost use lib.ListN.{length};
 ghost use Rattle.play_game.specs.Play.{playedAnswer, outputOf};
