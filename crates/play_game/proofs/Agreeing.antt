@@ -21,7 +21,8 @@ use Rattle.play_script.specs.declared.command.Command.{Command}
 use Rattle.play_script.specs.declared.command.Command.the-variants.{Read, Write, Replay, Deliver, Validate, Resend, View}
 use Rattle.play_script.specs.declared.command.Line.{Line}
 use Rattle.play_script.specs.declared.command.Line.the-variants as line
-use Rattle.play_game.specs.Play.{freshNode, freshGroup, hasRoom, played, reply, unknown, actionOf, entryTurn, turnOf, turn, after, entriesOf}
+use Rattle.play_member.specs.Member.{hasRoom}
+use Rattle.play_game.specs.Play.{freshNode, freshGroup, played, reply, unknown, actionOf, entryTurn, turnOf, turn, after, entriesOf}
 use Rattle.play_game.specs.Agreed.{Issued, OfLine, OneViewEach, playedOn, PlayedIsRun, PlayedAgrees}
 
 -- ---- the run

@@ -10,11 +10,12 @@ use lib.Dec.{lit<, ltb, eqb}
 use lib.Pow.{shl-exact, pow-pos}
 use lib.ListN.{length, getD, set}
 use lib.Seq.{getD-set-same, getD-set-other}
-use Rattle.play_game.specs.declared.cluster.Member.{Member}
+use Rattle.play_member.specs.declared.member.Member.{Member}
 use Rattle.play_game.specs.declared.cluster.Cluster.{Cluster}
 use Rattle.play_game.specs.Play.{freshNode}
 use Rattle.play_log.specs.Log.{logOf}
-use Rattle.play_game.specs.Cluster.{noMember, nodeOf, groupOf, freshIn, freshCluster}
+use Rattle.play_member.specs.Member.{nodeOf, freshIn}
+use Rattle.play_game.specs.Cluster.{noMember, groupOf, freshCluster}
 use Rattle.play_log.proofs.Logs.{length-log}
 
 -- ---- the fresh cluster

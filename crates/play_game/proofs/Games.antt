@@ -18,14 +18,15 @@ use Rattle.play_script.proofs.Lines.{lines-step}
 use Rattle.play_script.proofs.Words.{find-is, size-empty}
 use Rattle.hermes.specs.Order.{higher}
 use Rattle.hermes.specs.Run.{Group, run}
-use Rattle.play_game.specs.declared.cluster.Member.{Member}
+use Rattle.play_member.specs.declared.member.Member.{Member}
 use Rattle.play_game.specs.declared.cluster.Cluster.{Cluster}
 use Rattle.play_game.specs.declared.turn.Done.{Done}
 use Rattle.play_game.specs.declared.game.Played.the-variants.{Printed, Refused}
 use Rattle.play_lines.specs.Print.{Put}
 use Rattle.play_game.specs.Play.{freshNode, freshGroup, reply, turn, turnOf, after, prints, begun, opened, printed, playedAnswer, outputOf}
 use Rattle.play_log.specs.Log.{upTo, logOf}
-use Rattle.play_game.specs.Cluster.{noMember, nodeOf, groupOf, freshMember, freshCluster, Sound, whoOf, lineResult, nodeBy, logBy, commit, DoneIs}
+use Rattle.play_member.specs.Member.{nodeOf}
+use Rattle.play_game.specs.Cluster.{noMember, groupOf, freshMember, freshCluster, Sound, whoOf, lineResult, nodeBy, logBy, commit, DoneIs}
 use Rattle.play_game.proofs.Clusters.{node-at, group-set, log-is, log-length}
 use Rattle.play_game.proofs.Turns.{line-group, line-text}
 use Rattle.play_lines.proofs.Printing.{sets-append-at}

@@ -14,18 +14,15 @@ use Rattle.hermes.specs.Run.{Logged, Group, Result, nothing, event, perform, lo
 use Rattle.play_script.specs.Command.{textOf}
 use Rattle.play_script.specs.declared.command.Line.{Line}
 use Rattle.play_script.specs.declared.command.Line.the-variants as line
-use Rattle.play_game.specs.declared.cluster.Member.{Member}
+use Rattle.play_member.specs.Member.{nodeOf, freshIn, hasRoom}
+use Rattle.play_member.specs.declared.member.Member.{Member}
 use Rattle.play_game.specs.declared.cluster.Cluster.{Cluster}
-use Rattle.play_game.specs.declared.turn.Judged.{Judged}
 use Rattle.play_game.specs.declared.turn.Done.{Done}
 use Rattle.play_lines.specs.Print.{Put}
-use Rattle.play_game.specs.Play.{freshNode, hasRoom, reply, actionOf}
+use Rattle.play_game.specs.Play.{freshNode, reply, actionOf}
 use Rattle.play_log.specs.Log.{logOf, Stored}
 
 -- ---- a group
-
-abbrev pub nodeOf : Member → Node
-nodeOf m = record { me = m .me; table = m .held ∷ []; store = m .store }
 
 -- what an index past the end of the members stands for
 abbrev pub noMember : Member
@@ -38,10 +35,7 @@ groupOf c heads bodies = record {
   log = logOf heads bodies (c .sent);
 }
 
--- replica k of a group whose first view is this set
-abbrev pub freshIn : ℕ → ℕ → Member
-freshIn view k = record { me = newcomer k view; held = freshRecord 0; store = replicate 192 0 }
-
+-- member k of n, just started
 abbrev pub freshMember : ℕ → ℕ → Member
 freshMember n k = freshIn (2 ^ n - 1) k
 
@@ -69,10 +63,6 @@ whoOf n line.Unknown = 0
 abbrev pub lineResult : ℕ → List ℕ → Line → List Logged → Node → Result
 lineResult n s (line.Entry who c) log node = cond (ltb who n) (perform higher (actionOf c (textOf s)) log node) nothing
 lineResult n s line.Unknown log node = nothing
-
--- what an entry came to
-abbrev pub resultOf : Judged → Result
-resultOf j = cond (j .known) (event (record { answer = j .answer; node = nodeOf (j .member) })) nothing
 
 -- the replica after an entry that came to this; an event counts where the log has room for what leaves it
 abbrev pub nodeBy : ℕ → Result → Node → Node

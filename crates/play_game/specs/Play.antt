@@ -1,6 +1,6 @@
 -- The playing program (01): a script is played on the run of a group that agreement is proved of.
 use Prim.Native.Nat.{ℕ, _+_, _-_, _*_, _^_}
-use mathlib.Core.Bool.{Bool, true, cond, _&&_}
+use mathlib.Core.Bool.{Bool, cond, _&&_}
 use mathlib.Core.List.{List, [], _∷_, _++_}
 use lib.ListN.{length, replicate}
 use lib.Dec.{ltb, leb}
@@ -20,6 +20,7 @@ use Rattle.play_script.specs.declared.command.Line.{Line}
 use Rattle.play_script.specs.declared.command.Line.the-variants as line
 use Rattle.play_script.specs.declared.line.Size.{Size}
 use Rattle.play_script.specs.declared.line.Size.the-variants.{Of, Wrong}
+use Rattle.play_member.specs.Member.{hasRoom}
 use Rattle.play_lines.specs.declared.print.Left.{Left}
 use Rattle.play_lines.specs.declared.print.Left.the-variants as left
 use Rattle.play_game.specs.declared.game.Played.{Played}
@@ -45,11 +46,6 @@ pub record Turn : Type 0 where
 -- 01, "prints `?` and does nothing"
 abbrev pub unknown : Turn
 unknown = record { entries = []; text = unknownLine }
-
--- 01, "the log holds 256"
-abbrev pub hasRoom : ℕ → Outgoing → Bool
-hasRoom sent None = true
-hasRoom sent (Sent m h) = ltb sent 256
 
 -- 01, "log number of the message that left": they start at 0
 abbrev pub logNumber : ℕ → Outgoing → Left

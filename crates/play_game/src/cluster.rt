@@ -1,39 +1,14 @@
 // The group in play, by value: its members, and how many messages have left.
 ghost use mathlib.Core.Path.{_≡_};
 ghost use Prim.Native.Nat.{_<_};
-ghost use Rattle.play_game.specs.Cluster.{freshIn, freshCluster};
-use hermes::Record;
-use hermes::Replica;
-
-// A replica of one record, with its store.
-pub struct Member {
-    pub me: Replica,
-    pub held: Record,
-    pub store: [u8; 192],
-}
+ghost use Rattle.play_game.specs.Cluster.{freshCluster};
+use play_member::Member;
 
 // `count` members are in play; `sent` messages have left. The log of these stands in lent memory.
 pub struct Cluster {
     pub count: usize,
     pub members: [Member; 4],
     pub sent: usize,
-}
-
-impl Member {
-    // Replica k of a group whose view is this set, just started.
-    fn fresh(k: u8, view: u16) -> Member
-        ensures { λ r. ⌜ r ≡ freshIn view k ⌝ }
-    {
-        Member {
-            me: Replica {
-                number: k,
-                epoch: 0,
-                view: view,
-            },
-            held: Record::fresh(0),
-            store: [0; 192],
-        }
-    }
 }
 
 impl Cluster {

@@ -4,33 +4,23 @@ ghost use mathlib.Core.Bool.{true};
 ghost use Prim.Native.Nat.{_+_, _≤_, _<_};
 ghost use lib.ListN.{length};
 ghost use Rattle.hermes.specs.Order.{higher};
-ghost use Rattle.hermes.specs.Event.{numberOf, sentBy};
-ghost use Rattle.hermes.specs.Node.{indexOf, apply, viewed};
-ghost use Rattle.hermes.specs.Run.{nothing, event, find, delivery, perform, logged};
+ghost use Rattle.hermes.specs.Event.{sentBy};
+ghost use Rattle.hermes.specs.Node.{indexOf};
+ghost use Rattle.hermes.specs.Run.{find, delivery, perform, logged};
 ghost use Rattle.play_script.specs.Command.{textOf};
-ghost use Rattle.play_game.specs.Play.{hasRoom, logNumber, actionOf};
+ghost use Rattle.play_member.specs.Member.{nodeOf, resultOf, hasRoom};
+ghost use Rattle.play_game.specs.Play.{logNumber, actionOf};
 ghost use Rattle.play_log.specs.Log.{logOf, Stored};
-ghost use Rattle.play_game.specs.Cluster.{nodeOf, whoOf, lineResult, resultOf, DoneIs};
-use crate::cluster::Member;
-use hermes::Admission;
-use hermes::Answer;
+ghost use Rattle.play_game.specs.Cluster.{whoOf, lineResult, DoneIs};
 use hermes::Event;
 use hermes::Outgoing;
 use hermes::Received;
 use hermes::Record;
 use play_lines::Left;
+use play_member::Judged;
+use play_member::Member;
 use play_script::Command;
 use play_script::Line;
-
-// The most messages of the log.
-const MESSAGES_MAX: usize = 256;
-
-// What an entry came to: its answer, and the member after it. Where it is not known, there was no event.
-pub struct Judged {
-    pub known: bool,
-    pub answer: Answer,
-    pub member: Member,
-}
 
 // The member after a line, how many messages have left, and the index in the output after what it printed.
 pub struct Done {
@@ -39,45 +29,13 @@ pub struct Done {
     pub at: usize,
 }
 
-// An event on the member's record, with the value's bytes.
-fn apply(m: Member, e: Event, value: &[u8]) -> Judged
-    ensures { λ j. ⌜ (resultOf j ≡ event (apply higher (nodeOf m) 0 e (now (value .entry)))) × (indexOf (sentBy (j .answer)) ≡ 0) ⌝ }
-{
-    let me = m.me;
-    let held = m.held;
-    let mut store = m.store;
-    let moved = replica_events::step(me, 1, 0, held, &mut store, e, value);
-    let answer = moved.answer;
-    let after = moved.after;
-    Judged {
-        known: true,
-        answer: answer,
-        member: Member {
-            me: me,
-            held: after,
-            store: store,
-        },
-    }
-}
-
-// An entry that does nothing.
-fn idle(m: Member) -> Judged
-    ensures { λ j. ⌜ (resultOf j ≡ nothing) × (indexOf (sentBy (j .answer)) ≡ 0) ⌝ }
-{
-    Judged {
-        known: false,
-        answer: Answer::Refused(0),
-        member: m,
-    }
-}
-
 // Message k is delivered.
 fn deliver(m: Member, heads: &[u32], bodies: &[u8], sent: usize, k: usize) -> Judged
     requires { ⌜ Stored (now heads) (now bodies) sent ⌝ }
     ensures { λ j. ⌜ (resultOf j ≡ delivery higher (find (logOf (now (heads .entry)) (now (bodies .entry)) sent) k) (nodeOf m)) × (indexOf (sentBy (j .answer)) ≡ 0) ⌝ }
 {
     if sent <= k {
-        return idle(m);
+        return play_member::idle(m);
     }
     let e = play_log::envelope_at(heads, k);
     let message = e.message;
@@ -88,33 +46,7 @@ fn deliver(m: Member, heads: &[u32], bodies: &[u8], sent: usize, k: usize) -> Ju
         epoch: e.epoch,
         message: message,
     };
-    apply(m, Event::Deliver(received), &bodies[at..end])
-}
-
-// An epoch and its view.
-fn view(m: Member, epoch: u32, set: u16) -> Judged
-    ensures { λ j. ⌜ (resultOf j ≡ event (viewed (nodeOf m) epoch set)) × (indexOf (sentBy (j .answer)) ≡ 0) ⌝ }
-{
-    let me = m.me;
-    let held = m.held;
-    let store = m.store;
-    let a = replica_membership::view(me, epoch, set);
-    match a {
-        Admission::Admitted(next) => Judged {
-            known: true,
-            answer: Answer::Accepted(Outgoing::None),
-            member: Member {
-                me: next,
-                held: held,
-                store: store,
-            },
-        },
-        Admission::Refused(k) => Judged {
-            known: true,
-            answer: Answer::Refused(k),
-            member: m,
-        },
-    }
+    play_member::apply(m, Event::Deliver(received), &bodies[at..end])
 }
 
 // What a command comes to at a member.
@@ -131,13 +63,13 @@ fn perform(
         × (indexOf (sentBy (j .answer)) ≡ 0) ⌝ }
 {
     match what {
-        Command::Read => apply(m, Event::Read, &line[..0]),
-        Command::Write => apply(m, Event::Write, play_script::text(line)),
-        Command::Replay => apply(m, Event::Replay, &line[..0]),
+        Command::Read => play_member::apply(m, Event::Read, &line[..0]),
+        Command::Write => play_member::apply(m, Event::Write, play_script::text(line)),
+        Command::Replay => play_member::apply(m, Event::Replay, &line[..0]),
         Command::Deliver(k) => deliver(m, heads, bodies, sent, k),
-        Command::Validate => apply(m, Event::Validate, &line[..0]),
-        Command::Resend => apply(m, Event::Resend, &line[..0]),
-        Command::View(epoch, set) => view(m, epoch, set),
+        Command::Validate => play_member::apply(m, Event::Validate, &line[..0]),
+        Command::Resend => play_member::apply(m, Event::Resend, &line[..0]),
+        Command::View(epoch, set) => play_member::view(m, epoch, set),
     }
 }
 
@@ -156,42 +88,12 @@ fn judge(
         × (indexOf (sentBy (j .answer)) ≡ 0) ⌝ }
 {
     let Line::Entry(k, what) = asked else {
-        return idle(m);
+        return play_member::idle(m);
     };
     if count <= k {
-        return idle(m);
+        return play_member::idle(m);
     }
     perform(m, what, line, heads, bodies, sent)
-}
-
-// The number of an answer.
-fn number_of(a: Answer) -> u8
-    ensures { λ r. ⌜ r ≡ numberOf a ⌝ }
-{
-    match a {
-        Answer::Accepted(_) => 0,
-        Answer::Refused(k) => k,
-    }
-}
-
-// What leaves with an answer.
-fn sent_by(a: Answer) -> Outgoing
-    ensures { λ r. ⌜ r ≡ sentBy a ⌝ }
-{
-    match a {
-        Answer::Accepted(o) => o,
-        Answer::Refused(_) => Outgoing::None,
-    }
-}
-
-// Whether the log has room for what leaves.
-fn has_room(sent: usize, o: Outgoing) -> bool
-    ensures { λ r. ⌜ r ≡ hasRoom sent o ⌝ }
-{
-    match o {
-        Outgoing::None => true,
-        Outgoing::Sent(_, _) => sent < MESSAGES_MAX,
-    }
 }
 
 // The log number of what leaves.
@@ -234,8 +136,8 @@ fn conclude(
     ensures { λ d. ⌜ DoneIs m (now (heads .entry)) (now (bodies .entry)) sent (resultOf j) at (now (out .entry)) d (now (heads .exit)) (now (bodies .exit)) (now (out .exit)) ⌝ }
 {
     let answer = j.answer;
-    let leaving = sent_by(answer);
-    if !(j.known & has_room(sent, leaving)) {
+    let leaving = play_member::sent_by(answer);
+    if !(j.known & play_member::has_room(sent, leaving)) {
         let to = play_lines::put_unknown(out, at);
         return Done {
             member: m,
@@ -246,7 +148,13 @@ fn conclude(
     let member = j.member;
     let held = member.held;
     let next = keep(member, leaving, heads, bodies, sent);
-    let to = play_lines::put_answer(number_of(answer), held, log_number(sent, leaving), out, at);
+    let to = play_lines::put_answer(
+        play_member::number_of(answer),
+        held,
+        log_number(sent, leaving),
+        out,
+        at,
+    );
     Done {
         member: member,
         sent: next,

@@ -4,7 +4,7 @@ use Prim.Native.Nat.{ℕ}
 use Rattle.hermes.specs.Node.{apply}
 use Rattle.hermes.specs.Order.{higher}
 use Rattle.hermes.specs.Run.{event}
-use Rattle.play_game.specs.Cluster.{nodeOf}
+use Rattle.play_member.specs.Member.{nodeOf}
 use mathlib.Core.List.{List}
 use mathlib.Core.Path.{_∙_, ap}
 use borrow.Author.Needs.{needs}

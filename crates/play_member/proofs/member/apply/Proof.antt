@@ -1,12 +1,12 @@
--- `play_game::turn::apply` meets its contract.
+-- `play_member::member::apply` meets its contract.
 use Rattle.hermes.specs.declared.event.Moved.{Moved}
 use Rattle.hermes.specs.Event.{sentBy}
 use Rattle.hermes.specs.Node.{indexOf}
-use Rattle.play_game.proofs.Turns.{apply-is, effect-index}
+use Rattle.play_member.proofs.Members.{apply-is, effect-index}
 use borrow.Author.Needs.{needs}
 use mathlib.Core.Path.{_∙_, ap}
-use Rattle.play_game.proofs.turn.apply.Statement.{statement}
-use Rattle.play_game.proofs.turn.apply.Tie as tie
+use Rattle.play_member.proofs.member.apply.Statement.{statement}
+use Rattle.play_member.proofs.member.apply.Tie as tie
 
 slice-aggregate-step : tie.Need-slice-aggregate-step
 slice-aggregate-step c = search needs

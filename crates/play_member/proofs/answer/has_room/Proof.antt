@@ -1,9 +1,9 @@
--- `play_game::turn::has_room` meets its contract.
+-- `play_member::answer::has_room` meets its contract.
 use mathlib.Core.Path.{ap, sym}
-use Rattle.play_game.specs.Play.{hasRoom}
+use Rattle.play_member.specs.Member.{hasRoom}
 use borrow.Author.Needs.{needs}
-use Rattle.play_game.proofs.turn.has_room.Statement.{statement}
-use Rattle.play_game.proofs.turn.has_room.Tie as tie
+use Rattle.play_member.proofs.answer.has_room.Statement.{statement}
+use Rattle.play_member.proofs.answer.has_room.Tie as tie
 
 enum-told : tie.Need-enum-told
 enum-told c = search needs

@@ -1,7 +1,7 @@
--- `play_game::cluster::Member::fresh` meets its contract.
+-- `play_member::member::Member::fresh` meets its contract.
 use borrow.Author.Needs.{needs}
-use Rattle.play_game.proofs.cluster.Member.fresh.Statement.{statement}
-use Rattle.play_game.proofs.cluster.Member.fresh.Tie as tie
+use Rattle.play_member.proofs.member.Member.fresh.Statement.{statement}
+use Rattle.play_member.proofs.member.Member.fresh.Tie as tie
 
 fresh-requires : tie.Need-fresh-requires
 fresh-requires c κs = search needs

@@ -1,9 +1,9 @@
--- `play_game::turn::view` meets its contract.
-use Rattle.play_game.proofs.Turns.{view-admitted, view-refused}
+-- `play_member::member::view` meets its contract.
+use Rattle.play_member.proofs.Members.{view-admitted, view-refused}
 use borrow.Author.Needs.{needs}
 use mathlib.Core.Path.{_∙_, refl, sym}
-use Rattle.play_game.proofs.turn.view.Statement.{statement}
-use Rattle.play_game.proofs.turn.view.Tie as tie
+use Rattle.play_member.proofs.member.view.Statement.{statement}
+use Rattle.play_member.proofs.member.view.Tie as tie
 
 view-requires : tie.Need-view-requires
 view-requires c κs = search needs

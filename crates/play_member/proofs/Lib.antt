@@ -1,0 +1,2 @@
+-- Laws of a member.
+pub mod Members
