@@ -15,7 +15,7 @@
  *
  * Threads and stack. No function keeps anything between calls, and none allocates. One laptop's table and store take one call at a time;
  * calls on different memory may run at once. A call needs at most CETSKOBI_STACK bytes of stack, cetskobi_play CETSKOBI_PLAY_STACK;
- * measured are 248 bytes and 59 KiB, and 3 KiB more where the loader looks for memcpy at the first call (tests/c/stack.c).
+ * measured are some 250 bytes and some 60 KiB, and 3 KiB more where the loader looks for memcpy at the first call (tests/c/stack.c).
  *
  * Versions. A version is major.minor.patch. Within one major version what is here stays: names, numbers, layouts, signatures, and what is
  * accepted and refused. A minor version may add functions, refusals (26 to 37 are announced), kinds and states: have a default for numbers
@@ -173,7 +173,9 @@ struct cetskobi_admission {
 };
 
 /* Events on record i. A message that leaves is about record i, from me.number at me.epoch as they were passed: who sends it later keeps
- * them with it, since a view may have changed me. */
+ * them with it, since a view may have changed me. A delivery takes the record's number and the bytes that came with its message: other
+ * bytes, or none, are accepted too, and two laptops may then show different texts for one timestamp. cetskobi_deliver_packet takes both
+ * from the packet. */
 struct cetskobi_answer cetskobi_write(struct cetskobi_replica me, uint8_t *table, size_t table_len, uint8_t *store, size_t store_len,
                                       size_t i, const uint8_t *value, size_t value_len);
 struct cetskobi_answer cetskobi_deliver(struct cetskobi_replica me, uint8_t *table, size_t table_len, uint8_t *store, size_t store_len,
