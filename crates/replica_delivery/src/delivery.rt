@@ -1,11 +1,12 @@
 // Delivery to record i, r, of replica me with count records and this store, of a message with its value bytes.
 ghost use mathlib.Core.Path.{_≡_};
-ghost use Prim.Native.Nat.{_≤_, _+_, _*_};
+ghost use mathlib.Core.Bool.{true};
 ghost use lib.ListN.{length};
 ghost use Rattle.hermes.specs.Order.{higher, later};
 ghost use Rattle.hermes.specs.Event.{effect, decide, invStep};
 ghost use Rattle.hermes.specs.declared.event.Event.the-variants.{Deliver};
 ghost use Rattle.hermes.specs.declared.message.Message.the-variants.{Inv, Ack, Val};
+ghost use Rattle.replica_outcome.specs.Placing.{room};
 ghost use Rattle.replica_delivery.specs.Kinds.{cameFrom};
 use hermes::Message;
 use hermes::Moved;
@@ -19,6 +20,7 @@ use replica_asking::Asked;
 // An accepted invalidation: its acknowledgement always leaves; only a greater timestamp is taken.
 fn take_inv(
     me: Replica,
+    count: usize,
     i: usize,
     r: Record,
     store: &mut [u8],
@@ -26,13 +28,13 @@ fn take_inv(
     sender: u8,
     value: &[u8],
 ) -> Moved
-    requires { ⌜ (192 * i + 192 ≤ length (now store)) × (length (now value) ≤ 192) ⌝ }
+    requires { ⌜ room count (length (now store)) i (length (now value)) ≡ true ⌝ }
     ensures { λ m. ⌜ (m ≡ decide 0 i r (now (store .entry)) (invStep (later higher t (r .timestamp)) me i r t sender (now (value .entry))) .moved)
         × (now (store .exit) ≡ decide 0 i r (now (store .entry)) (invStep (later higher t (r .timestamp)) me i r t sender (now (value .entry))) .store) ⌝ }
 {
     let ack = replica_outgoing::send(me, i, Message::Ack(t));
     if t.later(r.timestamp) {
-        replica_outcome::place(store, i, value);
+        replica_outcome::place(store, count, i, value);
         return replica_outcome::accepted(ack, r.take_invalidation(t, sender, value.len() as u8));
     }
     replica_outcome::accepted(ack, r)
@@ -62,7 +64,7 @@ pub fn deliver_inv(
     let Asked::Passed(r1) = a else {
         return replica_asking::stopped(a, r);
     };
-    take_inv(me, i, r1, store, t, sender, value)
+    take_inv(me, count, i, r1, store, t, sender, value)
 }
 
 // An acknowledgement with timestamp t. The store stays as it is.

@@ -44,7 +44,7 @@ pub fn write(
     let Asked::Passed(r1) = a else {
         return replica_asking::stopped(a, r);
     };
-    replica_outcome::place(store, i, value);
+    replica_outcome::place(store, count, i, value);
     let next = r1.write(me.number, value.len() as u8);
     let t = next.timestamp;
     replica_outcome::accepted(replica_outgoing::send(me, i, Message::Inv(t)), next)

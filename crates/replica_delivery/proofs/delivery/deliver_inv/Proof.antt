@@ -1,8 +1,9 @@
 -- `replica_delivery::delivery::deliver_inv` meets its contract.
 use Rattle.hermes.specs.declared.event.Event.the-variants.{Deliver}
 use Rattle.hermes.specs.declared.message.Message.the-variants.{Inv}
-use Rattle.hermes.proofs.Guards.{event-passed, own-passed, deliver-own, inv-fits, slot-fits}
+use Rattle.hermes.proofs.Guards.{event-passed, own-passed, deliver-own, inv-fits}
 use Rattle.replica_outcome.proofs.Outcomes.{accepted}
+use Rattle.replica_outcome.proofs.Bytes.{room-passed}
 use Rattle.replica_delivery.specs.Kinds.{cameFrom}
 use Rattle.replica_delivery.proofs.Deliveries.{refuses, accepts}
 use lib.ListN.{length}
@@ -28,10 +29,11 @@ returns c = let v = c .before .before .before .before .before .before .args in r
 
 take-inv-requires : tie.Need-take-inv-requires
 take-inv-requires c κs = let v = c .before .before .before .before .before .before .before .args in
-    let z = accepted (v .me) (v .count) (length (v .store .now)) (v .i) (v .r) (Deliver (cameFrom (v .sender) (v .epoch) (Inv (v .t)))) (length (v .value .now)) (c .before .before .a .given .0 .0) (sym (c .before .before .before .before .asks-inv .ensures) ∙ c .before .before .a .given .1) in (
-      slot-fits (event-passed (v .me) (v .count) (length (v .store .now)) (v .i) (v .r) (Deliver (cameFrom (v .sender) (v .epoch) (Inv (v .t)))) (length (v .value .now)) z),
-      inv-fits (Inv (v .t)) (v .t) (length (v .value .now)) refl (deliver-own (v .me) (v .r) (cameFrom (v .sender) (v .epoch) (Inv (v .t))) (length (v .value .now)) (own-passed (v .me) (v .count) (length (v .store .now)) (v .i) (v .r) (Deliver (cameFrom (v .sender) (v .epoch) (Inv (v .t)))) (length (v .value .now)) z) .shape),
-    )
+    let z = accepted (v .me) (v .count) (length (v .store .now)) (v .i) (v .r) (Deliver (cameFrom (v .sender) (v .epoch) (Inv (v .t)))) (length (v .value .now)) (c .before .before .a .given .0 .0) (sym (c .before .before .before .before .asks-inv .ensures) ∙ c .before .before .a .given .1) in
+    room-passed
+    (event-passed (v .me) (v .count) (length (v .store .now)) (v .i) (v .r) (Deliver (cameFrom (v .sender) (v .epoch) (Inv (v .t)))) (length (v .value .now)) z)
+    (length (v .value .now))
+    (inv-fits (Inv (v .t)) (v .t) (length (v .value .now)) refl (deliver-own (v .me) (v .r) (cameFrom (v .sender) (v .epoch) (Inv (v .t))) (length (v .value .now)) (own-passed (v .me) (v .count) (length (v .store .now)) (v .i) (v .r) (Deliver (cameFrom (v .sender) (v .epoch) (Inv (v .t)))) (length (v .value .now)) z) .shape))
 
 same-length : tie.Need-same-length
 same-length c = search needs

@@ -1,6 +1,9 @@
 -- `replica_delivery::delivery::take_inv` meets its contract.
 use Rattle.hermes.specs.declared.event.Answer.the-variants.{Accepted}
 use mathlib.Core.Path.{ap, _∙_}
+use native.Mathlib.Omega.{arith}
+use lib.ListN.{length}
+use Rattle.replica_outcome.proofs.Bytes.{roomy}
 use borrow.Author.Needs.{needs}
 use Rattle.replica_delivery.proofs.delivery.take_inv.Statement.{statement}
 use Rattle.replica_delivery.proofs.delivery.take_inv.Tie as tie
@@ -15,7 +18,7 @@ place-requires : tie.Need-place-requires
 place-requires c κs = search needs
 
 cast-take-invalidation : tie.Need-cast-take-invalidation
-cast-take-invalidation c = search needs
+cast-take-invalidation c = let v = c .before .before .before .before .before .before .before .before .before .args in let (room-there, fits) = roomy (v .count) (length (v .store .now)) (v .i) (length (v .value .now)) (c .before .before .before .before .before .before .before .before .before .pre) in omega arith
 
 take-invalidation-requires : tie.Need-take-invalidation-requires
 take-invalidation-requires c κs = search needs
@@ -27,7 +30,7 @@ same-length : tie.Need-same-length
 same-length c = search needs
 
 returns : tie.Need-returns
-returns c = (c .accepted .ensures ∙ rw (c .before .before .before .before .before .before .before .before .send .ensures, c .before .take-invalidation .ensures, ← c .before .before .before .before .before .before .before .later .ensures, c .before .before .before .before .before .before .if1 .taken), c .before .before .before .before .place .ensures ∙ rw (← c .before .before .before .before .before .before .before .later .ensures, c .before .before .before .before .before .before .if1 .taken))
+returns c = (c .accepted .ensures ∙ rw (c .before .before .before .before .before .before .before .before .send .ensures, c .before .take-invalidation .ensures, ← c .before .before .before .before .before .before .before .later .ensures, c .before .before .before .before .before .before .if1 .taken), c .before .before .before .before .place .ensures ∙ rw (c .before .before .before .before .before .before .before .before .before .before .before .pre, ← c .before .before .before .before .before .before .before .later .ensures, c .before .before .before .before .before .before .if1 .taken))
 
 accepted-requires-2 : tie.Need-accepted-requires-2
 accepted-requires-2 c κs = search needs

@@ -1,10 +1,11 @@
 -- `replica_events::writing::write` meets its contract.
-use Rattle.hermes.proofs.Guards.{event-passed, own-passed, write-own, slot-fits}
+use Rattle.hermes.proofs.Guards.{event-passed, own-passed, write-own}
 use Rattle.hermes.specs.Event.{effect, writeStep}
 use native.Mathlib.Omega.{arith}
 use lib.ListN.{length}
 use Rattle.hermes.specs.declared.event.Event.the-variants as event
 use Rattle.replica_outcome.proofs.Outcomes.{stops, stops-store, goes, goes-store, accepted}
+use Rattle.replica_outcome.proofs.Bytes.{room-passed}
 use mathlib.Core.Path.{sym, _∙_}
 use borrow.Author.Needs.{needs}
 use Rattle.replica_events.proofs.writing.write.Statement.{statement}
@@ -27,8 +28,7 @@ unfolding effect
 returns c = let v = c .before .before .before .before .before .before .args in (c .stopped .ensures ∙ stops (v .me) (v .count) (length (v .store .now)) (v .i) (v .r) event.Write (length (v .value .now)) _ (c .before .enum-told .given .0 .0) _ (c .before .before .before .asks .ensures) (c .before .enum-told .given .1), stops-store (v .me) (v .count) (length (v .store .now)) (v .i) (v .r) event.Write (length (v .value .now)) _ (c .before .enum-told .given .0 .0) (v .store .now) _ (c .before .before .before .asks .ensures) (c .before .enum-told .given .1))
 
 place-requires : tie.Need-place-requires
-place-requires c κs = let v = c .before .before .before .before .before .before .before .args in let z = accepted (v .me) (v .count) (length (v .store .now)) (v .i) (v .r) event.Write (length (v .value .now)) (c .before .before .a .given .0 .0) (sym (c .before .before .before .before .asks .ensures) ∙ c .before .before .a .given .1) in
-    (slot-fits (event-passed (v .me) (v .count) (length (v .store .now)) (v .i) (v .r) event.Write (length (v .value .now)) z), write-own (v .me) (v .r) (length (v .value .now)) (own-passed (v .me) (v .count) (length (v .store .now)) (v .i) (v .r) event.Write (length (v .value .now)) z) .fits)
+place-requires c κs = search needs
 
 cast-write : tie.Need-cast-write
 cast-write c = let v = c .before .before .before .before .before .before .before .before .before .before .args in
@@ -49,7 +49,10 @@ same-length c = search needs
 
 returns-2 : tie.Need-returns-2
 unfolding effect
-returns-2 c = let v = c .before .before .before .before .before .before .before .before .before .before .before .before .before .before .args in (c .accepted .ensures ∙ rw (c .before .send .ensures, c .before .before .before .write .ensures) (goes (v .me) (v .count) (length (v .store .now)) (v .i) (v .r) event.Write (length (v .value .now)) _ (c .before .before .before .before .before .before .before .before .before .a .given .0 .0) (λ x. writeStep (v .me) (v .i) x (v .value .now)) (c .before .before .before .before .before .before .before .before .before .before .before .asks .ensures) (c .before .before .before .before .before .before .before .before .before .a .given .1)), c .before .before .before .before .before .before .place .ensures ∙ goes-store (v .me) (v .count) (length (v .store .now)) (v .i) (v .r) event.Write (length (v .value .now)) _ (c .before .before .before .before .before .before .before .before .before .a .given .0 .0) (v .store .now) (λ x. writeStep (v .me) (v .i) x (v .value .now)) (c .before .before .before .before .before .before .before .before .before .before .before .asks .ensures) (c .before .before .before .before .before .before .before .before .before .a .given .1))
+returns-2 c = let v = c .before .before .before .before .before .before .before .before .before .before .before .before .before .before .args in
+    let z = accepted (v .me) (v .count) (length (v .store .now)) (v .i) (v .r) event.Write (length (v .value .now)) (c .before .before .before .before .before .before .before .before .before .a .given .0 .0) (sym (c .before .before .before .before .before .before .before .before .before .before .before .asks .ensures) ∙ c .before .before .before .before .before .before .before .before .before .a .given .1) in
+    let here = room-passed (event-passed (v .me) (v .count) (length (v .store .now)) (v .i) (v .r) event.Write (length (v .value .now)) z) (length (v .value .now)) (write-own (v .me) (v .r) (length (v .value .now)) (own-passed (v .me) (v .count) (length (v .store .now)) (v .i) (v .r) event.Write (length (v .value .now)) z) .fits) in
+    (c .accepted .ensures ∙ rw (c .before .send .ensures, c .before .before .before .write .ensures) (goes (v .me) (v .count) (length (v .store .now)) (v .i) (v .r) event.Write (length (v .value .now)) _ (c .before .before .before .before .before .before .before .before .before .a .given .0 .0) (λ x. writeStep (v .me) (v .i) x (v .value .now)) (c .before .before .before .before .before .before .before .before .before .before .before .asks .ensures) (c .before .before .before .before .before .before .before .before .before .a .given .1)), c .before .before .before .before .before .before .place .ensures ∙ rw here (goes-store (v .me) (v .count) (length (v .store .now)) (v .i) (v .r) event.Write (length (v .value .now)) _ (c .before .before .before .before .before .before .before .before .before .a .given .0 .0) (v .store .now) (λ x. writeStep (v .me) (v .i) x (v .value .now)) (c .before .before .before .before .before .before .before .before .before .before .before .asks .ensures) (c .before .before .before .before .before .before .before .before .before .a .given .1)))
 
 pub write-spec : {M : Type 1} → statement M
 write-spec =

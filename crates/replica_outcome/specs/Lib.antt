@@ -1,0 +1,2 @@
+-- The bytes of a value, for every store.
+pub mod Placing
