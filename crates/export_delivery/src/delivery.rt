@@ -13,6 +13,8 @@ use export_records::Found;
 use hermes::Message;
 use hermes::Timestamp;
 
+// The timestamps are compared first, and the record's bytes go back before the value goes into its place: then the compiler stores no byte
+// of the record that stays as it was.
 fn arrive_inv(
     me: CetskobiReplica,
     table: &mut [u8],
@@ -31,7 +33,15 @@ fn arrive_inv(
     };
     let who = export_numbers::replica_of(me);
     let count = export_records::count(table.len());
-    let m = replica_delivery::deliver_inv(who, count, i, r, store, sender, epoch, t, value);
+    let now = r.timestamp;
+    let newer = t.later(now);
+    let m = replica_delivery::move_inv(who, count, store.len(), i, r, sender, epoch, t, value);
+    if newer {
+        let out = export_events::finish(table, i, m);
+        let a = m.answer;
+        replica_delivery::store_inv(store, count, i, a, value);
+        return out;
+    }
     export_events::finish(table, i, m)
 }
 

@@ -1,21 +1,29 @@
 -- What a delivery comes to, by what its questions answered: said once for the three kinds.
-use Prim.Native.Nat.{ℕ}
-use mathlib.Core.Path.{_≡_, sym, ap, _∙_}
+use Prim.Native.Nat.{ℕ, zero, suc}
+use mathlib.Core.Path.{_≡_, refl, sym, ap, _∙_}
+use mathlib.Core.Bool.{true, false}
 use mathlib.Core.List.{List}
 use lib.ListN.{length}
+use Rattle.hermes.specs.declared.timestamp.Timestamp.{Timestamp}
 use Rattle.hermes.specs.declared.record.Record.{Record}
 use Rattle.hermes.specs.declared.message.Message.{Message}
+use Rattle.hermes.specs.declared.message.Message.the-variants.{Inv}
 use Rattle.hermes.specs.declared.message.Received.{Received}
 use Rattle.hermes.specs.declared.event.Replica.{Replica}
+use Rattle.hermes.specs.declared.event.Event.{Event}
 use Rattle.hermes.specs.declared.event.Event.the-variants.{Deliver}
 use Rattle.hermes.specs.declared.event.Moved.{Moved}
-use Rattle.hermes.specs.Order.{higher}
-use Rattle.hermes.specs.Event.{common, own, effect, movedBy, storing, deliverStep}
+use Rattle.hermes.specs.Order.{higher, later}
+use Rattle.hermes.specs.Store.{place}
+use Rattle.hermes.specs.Event.{common, own, refusal, moved, effect, movedBy, storedBy, storing, invStep, deliverStep}
+use Rattle.hermes.proofs.Guards.{event-passed, own-passed, deliver-own, inv-fits}
+use Rattle.replica_outcome.specs.Placing.{placed}
+use Rattle.replica_outcome.proofs.Bytes.{room-passed}
 use Rattle.replica_asking.specs.declared.Asked.{Asked}
 use Rattle.replica_asking.specs.declared.Asked.the-variants.{Passed, Refused}
 use Rattle.replica_asking.specs.Cascade.{asked, stoppedBy}
 use Rattle.replica_outcome.proofs.Outcomes.{stops, stops-store, goes, goes-store}
-use Rattle.replica_delivery.specs.Kinds.{cameFrom}
+use Rattle.replica_delivery.specs.Kinds.{cameFrom, storedFor}
 
 -- a message taken apart by its kind is that message
 pub whole : (m : Received) (k : Message) → m .message ≡ k → cameFrom (m .sender) (m .epoch) k ≡ m
@@ -48,3 +56,49 @@ module _ (me : Replica) (count i : ℕ) (r : Record) (store : List ℕ) (v : Lis
       moves ∙ goes me count (length store) i r (Deliver m) (length v) a x (λ z. deliverStep higher me i z (m .sender) (m .message) v) asks passed,
       stores ∙ goes-store me count (length store) i r (Deliver m) (length v) a x store (λ z. deliverStep higher me i z (m .sender) (m .message) v) asks passed,
     )
+
+module _ (me : Replica) (count bytes i : ℕ) (r : Record) (v : List ℕ) (d : Moved) (m : Received) (a : Asked) (asks : a ≡ asked (common me count bytes i r (own me r (Deliver m) (length v))) r) where
+  -- the same of the answer and the record alone
+  pub refuses-moved : (k : ℕ) → a ≡ Refused k → d ≡ stoppedBy a r → d ≡ moved higher me count bytes i r (Deliver m) v
+  unfolding moved
+  refuses-moved k stopped ends = ends ∙ stops me count bytes i r (Deliver m) (length v) a k (deliverStep higher me i r (m .sender) (m .message) v) asks stopped
+
+  pub accepts-moved : (x : Record) → a ≡ Passed x → d ≡ movedBy 0 x (deliverStep higher me i x (m .sender) (m .message) v) → d ≡ moved higher me count bytes i r (Deliver m) v
+  unfolding moved
+  accepts-moved x passed moves = moves ∙ goes me count bytes i r (Deliver m) (length v) a x (λ z. deliverStep higher me i z (m .sender) (m .message) v) asks passed
+
+-- ---- the store of an invalidation, by its answer and by whether its timestamp is greater
+
+module _ (me : Replica) (count i : ℕ) (r : Record) (store : List ℕ) (v : List ℕ) (sender epoch : ℕ) (t : Timestamp) where
+  abbrev inv : Event
+  inv = Deliver (cameFrom sender epoch (Inv t))
+
+  abbrev no : ℕ
+  no = refusal me count (length store) i r inv (length v)
+
+  -- what moves is the effect's
+  pub inv-moved : moved higher me count (length store) i r inv v ≡ effect higher me count i r store inv v .moved
+  unfolding moved effect
+  inv-moved = refl
+
+  fits : no ≡ 0 → placed count i v store ≡ place i v store
+  fits z =
+      rw (room-passed (event-passed me count (length store) i r inv (length v) z) (length v)
+      (inv-fits (Inv t) t (length v) refl (deliver-own me r (cameFrom sender epoch (Inv t)) (length v) (own-passed me count (length store) i r inv (length v) z) .shape)))
+
+  pub inv-newer : (d : Moved) → d ≡ moved higher me count (length store) i r inv v → later higher t (r .timestamp) ≡ true
+      → storedFor (d .answer) count i v store ≡ effect higher me count i r store inv v .store
+  unfolding moved effect
+  inv-newer d h g = ap (λ (x : Moved). storedFor (x .answer) count i v store) h ∙ rw g (go no refl)
+    where
+      go : (k : ℕ) → no ≡ k → storedFor (movedBy k r (invStep true me i r t sender v) .answer) count i v store ≡ storedBy k i store (invStep true me i r t sender v)
+      go zero e = fits e
+      go (suc k) e = refl
+
+  pub inv-older : later higher t (r .timestamp) ≡ false → store ≡ effect higher me count i r store inv v .store
+  unfolding effect
+  inv-older g = rw g (go no)
+    where
+      go : (k : ℕ) → store ≡ storedBy k i store (invStep false me i r t sender v)
+      go zero = refl
+      go (suc k) = refl

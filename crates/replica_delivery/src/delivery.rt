@@ -1,13 +1,13 @@
 // Delivery to record i, r, of replica me with count records and this store, of a message with its value bytes.
 ghost use mathlib.Core.Path.{_≡_};
-ghost use mathlib.Core.Bool.{true};
+ghost use Prim.Native.Nat.{_≤_};
 ghost use lib.ListN.{length};
 ghost use Rattle.hermes.specs.Order.{higher, later};
-ghost use Rattle.hermes.specs.Event.{effect, decide, invStep};
+ghost use Rattle.hermes.specs.Event.{effect, moved, movedBy, invStep};
 ghost use Rattle.hermes.specs.declared.event.Event.the-variants.{Deliver};
 ghost use Rattle.hermes.specs.declared.message.Message.the-variants.{Inv, Ack, Val};
-ghost use Rattle.replica_outcome.specs.Placing.{room};
-ghost use Rattle.replica_delivery.specs.Kinds.{cameFrom};
+ghost use Rattle.replica_delivery.specs.Kinds.{cameFrom, storedFor};
+use hermes::Answer;
 use hermes::Message;
 use hermes::Moved;
 use hermes::Outgoing;
@@ -17,27 +17,52 @@ use hermes::Replica;
 use hermes::Timestamp;
 use replica_asking::Asked;
 
-// An accepted invalidation: its acknowledgement always leaves; only a greater timestamp is taken.
-fn take_inv(
-    me: Replica,
-    count: usize,
-    i: usize,
-    r: Record,
-    store: &mut [u8],
-    t: Timestamp,
-    sender: u8,
-    value: &[u8],
-) -> Moved
-    requires { ⌜ room count (length (now store)) i (length (now value)) ≡ true ⌝ }
-    ensures { λ m. ⌜ (m ≡ decide 0 i r (now (store .entry)) (invStep (later higher t (r .timestamp)) me i r t sender (now (value .entry))) .moved)
-        × (now (store .exit) ≡ decide 0 i r (now (store .entry)) (invStep (later higher t (r .timestamp)) me i r t sender (now (value .entry))) .store) ⌝ }
+// What an accepted invalidation makes of its record: its acknowledgement always leaves; only a greater timestamp is taken.
+fn take_inv(me: Replica, i: usize, r: Record, t: Timestamp, sender: u8, value: &[u8]) -> Moved
+    requires { ⌜ length (now value) ≤ 192 ⌝ }
+    ensures { λ m. ⌜ m ≡ movedBy 0 r (invStep (later higher t (r .timestamp)) me i r t sender (now (value .entry))) ⌝ }
 {
     let ack = replica_outgoing::send(me, i, Message::Ack(t));
     if t.later(r.timestamp) {
-        replica_outcome::place(store, count, i, value);
         return replica_outcome::accepted(ack, r.take_invalidation(t, sender, value.len() as u8));
     }
     replica_outcome::accepted(ack, r)
+}
+
+// An invalidation with timestamp t, but for the store, which is of so many bytes.
+pub fn move_inv(
+    me: Replica,
+    count: usize,
+    bytes: usize,
+    i: usize,
+    r: Record,
+    sender: u8,
+    epoch: u32,
+    t: Timestamp,
+    value: &[u8],
+) -> Moved
+    ensures { λ d. ⌜ d ≡ moved higher me count bytes i r (Deliver (cameFrom sender epoch (Inv t))) (now (value .entry)) ⌝ }
+{
+    let m = Received {
+        sender: sender,
+        epoch: epoch,
+        message: Message::Inv(t),
+    };
+    let a = replica_message::asks_inv(me, count, bytes, i, r, m, value.len());
+    let Asked::Passed(r1) = a else {
+        return replica_asking::stopped(a, r);
+    };
+    take_inv(me, i, r1, t, sender, value)
+}
+
+// The store of an invalidation with a greater timestamp, by its answer: an accepted one's value goes into its place.
+pub fn store_inv(store: &mut [u8], count: usize, i: usize, a: Answer, value: &[u8])
+    ensures { λ _. ⌜ now (store .exit) ≡ storedFor a count i (now (value .entry)) (now (store .entry)) ⌝ }
+{
+    match a {
+        Answer::Accepted(_) => replica_outcome::place(store, count, i, value),
+        Answer::Refused(_) => {}
+    }
 }
 
 // An invalidation with timestamp t.
@@ -55,16 +80,13 @@ pub fn deliver_inv(
     ensures { λ d. ⌜ (d ≡ effect higher me count i r (now (store .entry)) (Deliver (cameFrom sender epoch (Inv t))) (now (value .entry)) .moved)
         × (now (store .exit) ≡ effect higher me count i r (now (store .entry)) (Deliver (cameFrom sender epoch (Inv t))) (now (value .entry)) .store) ⌝ }
 {
-    let m = Received {
-        sender: sender,
-        epoch: epoch,
-        message: Message::Inv(t),
-    };
-    let a = replica_message::asks_inv(me, count, store.len(), i, r, m, value.len());
-    let Asked::Passed(r1) = a else {
-        return replica_asking::stopped(a, r);
-    };
-    take_inv(me, count, i, r1, store, t, sender, value)
+    let m = move_inv(me, count, store.len(), i, r, sender, epoch, t, value);
+    let now = r.timestamp;
+    if t.later(now) {
+        let a = m.answer;
+        store_inv(store, count, i, a, value);
+    }
+    m
 }
 
 // An acknowledgement with timestamp t. The store stays as it is.

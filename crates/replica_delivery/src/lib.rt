@@ -6,3 +6,5 @@ pub use delivery::deliver;
 pub use delivery::deliver_ack;
 pub use delivery::deliver_inv;
 pub use delivery::deliver_val;
+pub use delivery::move_inv;
+pub use delivery::store_inv;

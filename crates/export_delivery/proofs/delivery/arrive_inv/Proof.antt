@@ -2,6 +2,7 @@
 use Rattle.hermes.specs.declared.event.Event.the-variants.{Deliver}
 use Rattle.hermes.specs.declared.message.Message.the-variants.{Inv}
 use Rattle.replica_delivery.specs.Kinds.{cameFrom}
+use Rattle.replica_delivery.proofs.Deliveries.{inv-moved, inv-newer, inv-older}
 use Rattle.export_events.proofs.Ends.{taken-here, done}
 use Rattle.export_events.proofs.Missing.{missed-done}
 use mathlib.Core.Path.{sym, _∙_}
@@ -33,11 +34,17 @@ replica-of-requires c κs = search needs
 count-requires : tie.Need-count-requires
 count-requires c κs = search needs
 
-deliver-inv-requires : tie.Need-deliver-inv-requires
-deliver-inv-requires c κs = search needs
+later-requires : tie.Need-later-requires
+later-requires c κs = search needs
+
+move-inv-requires : tie.Need-move-inv-requires
+move-inv-requires c κs = search needs
 
 finish-requires : tie.Need-finish-requires
 finish-requires c κs = search needs
+
+store-inv-requires : tie.Need-store-inv-requires
+store-inv-requires c κs = search needs
 
 same-length-2 : tie.Need-same-length-2
 same-length-2 c = search needs
@@ -46,7 +53,22 @@ same-length-3 : tie.Need-same-length-3
 same-length-3 c = search needs
 
 returns-2 : tie.Need-returns-2
-returns-2 c = let v = c .before .before .before .before .before .before .before .before .before .before .before .before .before .before .before .before .before .before .args in done (v .me) (v .table .now) (v .i) _ _ _ (taken-here (v .me) (v .table .now) (v .i) _ _ _ _ (c .before .before .before .before .before .before .before .before .before .replica-of .ensures) (c .before .before .before .before .before .before .before .before .count .ensures) (c .before .before .before .before .before .before .before .before .before .before .before .before .before .found-at .ensures) (c .before .before .before .before .before .before .before .before .before .before .before .found .given .1)) (v .store .now) (Deliver (cameFrom (v .sender) (v .epoch) (Inv (v .t)))) (v .value .now) _ _ _ _ (c .before .before .before .before .before .before .deliver-inv .ensures) (c .before .before .finish .ensures)
+returns-2 c = let v = c .before .before .before .before .before .before .before .before .before .before .before .before .before .before .before .before .before .before .before .before .before .before .args in
+    let moves = c .before .before .before .before .before .before .before .before .before .move-inv .ensures ∙ inv-moved _ _ (v .i) _ (v .store .now) (v .value .now) (v .sender) (v .epoch) (v .t) in
+    let stores = c .before .before .store-inv .ensures ∙ inv-newer _ _ (v .i) _ (v .store .now) (v .value .now) (v .sender) (v .epoch) (v .t) _ (c .before .before .before .before .before .before .before .before .before .move-inv .ensures) (sym (c .before .before .before .before .before .before .before .before .before .before .later .ensures) ∙ c .before .before .before .before .before .before .before .before .if1 .taken) in
+    done (v .me) (v .table .now) (v .i) _ _ _ (taken-here (v .me) (v .table .now) (v .i) _ _ _ _ (c .before .before .before .before .before .before .before .before .before .before .before .before .before .replica-of .ensures) (c .before .before .before .before .before .before .before .before .before .before .before .before .count .ensures) (c .before .before .before .before .before .before .before .before .before .before .before .before .before .before .before .before .before .found-at .ensures) (c .before .before .before .before .before .before .before .before .before .before .before .before .before .before .before .found .given .1)) (v .store .now) (Deliver (cameFrom (v .sender) (v .epoch) (Inv (v .t)))) (v .value .now) _ _ _ _ (moves, stores) (c .before .before .before .before .before .before .finish .ensures)
+
+finish-requires-2 : tie.Need-finish-requires-2
+finish-requires-2 c κs = search needs
+
+same-length-4 : tie.Need-same-length-4
+same-length-4 c = search needs
+
+returns-3 : tie.Need-returns-3
+returns-3 c = let v = c .before .before .before .before .before .before .before .before .before .before .before .before .before .before .before .before .before .before .args in
+    let moves = c .before .before .before .before .before .move-inv .ensures ∙ inv-moved _ _ (v .i) _ (v .store .now) (v .value .now) (v .sender) (v .epoch) (v .t) in
+    let stores = inv-older _ _ (v .i) _ (v .store .now) (v .value .now) (v .sender) (v .epoch) (v .t) (sym (c .before .before .before .before .before .before .later .ensures) ∙ c .before .before .before .before .if1 .left) in
+    done (v .me) (v .table .now) (v .i) _ _ _ (taken-here (v .me) (v .table .now) (v .i) _ _ _ _ (c .before .before .before .before .before .before .before .before .before .replica-of .ensures) (c .before .before .before .before .before .before .before .before .count .ensures) (c .before .before .before .before .before .before .before .before .before .before .before .before .before .found-at .ensures) (c .before .before .before .before .before .before .before .before .before .before .before .found .given .1)) (v .store .now) (Deliver (cameFrom (v .sender) (v .epoch) (Inv (v .t)))) (v .value .now) _ _ _ _ (moves, stores) (c .before .before .finish2 .ensures)
 
 pub arrive-inv-spec : {M : Type 1} → statement M
 arrive-inv-spec =
@@ -60,8 +82,13 @@ arrive-inv-spec =
     returns
     replica-of-requires
     count-requires
-    deliver-inv-requires
+    later-requires
+    move-inv-requires
     finish-requires
+    store-inv-requires
     same-length-2
     same-length-3
-    returns-2)
+    returns-2
+    finish-requires-2
+    same-length-4
+    returns-3)

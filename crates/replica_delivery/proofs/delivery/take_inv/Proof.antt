@@ -1,9 +1,6 @@
 -- `replica_delivery::delivery::take_inv` meets its contract.
 use Rattle.hermes.specs.declared.event.Answer.the-variants.{Accepted}
 use mathlib.Core.Path.{ap, _∙_}
-use native.Mathlib.Omega.{arith}
-use lib.ListN.{length}
-use Rattle.replica_outcome.proofs.Bytes.{roomy}
 use borrow.Author.Needs.{needs}
 use Rattle.replica_delivery.proofs.delivery.take_inv.Statement.{statement}
 use Rattle.replica_delivery.proofs.delivery.take_inv.Tie as tie
@@ -14,11 +11,8 @@ send-requires c κs = search needs
 later-requires : tie.Need-later-requires
 later-requires c κs = search needs
 
-place-requires : tie.Need-place-requires
-place-requires c κs = search needs
-
 cast-take-invalidation : tie.Need-cast-take-invalidation
-cast-take-invalidation c = let v = c .before .before .before .before .before .before .before .before .before .args in let (room-there, fits) = roomy (v .count) (length (v .store .now)) (v .i) (length (v .value .now)) (c .before .before .before .before .before .before .before .before .before .pre) in omega arith
+cast-take-invalidation c = search needs
 
 take-invalidation-requires : tie.Need-take-invalidation-requires
 take-invalidation-requires c κs = search needs
@@ -26,22 +20,17 @@ take-invalidation-requires c κs = search needs
 accepted-requires : tie.Need-accepted-requires
 accepted-requires c κs = search needs
 
-same-length : tie.Need-same-length
-same-length c = search needs
-
 returns : tie.Need-returns
-returns c = (c .accepted .ensures ∙ rw (c .before .before .before .before .before .before .before .before .send .ensures, c .before .take-invalidation .ensures, ← c .before .before .before .before .before .before .before .later .ensures, c .before .before .before .before .before .before .if1 .taken), c .before .before .before .before .place .ensures ∙ rw (c .before .before .before .before .before .before .before .before .before .before .before .pre, ← c .before .before .before .before .before .before .before .later .ensures, c .before .before .before .before .before .before .if1 .taken))
+returns c = c .accepted .ensures ∙ rw (c .before .before .before .before .send .ensures, c .before .take-invalidation .ensures, ← c .before .before .before .later .ensures, c .before .before .if1 .taken)
 
 accepted-requires-2 : tie.Need-accepted-requires-2
 accepted-requires-2 c κs = search needs
 
 returns-2 : tie.Need-returns-2
-returns-2 c = (
-  c .accepted2 .ensures
-      ∙ ap (λ o. record { answer = Accepted o; after = c .before .before .before .before .before .before .args .r }) (c .before .before .before .send .ensures)
-      ∙ rw (← c .before .before .later .ensures, c .before .if1 .left),
-  rw (← c .before .before .later .ensures, c .before .if1 .left),
-)
+returns-2 c =
+    c .accepted2 .ensures
+    ∙ ap (λ o. record { answer = Accepted o; after = c .before .before .before .before .before .args .r }) (c .before .before .before .send .ensures)
+    ∙ rw (← c .before .before .later .ensures, c .before .if1 .left)
 
 pub take-inv-spec : {M : Type 1} → statement M
 take-inv-spec =
@@ -49,9 +38,7 @@ take-inv-spec =
     (tie.spec
     send-requires
     later-requires
-    place-requires
     cast-take-invalidation
     take-invalidation-requires accepted-requires
-    same-length
     returns accepted-requires-2
     returns-2)
