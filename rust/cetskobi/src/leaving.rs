@@ -40,8 +40,11 @@ use crate::{Arriving, Envelope, Members};
 /// # }
 /// ```
 ///
-/// Nor does a further event, which may bring the record a newer text, while an
-/// earlier message still wants its bytes:
+/// Thrown away by name, as by `.ok()`, `.is_ok()` or `Ok(_)`, it goes without a
+/// warning, and counts as lost on air: a resend mends that.
+///
+/// A further event, which may bring the record a newer text, does not compile
+/// while an earlier message still wants its bytes:
 ///
 /// ```compile_fail,E0499
 /// # use cetskobi::{packet, Laptop, Refusal};
