@@ -1,7 +1,12 @@
 // Delivery from a packet, on one record: message i is fetched, and delivered with its body.
+mod arriving;
+
 ghost use mathlib.Core.Path.{_≡_};
 ghost use Rattle.hermes.specs.Order.{higher};
 ghost use Rattle.packet_delivery.specs.Arrival.{arrival, arrivalOf, receivedOf};
+pub use arriving::Arriving;
+pub use arriving::answer_in;
+pub use arriving::event_in;
 use hermes::Answer;
 use hermes::Moved;
 use hermes::Received;

@@ -5,29 +5,16 @@ use mathlib.Core.Bool.{Bool}
 use mathlib.Core.List.{List, []}
 use native.Mathlib.Omega.{arith}
 use Rattle.hermes.specs.declared.record.Record.{Record}
-use Rattle.hermes.specs.declared.message.Received.{Received}
-use Rattle.hermes.specs.declared.event.Event.the-variants.{Read, Deliver}
+use Rattle.hermes.specs.declared.event.Event.the-variants.{Read}
 use Rattle.hermes.specs.declared.event.Answer.{Answer}
 use Rattle.hermes.specs.Node.{Node, Outcome, apply}
 use Rattle.hermes.proofs.Apply.{Applied, refused, accepted, applied, first-five}
-use Rattle.packet_format.specs.declared.entry.Entry.{Entry}
 use Rattle.packet_format.specs.declared.answer.Fetched.{Fetched}
 use Rattle.packet_format.specs.declared.answer.Fetched.the-variants.{Found, Refused}
 use Rattle.packet_format.specs.Reading.{fetched, bodyOf}
-use Rattle.packet_table.specs.declared.Arriving.{Arriving}
-use Rattle.packet_delivery.specs.Arrival.{receivedOf, receiptOf, receipt}
-use Rattle.packet_table.specs.Arriving.{arrivingOf, answerIn}
-
--- ---- the event that a fetch comes to
-
-pub arrived : (f : Fetched) (e : Entry) (at : ℕ) (m : Received) → f ≡ Found e at → m ≡ receivedOf e
-    → _≡_ {A = Arriving} (record { fetched = Found e at; index = e .header .index; event = Deliver m }) (arrivingOf f)
-arrived f e at m ef em = rw (ef, em)
-
-pub turned-away : (f : Fetched) (k : ℕ) → f ≡ Refused k → _≡_ {A = Arriving} (record { fetched = f; index = 4096; event = Read }) (arrivingOf f)
-turned-away f k ef = rw ef
-
--- ---- its outcome
+use Rattle.packet_delivery.specs.declared.arriving.Arriving.{Arriving}
+use Rattle.packet_delivery.specs.Arrival.{receiptOf, receipt}
+use Rattle.packet_delivery.specs.Arriving.{arrivingOf, answerIn}
 
 module _ (wins : ℕ → ℕ → Bool) (n : Node) (p : List ℕ) where
   -- questions 2 and 4 together refuse record 4096

@@ -17,8 +17,8 @@ use Rattle.hermes.specs.Run.{Entry, Group, Result, nothing, event, result}
 use Rattle.hermes.specs.Agreement.{Started, AsIssued, Entries}
 use Rattle.hermes.proofs.Agreement.{run-append, agreement}
 use Rattle.play_script.specs.Command.{lineOf, textOf}
-use Rattle.play_script.specs.declared.command.Command.{Command}
-use Rattle.play_script.specs.declared.command.Command.the-variants.{Read, Write, Replay, Deliver, Validate, Resend, View}
+use Rattle.play_words.specs.declared.command.Command.{Command}
+use Rattle.play_words.specs.declared.command.Command.the-variants.{Read, Write, Replay, Deliver, Validate, Resend, View}
 use Rattle.play_script.specs.declared.command.Line.{Line}
 use Rattle.play_script.specs.declared.command.Line.the-variants as line
 use Rattle.play_member.specs.Member.{hasRoom}

@@ -21,7 +21,7 @@ use Rattle.hermes.specs.Event.{numberOf, sentBy, bodyOf, leavingBody}
 use Rattle.hermes.specs.Node.{Node, indexOf, Outcome, apply}
 use Rattle.hermes.specs.Run.{Logged, Entry, Group, Result, nothing, event, Found, find, delivery, perform, logged, logAfter, nodeAfter, result, advance, run}
 use Rattle.play_script.specs.Command.{textOf}
-use Rattle.play_script.specs.declared.command.Command.{Command}
+use Rattle.play_words.specs.declared.command.Command.{Command}
 use Rattle.play_script.specs.declared.command.Line.{Line}
 use Rattle.play_script.specs.declared.command.Line.the-variants as line
 use Rattle.play_member.specs.Member.{nodeOf, resultOf, hasRoom}

@@ -7,8 +7,8 @@ use Rattle.hermes.specs.Order.{higher}
 use Rattle.hermes.specs.Run.{Group, run}
 use Rattle.hermes.specs.Agreement.{Agreement}
 use Rattle.play_script.specs.Command.{lineOf}
-use Rattle.play_script.specs.declared.command.Command.{Command}
-use Rattle.play_script.specs.declared.command.Command.the-variants.{Read, Write, Replay, Deliver, Validate, Resend, View}
+use Rattle.play_words.specs.declared.command.Command.{Command}
+use Rattle.play_words.specs.declared.command.Command.the-variants.{Read, Write, Replay, Deliver, Validate, Resend, View}
 use Rattle.play_script.specs.declared.command.Line.{Line}
 use Rattle.play_script.specs.declared.command.Line.the-variants as line
 use Rattle.play_game.specs.Play.{freshGroup, after, entriesOf}

@@ -14,8 +14,8 @@ use Rattle.hermes.specs.Node.{Node, recordOf, newcomer}
 use Rattle.hermes.specs.Run.{Action, read, write, replay, deliver, validate, resend, view, Entry, Group, Result, nothing, event, result, run}
 use Rattle.play_script.specs.Text.{lines}
 use Rattle.play_script.specs.Command.{lineOf, textOf, sizeOf}
-use Rattle.play_script.specs.declared.command.Command.{Command}
-use Rattle.play_script.specs.declared.command.Command.the-variants as command
+use Rattle.play_words.specs.declared.command.Command.{Command}
+use Rattle.play_words.specs.declared.command.Command.the-variants as command
 use Rattle.play_script.specs.declared.command.Line.{Line}
 use Rattle.play_script.specs.declared.command.Line.the-variants as line
 use Rattle.play_script.specs.declared.line.Size.{Size}

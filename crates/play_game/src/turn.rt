@@ -19,8 +19,8 @@ use hermes::Record;
 use play_lines::Left;
 use play_member::Judged;
 use play_member::Member;
-use play_script::Command;
 use play_script::Line;
+use play_words::Command;
 
 // The member after a line, how many messages have left, and the index in the output after what it printed.
 pub struct Done {

@@ -13,43 +13,18 @@ use lib.Seq.{drop-cons, take-all, take-length}
 use Rattle.bytes.specs.Bytes.{indexOf, slice}
 use Rattle.play_numbers.proofs.Numbers.{number-below}
 use Rattle.play_numbers.specs.Number.{wordNumber, Below}
-use Rattle.play_script.specs.Text.{same}
-use Rattle.play_script.specs.Command.{spaced, wordOf, restOf, keywordOf, viewOf, operandsOf, entryOf, longerOf, argumentsOf, lineOf, sizeIn, sizeOf}
+use Rattle.play_words.specs.Words.{same, keywordOf}
+use Rattle.play_script.specs.Command.{spaced, wordOf, restOf, viewOf, operandsOf, entryOf, longerOf, argumentsOf, lineOf, sizeIn, sizeOf}
 use Rattle.play_numbers.specs.declared.number.Number.{Number}
 use Rattle.play_numbers.specs.declared.number.Number.the-variants.{Value, NotANumber}
-use Rattle.play_script.specs.declared.command.Keyword.{Keyword}
-use Rattle.play_script.specs.declared.command.Keyword.the-variants.{View}
+use Rattle.play_words.specs.declared.command.Keyword.{Keyword}
+use Rattle.play_words.specs.declared.command.Keyword.the-variants.{View}
 use Rattle.play_script.specs.declared.command.Operands.{Operands}
 use Rattle.play_script.specs.declared.command.Operands.the-variants.{Wrong}
 use Rattle.play_script.specs.declared.command.Line.{Line}
 use Rattle.play_script.specs.declared.command.Line.the-variants.{Unknown}
 use Rattle.play_script.specs.declared.line.Size.{Size}
 use Rattle.play_script.specs.declared.line.Size.the-variants as size
-
--- ---- two words byte by byte
-
-pub same-length : (a b : List ℕ) → (length a ≡ length b → ⊥) → same a b ≡ false
-unfolding same
-same-length [] [] h = absurd (h refl)
-same-length [] (y ∷ b) h = refl
-same-length (x ∷ a) [] h = refl
-same-length (x ∷ a) (y ∷ b) h = rw (same-length a b (λ e. h (ap suc e))) (and-false (eqb x y))
-  where
-    and-false : (t : Bool) → t && false ≡ false
-    and-false true = refl
-    and-false false = refl
-
-pub same-step : (a b : List ℕ) (k : ℕ) → k < length a → k < length b → getD a k 0 ≡ getD b k 0 → same (drop k a) (drop k b) ≡ same (drop (k + 1) a) (drop (k + 1) b)
-unfolding same
-same-step a b k h l e = rw (add-one k, drop-cons a k 0 h, drop-cons b k 0 l, eq-eqb _ _ e)
-
-pub same-stop : (a b : List ℕ) (k : ℕ) → k < length a → k < length b → (getD a k 0 ≡ getD b k 0 → ⊥) → same (drop k a) (drop k b) ≡ false
-unfolding same
-same-stop a b k h l e = rw (drop-cons a k 0 h, drop-cons b k 0 l, ne-eqb _ _ e)
-
-pub same-end : (a b : List ℕ) (k : ℕ) → length a ≤ k → length b ≤ k → same (drop k a) (drop k b) ≡ true
-unfolding same
-same-end a b k h l = rw (drop-of-length-le a h, drop-of-length-le b l)
 
 -- ---- the first space
 

@@ -6,14 +6,14 @@ use lib.ListN.{length, take, drop}
 use lib.Dec.{ltb, leb}
 use Rattle.bytes.specs.Bytes.{indexOf}
 use Rattle.play_numbers.specs.Number.{wordNumber}
-use Rattle.play_script.specs.Text.{same}
+use Rattle.play_words.specs.Words.{same, keywordOf}
 use Rattle.play_numbers.specs.declared.number.Number.{Number}
 use Rattle.play_numbers.specs.declared.number.Number.the-variants.{Value, NotANumber}
-use Rattle.play_script.specs.declared.command.Command.the-variants as command
+use Rattle.play_words.specs.declared.command.Command.the-variants as command
 use Rattle.play_script.specs.declared.command.Line.{Line}
 use Rattle.play_script.specs.declared.command.Line.the-variants as line
-use Rattle.play_script.specs.declared.command.Keyword.{Keyword}
-use Rattle.play_script.specs.declared.command.Keyword.the-variants.{Bare, Write, Deliver, View, Unknown}
+use Rattle.play_words.specs.declared.command.Keyword.{Keyword}
+use Rattle.play_words.specs.declared.command.Keyword.the-variants.{Bare, Write, Deliver, View, Unknown}
 use Rattle.play_script.specs.declared.command.Operands.{Operands}
 use Rattle.play_script.specs.declared.command.Operands.the-variants.{Given, Wrong}
 use Rattle.play_script.specs.declared.line.Size.{Size}
@@ -31,20 +31,6 @@ wordOf s = take (indexOf 32 s) s
 
 abbrev pub restOf : List ℕ → List ℕ
 restOf s = drop (indexOf 32 s + 1) s
-
--- ---- the first word
-
--- `read`, `validate`, `replay`, `resend`, `write`, `deliver`, `view`
-unfoldable pub keywordOf : List ℕ → Keyword
-keywordOf w =
-    cond (same w (114 ∷ 101 ∷ 97 ∷ 100 ∷ [])) (Bare command.Read)
-    (cond (same w (118 ∷ 97 ∷ 108 ∷ 105 ∷ 100 ∷ 97 ∷ 116 ∷ 101 ∷ [])) (Bare command.Validate)
-    (cond (same w (114 ∷ 101 ∷ 112 ∷ 108 ∷ 97 ∷ 121 ∷ [])) (Bare command.Replay)
-    (cond (same w (114 ∷ 101 ∷ 115 ∷ 101 ∷ 110 ∷ 100 ∷ [])) (Bare command.Resend)
-    (cond (same w (119 ∷ 114 ∷ 105 ∷ 116 ∷ 101 ∷ [])) Write
-    (cond (same w (100 ∷ 101 ∷ 108 ∷ 105 ∷ 118 ∷ 101 ∷ 114 ∷ [])) Deliver
-    (cond (same w (118 ∷ 105 ∷ 101 ∷ 119 ∷ [])) View
-    Unknown))))))
 
 -- ---- what stands behind the laptop
 

@@ -1,19 +1,8 @@
--- Words and lines as text (01, "The playing program").
+-- Lines as text (01, "The playing program").
 use Prim.Native.Nat.{ℕ}
-use mathlib.Core.Bool.{Bool, true, false, cond, _&&_}
+use mathlib.Core.Bool.{cond}
 use mathlib.Core.List.{List, [], _∷_}
 use lib.Dec.{eqb}
-
--- ---- words
-
--- a and b are the same bytes
-unfoldable pub same : List ℕ → List ℕ → Bool
-same [] [] = true
-same [] (y ∷ ys) = false
-same (x ∷ xs) [] = false
-same (x ∷ xs) (y ∷ ys) = eqb x y && same xs ys
-
--- ---- lines
 
 -- a byte before the first line
 abbrev pub lengthen : ℕ → List (List ℕ) → List (List ℕ)

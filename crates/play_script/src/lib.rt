@@ -2,7 +2,6 @@
 mod command;
 mod line;
 
-pub use command::Command;
 pub use command::Line;
 pub use line::Size;
 pub use line::group_size;

@@ -2,11 +2,11 @@
 ghost use mathlib.Core.Path.{_≡_};
 ghost use Rattle.play_script.specs.Command.{restOf, operandsOf, entryOf, longerOf, argumentsOf, lineOf, textOf, sizeIn, sizeOf};
 use crate::command;
-use crate::command::Command;
-use crate::command::Keyword;
 use crate::command::Line;
 use crate::command::Operands;
 use play_numbers::Number;
+use play_words::Command;
+use play_words::Keyword;
 
 const SPACE: u8 = b' ';
 
@@ -97,7 +97,7 @@ pub fn parse(line: &[u8]) -> Line
     if line.len() <= k {
         return Line::Unknown;
     }
-    arguments(command::lookup(&line[..k]), &line[k + 1..])
+    arguments(play_words::lookup(&line[..k]), &line[k + 1..])
 }
 
 // The text of a `write` line: what stands behind its second space.
@@ -138,7 +138,7 @@ pub fn group_size(line: &[u8]) -> Size
     if line.len() <= k {
         return Size::Wrong;
     }
-    if command::is_word(&line[..k], b"group") {
+    if play_words::is_word(&line[..k], b"group") {
         return size_in(play_numbers::read(&line[k + 1..], SIZE_MAX));
     }
     Size::Wrong

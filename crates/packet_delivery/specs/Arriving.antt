@@ -1,12 +1,12 @@
 -- A fetch as an event on a record of the lent table.
--- No public contract names these.
+-- Of the public contracts only those of `event_in` and `answer_in` name these, which serve `packet_table`.
 use Rattle.hermes.specs.declared.event.Event.the-variants.{Deliver, Read}
 use Rattle.hermes.specs.declared.event.Answer.{Answer}
 use Rattle.hermes.specs.declared.event.Answer.the-variants as answer
 use Rattle.packet_format.specs.declared.answer.Fetched.{Fetched}
 use Rattle.packet_format.specs.declared.answer.Fetched.the-variants.{Found, Refused}
-use Rattle.packet_table.specs.declared.Arriving.{Arriving}
+use Rattle.packet_delivery.specs.declared.arriving.Arriving.{Arriving}
 use Rattle.packet_delivery.specs.Arrival.{receivedOf}
 
 -- a delivery; of a refused packet a read of record 4096, which question 4 refuses, or one before it
 abbrev pub arrivingOf : Fetched → Arriving

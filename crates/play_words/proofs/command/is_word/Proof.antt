@@ -1,12 +1,12 @@
--- `play_script::command::is_word` meets its contract. The loop compares what is left of the two words.
+-- `play_words::command::is_word` meets its contract. The loop compares what is left of the two words.
 use Prim.Native.Nat.{_-_, _<_, _≤_}
-use Rattle.play_script.proofs.Words.{same-end, same-length, same-step, same-stop}
-use Rattle.play_script.specs.Text.{same}
+use Rattle.play_words.proofs.Words.{same-end, same-length, same-step, same-stop}
+use Rattle.play_words.specs.Words.{same}
 use lib.ListN.{drop, length}
 use mathlib.Core.Path.{_∙_, _≡_, refl, sym}
 use native.Mathlib.Omega.{arith}
-use Rattle.play_script.proofs.command.is_word.Statement.{statement}
-use Rattle.play_script.proofs.command.is_word.Tie as tie
+use Rattle.play_words.proofs.command.is_word.Statement.{statement}
+use Rattle.play_words.proofs.command.is_word.Tie as tie
 
 abbrev Inv-loop : tie.InvT-loop
 Inv-loop a b k₀ k = (k ≤ length a) × (same a b ≡ same (drop k a) (drop k b))

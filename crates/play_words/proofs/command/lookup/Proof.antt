@@ -1,9 +1,9 @@
--- `play_script::command::lookup` meets its contract. The words are tried in the order of the definition.
-use Rattle.play_script.specs.Command.{keywordOf}
+-- `play_words::command::lookup` meets its contract. The words are tried in the order of the definition.
+use Rattle.play_words.specs.Words.{keywordOf}
 use borrow.Author.Needs.{needs}
 use mathlib.Core.Path.{_∙_, sym}
-use Rattle.play_script.proofs.command.lookup.Statement.{statement}
-use Rattle.play_script.proofs.command.lookup.Tie as tie
+use Rattle.play_words.proofs.command.lookup.Statement.{statement}
+use Rattle.play_words.proofs.command.lookup.Tie as tie
 
 slice-aggregate-is-word : tie.Need-slice-aggregate-is-word
 slice-aggregate-is-word c = search needs

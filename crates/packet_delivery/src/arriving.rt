@@ -1,0 +1,50 @@
+// A fetch as an event on a record of the lent table, for `packet_table`.
+ghost use mathlib.Core.Path.{_≡_};
+ghost use Rattle.packet_format.specs.Reading.{fetched};
+ghost use Rattle.packet_delivery.specs.Arriving.{arrivingOf, answerIn};
+use crate::received;
+use hermes::Answer;
+use hermes::Event;
+use packet_format::Fetched;
+
+// No table that question 2 admits has a record of this number.
+const NO_RECORD: usize = 4096;
+
+// What a fetch comes to: an event on the record of this number.
+pub struct Arriving {
+    pub fetched: Fetched,
+    pub index: usize,
+    pub event: Event,
+}
+
+// The event of message i: its delivery. A refused packet's is refused too.
+pub fn event_in(bytes: &[u8], i: usize) -> Arriving
+    ensures { λ a. ⌜ a ≡ arrivingOf (fetched (now (bytes .entry)) i) ⌝ }
+{
+    let f = packet_reader::fetch(bytes, i);
+    match f {
+        Fetched::Found(entry, _) => {
+            let m = received(entry);
+            Arriving {
+                fetched: f,
+                index: entry.header.index,
+                event: Event::Deliver(m),
+            }
+        }
+        Fetched::Refused(_) => Arriving {
+            fetched: f,
+            index: NO_RECORD,
+            event: Event::Read,
+        },
+    }
+}
+
+// The event's answer, or the packet's own number where it is refused.
+pub fn answer_in(fetched: Fetched, answer: Answer) -> Answer
+    ensures { λ a. ⌜ a ≡ answerIn fetched answer ⌝ }
+{
+    match fetched {
+        Fetched::Found(_, _) => answer,
+        Fetched::Refused(k) => Answer::Refused(k),
+    }
+}
