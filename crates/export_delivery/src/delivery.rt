@@ -9,9 +9,9 @@ ghost use Rattle.export_events.specs.Events.{nodeOf, Done};
 use export_numbers::CetskobiAnswer;
 use export_numbers::CetskobiMessage;
 use export_numbers::CetskobiReplica;
-use export_records::Found;
 use hermes::Message;
 use hermes::Timestamp;
+use replica_asking::Asked;
 
 // The timestamps are compared first, and the record's bytes go back before the value goes into its place: then the compiler stores no byte
 // of the record that stays as it was.
@@ -27,22 +27,22 @@ fn arrive_inv(
 ) -> CetskobiAnswer
     ensures { λ a. ⌜ Done (nodeOf me (now (table .entry)) (now (store .entry))) (now (table .entry)) i (Deliver (cameFrom sender epoch (Inv t))) (now (value .entry)) a (now (table .exit)) (now (store .exit)) ⌝ }
 {
-    let found = export_records::found_at(table, i);
-    let Found::Here(r) = found else {
-        return export_events::missed(me, table.len(), store.len(), i);
-    };
     let who = export_numbers::replica_of(me);
+    let a = export_calls::begin(who, table, store.len(), i);
+    let Asked::Passed(r) = a else {
+        return export_calls::refused(a);
+    };
     let count = export_records::count(table.len());
     let now = r.timestamp;
     let newer = t.later(now);
     let m = replica_delivery::move_inv(who, count, store.len(), i, r, sender, epoch, t, value);
     if newer {
-        let out = export_events::finish(table, i, m);
+        let out = export_calls::finish(table, i, m);
         let a = m.answer;
-        replica_delivery::store_inv(store, count, i, a, value);
+        replica_outcome::stored(store, count, i, a, value);
         return out;
     }
-    export_events::finish(table, i, m)
+    export_calls::finish(table, i, m)
 }
 
 fn arrive_ack(
@@ -57,14 +57,14 @@ fn arrive_ack(
 ) -> CetskobiAnswer
     ensures { λ a. ⌜ Done (nodeOf me (now (table .entry)) (now (store .entry))) (now (table .entry)) i (Deliver (cameFrom sender epoch (Ack t))) (now (value .entry)) a (now (table .exit)) (now (store .entry)) ⌝ }
 {
-    let found = export_records::found_at(table, i);
-    let Found::Here(r) = found else {
-        return export_events::missed(me, table.len(), store.len(), i);
-    };
     let who = export_numbers::replica_of(me);
+    let a = export_calls::begin(who, table, store.len(), i);
+    let Asked::Passed(r) = a else {
+        return export_calls::refused(a);
+    };
     let count = export_records::count(table.len());
     let m = replica_delivery::deliver_ack(who, count, i, r, store, sender, epoch, t, value);
-    export_events::finish(table, i, m)
+    export_calls::finish(table, i, m)
 }
 
 fn arrive_val(
@@ -79,14 +79,14 @@ fn arrive_val(
 ) -> CetskobiAnswer
     ensures { λ a. ⌜ Done (nodeOf me (now (table .entry)) (now (store .entry))) (now (table .entry)) i (Deliver (cameFrom sender epoch (Val t))) (now (value .entry)) a (now (table .exit)) (now (store .entry)) ⌝ }
 {
-    let found = export_records::found_at(table, i);
-    let Found::Here(r) = found else {
-        return export_events::missed(me, table.len(), store.len(), i);
-    };
     let who = export_numbers::replica_of(me);
+    let a = export_calls::begin(who, table, store.len(), i);
+    let Asked::Passed(r) = a else {
+        return export_calls::refused(a);
+    };
     let count = export_records::count(table.len());
     let m = replica_delivery::deliver_val(who, count, i, r, store, sender, epoch, t, value);
-    export_events::finish(table, i, m)
+    export_calls::finish(table, i, m)
 }
 
 // Delivery of a message about record i, with the bytes that came with it.

@@ -6,27 +6,7 @@ ghost use Rattle.export_events.specs.Events.{nodeOf, missing, Finished, 
 use export_numbers::CetskobiAnswer;
 use export_numbers::CetskobiReading;
 use export_numbers::CetskobiReplica;
-use export_records::Found;
-use hermes::Moved;
-
-// The end of an event on record i: its answer, and the bytes of the table.
-pub fn finish(table: &mut [u8], i: usize, m: Moved) -> CetskobiAnswer
-    ensures { λ a. ⌜ Finished (now (table .entry)) i m a (now (table .exit)) ⌝ }
-{
-    export_storing::settle(table, i, m);
-    let a = m.answer;
-    export_numbers::answer_out(a)
-}
-
-// The answer to an event on a number where no record stands. It is the same for every event: one of questions 1 to 5 says no.
-pub fn missed(me: CetskobiReplica, len: usize, bytes: usize, i: usize) -> CetskobiAnswer
-    ensures { λ a. ⌜ a ≡ missing me len bytes i ⌝ }
-{
-    let who = export_numbers::replica_of(me);
-    let count = export_records::count(len);
-    let answer = replica_reading::read_number(who, count, bytes, i, export_records::none());
-    export_numbers::answer_out(answer)
-}
+use replica_asking::Asked;
 
 // Write of a value to record i.
 #[no_mangle]
@@ -39,14 +19,17 @@ pub extern "C" fn cetskobi_write(
 ) -> CetskobiAnswer
     ensures { λ a. ⌜ Done (nodeOf me (now (table .entry)) (now (store .entry))) (now (table .entry)) i Write (now (value .entry)) a (now (table .exit)) (now (store .exit)) ⌝ }
 {
-    let found = export_records::found_at(table, i);
-    let Found::Here(r) = found else {
-        return missed(me, table.len(), store.len(), i);
-    };
     let who = export_numbers::replica_of(me);
+    let a = export_calls::begin(who, table, store.len(), i);
+    let Asked::Passed(r) = a else {
+        return export_calls::refused(a);
+    };
     let count = export_records::count(table.len());
-    let m = replica_events::write(who, count, i, r, store, value);
-    finish(table, i, m)
+    let m = replica_events::move_write(who, count, store.len(), i, r, value);
+    let out = export_calls::finish(table, i, m);
+    let a = m.answer;
+    replica_outcome::stored(store, count, i, a, value);
+    out
 }
 
 // Replay of record i.
@@ -59,14 +42,14 @@ pub extern "C" fn cetskobi_replay(
 ) -> CetskobiAnswer
     ensures { λ a. ⌜ Done (nodeOf me (now (table .entry)) (now (store .entry))) (now (table .entry)) i Replay [] a (now (table .exit)) (now (store .entry)) ⌝ }
 {
-    let found = export_records::found_at(table, i);
-    let Found::Here(r) = found else {
-        return missed(me, table.len(), store.len(), i);
-    };
     let who = export_numbers::replica_of(me);
+    let a = export_calls::begin(who, table, store.len(), i);
+    let Asked::Passed(r) = a else {
+        return export_calls::refused(a);
+    };
     let count = export_records::count(table.len());
     let m = replica_settling::replay(who, count, store.len(), i, r);
-    finish(table, i, m)
+    export_calls::finish(table, i, m)
 }
 
 // Validation of record i.
@@ -79,14 +62,14 @@ pub extern "C" fn cetskobi_validate(
 ) -> CetskobiAnswer
     ensures { λ a. ⌜ Done (nodeOf me (now (table .entry)) (now (store .entry))) (now (table .entry)) i Validate [] a (now (table .exit)) (now (store .entry)) ⌝ }
 {
-    let found = export_records::found_at(table, i);
-    let Found::Here(r) = found else {
-        return missed(me, table.len(), store.len(), i);
-    };
     let who = export_numbers::replica_of(me);
+    let a = export_calls::begin(who, table, store.len(), i);
+    let Asked::Passed(r) = a else {
+        return export_calls::refused(a);
+    };
     let count = export_records::count(table.len());
     let m = replica_settling::validate(who, count, store.len(), i, r);
-    finish(table, i, m)
+    export_calls::finish(table, i, m)
 }
 
 // Resend of what record i last sent.
@@ -99,14 +82,14 @@ pub extern "C" fn cetskobi_resend(
 ) -> CetskobiAnswer
     ensures { λ a. ⌜ Done (nodeOf me (now (table .entry)) (now (store .entry))) (now (table .entry)) i Resend [] a (now (table .exit)) (now (store .entry)) ⌝ }
 {
-    let found = export_records::found_at(table, i);
-    let Found::Here(r) = found else {
-        return missed(me, table.len(), store.len(), i);
-    };
     let who = export_numbers::replica_of(me);
+    let a = export_calls::begin(who, table, store.len(), i);
+    let Asked::Passed(r) = a else {
+        return export_calls::refused(a);
+    };
     let count = export_records::count(table.len());
     let m = replica_settling::resend(who, count, store.len(), i, r);
-    finish(table, i, m)
+    export_calls::finish(table, i, m)
 }
 
 // Read of record i: its number, and the length of its part, which begins at 192 times i.
@@ -119,15 +102,15 @@ pub extern "C" fn cetskobi_read(
 ) -> CetskobiReading
     ensures { λ p. ⌜ ReadDone (nodeOf me (now (table .entry)) (now (store .entry))) i p ⌝ }
 {
-    let found = export_records::found_at(table, i);
-    let Found::Here(r) = found else {
-        let a = missed(me, table.len(), store.len(), i);
+    let who = export_numbers::replica_of(me);
+    let a = export_calls::begin(who, table, store.len(), i);
+    let Asked::Passed(r) = a else {
+        let no = export_calls::refused(a);
         return CetskobiReading {
-            number: a.number,
+            number: no.number,
             len: 0,
         };
     };
-    let who = export_numbers::replica_of(me);
     let count = export_records::count(table.len());
     let answer = replica_reading::read_number(who, count, store.len(), i, r);
     let number = export_numbers::number_out(answer);

@@ -6,8 +6,6 @@ pub use events::cetskobi_replay;
 pub use events::cetskobi_resend;
 pub use events::cetskobi_validate;
 pub use events::cetskobi_write;
-pub use events::finish;
-pub use events::missed;
 pub use export_numbers::CetskobiAnswer;
 pub use export_numbers::CetskobiReading;
 pub use export_numbers::CetskobiReplica;

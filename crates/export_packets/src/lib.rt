@@ -4,6 +4,5 @@ pub use export_numbers::CetskobiAnswer;
 pub use export_numbers::CetskobiFetched;
 pub use export_numbers::CetskobiReplica;
 pub use export_numbers::CetskobiWritten;
-pub use packets::cetskobi_deliver_packet;
 pub use packets::cetskobi_fetch;
 pub use packets::cetskobi_pack;

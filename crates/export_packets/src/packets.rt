@@ -32,32 +32,3 @@ pub extern "C" fn cetskobi_pack(messages: &[u32], bodies: &[u8], out: &mut [u8])
     let written = packet_writer::write(messages, bodies, out);
     export_numbers::written_out(written)
 }
-
-// Delivery of message i of a packet, with its body, to the record that it is about: that of `cetskobi_deliver`.
-#[no_mangle]
-pub extern "C" fn cetskobi_deliver_packet(
-    me: CetskobiReplica,
-    table: &mut [u8],
-    store: &mut [u8],
-    packet: &[u8],
-    i: usize,
-) -> CetskobiAnswer
-    ensures { λ a. ⌜ Arrived (nodeOf me (now (table .entry)) (now (store .entry))) (now (table .entry)) (now (packet .entry)) (fetched (now (packet .entry)) i) a (now (table .exit)) (now (store .exit)) ⌝ }
-{
-    let fetched = packet_reader::fetch(packet, i);
-    match fetched {
-        Fetched::Found(entry, at) => {
-            let f = packet_format::fields_for(entry, at);
-            let message = CetskobiMessage {
-                kind: f.kind,
-                sender: f.sender,
-                tie: f.tie,
-                epoch: f.epoch,
-                version: f.version,
-            };
-            let value = packet_reader::body(packet, fetched);
-            export_delivery::cetskobi_deliver(me, table, store, f.index, message, value)
-        }
-        Fetched::Refused(k) => export_numbers::answer_out(Answer::Refused(k)),
-    }
-}

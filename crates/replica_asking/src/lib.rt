@@ -5,7 +5,7 @@ ghost use mathlib.Core.List.{[], _∷_};
 ghost use Rattle.hermes.specs.Event.{common};
 ghost use Rattle.hermes.specs.Guards.{ask, question1, question2, question3, question4, question5};
 ghost use Rattle.hermes.specs.Node.{startQuestions};
-ghost use Rattle.replica_asking.specs.Cascade.{asked, stoppedBy};
+ghost use Rattle.replica_asking.specs.Cascade.{asked, beforehand, stoppedBy};
 use hermes::Answer;
 use hermes::Moved;
 use hermes::Outgoing;
@@ -102,14 +102,16 @@ pub fn question5(me: Replica, r: Record) -> Asked
     ensures { λ a. ⌜ a ≡ asked (question5 me r ∷ []) r ⌝ }
 {
     let counted = replica_members::has(r.acks, me.number);
+    if counted {
+        return Asked::Refused(5);
+    }
     let short = r.len as usize <= Record::VALUE_MAX;
     question(
         5,
         short
             & (r.timestamp.tie <= Record::NUMBER_MAX)
             & (r.written.tie <= Record::NUMBER_MAX)
-            & (r.writer <= Record::NUMBER_MAX)
-            & !counted,
+            & (r.writer <= Record::NUMBER_MAX),
         r,
     )
 }
@@ -129,17 +131,24 @@ pub fn at_start(me: Replica, count: usize, bytes: usize, r: Record) -> Asked
     question3(me, r2)
 }
 
-// Questions 1 to 5, of every event.
-pub fn every(me: Replica, count: usize, bytes: usize, i: usize, r: Record) -> Asked
-    ensures { λ a. ⌜ a ≡ asked (common me count bytes i r []) r ⌝ }
+// Questions 1 to 4, of every event: they ask nothing of the record.
+pub fn beforehand(me: Replica, count: usize, bytes: usize, i: usize, r: Record) -> Asked
+    ensures { λ a. ⌜ a ≡ asked (beforehand me count bytes i) r ⌝ }
 {
     let a = at_start(me, count, bytes, r);
     let Asked::Passed(r1) = a else {
         return a;
     };
-    let b = question4(i, count, r1);
-    let Asked::Passed(r2) = b else {
-        return b;
+    question4(i, count, r1)
+}
+
+// Questions 1 to 5, of every event.
+pub fn every(me: Replica, count: usize, bytes: usize, i: usize, r: Record) -> Asked
+    ensures { λ a. ⌜ a ≡ asked (common me count bytes i r []) r ⌝ }
+{
+    let a = beforehand(me, count, bytes, i, r);
+    let Asked::Passed(r1) = a else {
+        return a;
     };
-    question5(me, r2)
+    question5(me, r1)
 }

@@ -14,16 +14,15 @@ use Rattle.hermes.specs.declared.event.Event.{Event}
 use Rattle.hermes.specs.declared.event.Event.the-variants.{Deliver}
 use Rattle.hermes.specs.declared.event.Moved.{Moved}
 use Rattle.hermes.specs.Order.{higher, later}
-use Rattle.hermes.specs.Store.{place}
 use Rattle.hermes.specs.Event.{common, own, refusal, moved, effect, movedBy, storedBy, storing, invStep, deliverStep}
 use Rattle.hermes.proofs.Guards.{event-passed, own-passed, deliver-own, inv-fits}
-use Rattle.replica_outcome.specs.Placing.{placed}
-use Rattle.replica_outcome.proofs.Bytes.{room-passed}
+use Rattle.replica_outcome.specs.Placing.{room, storedFor}
+use Rattle.replica_outcome.proofs.Bytes.{room-passed, stored-for}
 use Rattle.replica_asking.specs.declared.Asked.{Asked}
 use Rattle.replica_asking.specs.declared.Asked.the-variants.{Passed, Refused}
 use Rattle.replica_asking.specs.Cascade.{asked, stoppedBy}
 use Rattle.replica_outcome.proofs.Outcomes.{stops, stops-store, goes, goes-store}
-use Rattle.replica_delivery.specs.Kinds.{cameFrom, storedFor}
+use Rattle.replica_delivery.specs.Kinds.{cameFrom}
 
 -- a message taken apart by its kind is that message
 pub whole : (m : Received) (k : Message) → m .message ≡ k → cameFrom (m .sender) (m .epoch) k ≡ m
@@ -81,19 +80,15 @@ module _ (me : Replica) (count i : ℕ) (r : Record) (store : List ℕ) (v : Lis
   unfolding moved effect
   inv-moved = refl
 
-  fits : no ≡ 0 → placed count i v store ≡ place i v store
+  fits : no ≡ 0 → room count (length store) i (length v) ≡ true
   fits z =
-      rw (room-passed (event-passed me count (length store) i r inv (length v) z) (length v)
-      (inv-fits (Inv t) t (length v) refl (deliver-own me r (cameFrom sender epoch (Inv t)) (length v) (own-passed me count (length store) i r inv (length v) z) .shape)))
+      room-passed (event-passed me count (length store) i r inv (length v) z) (length v)
+      (inv-fits (Inv t) t (length v) refl (deliver-own me r (cameFrom sender epoch (Inv t)) (length v) (own-passed me count (length store) i r inv (length v) z) .shape))
 
   pub inv-newer : (d : Moved) → d ≡ moved higher me count (length store) i r inv v → later higher t (r .timestamp) ≡ true
       → storedFor (d .answer) count i v store ≡ effect higher me count i r store inv v .store
   unfolding moved effect
-  inv-newer d h g = ap (λ (x : Moved). storedFor (x .answer) count i v store) h ∙ rw g (go no refl)
-    where
-      go : (k : ℕ) → no ≡ k → storedFor (movedBy k r (invStep true me i r t sender v) .answer) count i v store ≡ storedBy k i store (invStep true me i r t sender v)
-      go zero e = fits e
-      go (suc k) e = refl
+  inv-newer d h g = ap (λ (x : Moved). storedFor (x .answer) count i v store) h ∙ rw g (stored-for no count i r (invStep true me i r t sender v) v store refl fits)
 
   pub inv-older : later higher t (r .timestamp) ≡ false → store ≡ effect higher me count i r store inv v .store
   unfolding effect

@@ -6,8 +6,7 @@ ghost use Rattle.hermes.specs.Order.{higher, later};
 ghost use Rattle.hermes.specs.Event.{effect, moved, movedBy, invStep};
 ghost use Rattle.hermes.specs.declared.event.Event.the-variants.{Deliver};
 ghost use Rattle.hermes.specs.declared.message.Message.the-variants.{Inv, Ack, Val};
-ghost use Rattle.replica_delivery.specs.Kinds.{cameFrom, storedFor};
-use hermes::Answer;
+ghost use Rattle.replica_delivery.specs.Kinds.{cameFrom};
 use hermes::Message;
 use hermes::Moved;
 use hermes::Outgoing;
@@ -55,16 +54,6 @@ pub fn move_inv(
     take_inv(me, i, r1, t, sender, value)
 }
 
-// The store of an invalidation with a greater timestamp, by its answer: an accepted one's value goes into its place.
-pub fn store_inv(store: &mut [u8], count: usize, i: usize, a: Answer, value: &[u8])
-    ensures { λ _. ⌜ now (store .exit) ≡ storedFor a count i (now (value .entry)) (now (store .entry)) ⌝ }
-{
-    match a {
-        Answer::Accepted(_) => replica_outcome::place(store, count, i, value),
-        Answer::Refused(_) => {}
-    }
-}
-
 // An invalidation with timestamp t.
 pub fn deliver_inv(
     me: Replica,
@@ -84,7 +73,7 @@ pub fn deliver_inv(
     let now = r.timestamp;
     if t.later(now) {
         let a = m.answer;
-        store_inv(store, count, i, a, value);
+        replica_outcome::stored(store, count, i, a, value);
     }
     m
 }

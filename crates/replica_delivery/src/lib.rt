@@ -7,4 +7,3 @@ pub use delivery::deliver_ack;
 pub use delivery::deliver_inv;
 pub use delivery::deliver_val;
 pub use delivery::move_inv;
-pub use delivery::store_inv;

@@ -3,4 +3,5 @@ mod events;
 mod writing;
 
 pub use events::step;
+pub use writing::move_write;
 pub use writing::write;

@@ -1,7 +1,9 @@
 // Write.
 ghost use mathlib.Core.Path.{_≡_};
+ghost use mathlib.Core.List.{[], _∷_};
 ghost use Rattle.hermes.specs.Order.{higher};
-ghost use Rattle.hermes.specs.Event.{common, own, effect};
+ghost use Rattle.hermes.specs.Event.{common, own, moved, effect};
+ghost use Rattle.hermes.specs.Guards.{question7, question8, question9};
 ghost use Rattle.hermes.specs.declared.event.Event.the-variants.{Write};
 ghost use Rattle.replica_asking.specs.Cascade.{asked};
 use hermes::Message;
@@ -10,6 +12,21 @@ use hermes::Record;
 use hermes::Replica;
 use replica_asking::Asked;
 
+// Questions 7 to 9, of a write alone. A function of its own: the compiler then keeps the record in registers.
+fn asks_value(r: Record, n: usize) -> Asked
+    ensures { λ a. ⌜ a ≡ asked (question7 r ∷ question8 n ∷ question9 r ∷ []) r ⌝ }
+{
+    let a = replica_guards::question7(r);
+    let Asked::Passed(r1) = a else {
+        return a;
+    };
+    let b = replica_guards::question8(n, r1);
+    let Asked::Passed(r2) = b else {
+        return b;
+    };
+    replica_guards::question9(r2)
+}
+
 fn asks(me: Replica, count: usize, bytes: usize, i: usize, r: Record, n: usize) -> Asked
     ensures { λ a. ⌜ a ≡ asked (common me count bytes i r (own me r Write n)) r ⌝ }
 {
@@ -17,15 +34,27 @@ fn asks(me: Replica, count: usize, bytes: usize, i: usize, r: Record, n: usize) 
     let Asked::Passed(r1) = a else {
         return a;
     };
-    let b = replica_guards::question7(r1);
-    let Asked::Passed(r2) = b else {
-        return b;
+    asks_value(r1, n)
+}
+
+// A write of a value to record i, r, but for the store, which is of so many bytes.
+pub fn move_write(
+    me: Replica,
+    count: usize,
+    bytes: usize,
+    i: usize,
+    r: Record,
+    value: &[u8],
+) -> Moved
+    ensures { λ m. ⌜ m ≡ moved higher me count bytes i r Write (now (value .entry)) ⌝ }
+{
+    let a = asks(me, count, bytes, i, r, value.len());
+    let Asked::Passed(r1) = a else {
+        return replica_asking::stopped(a, r);
     };
-    let c = replica_guards::question8(n, r2);
-    let Asked::Passed(r3) = c else {
-        return c;
-    };
-    replica_guards::question9(r3)
+    let next = r1.write(me.number, value.len() as u8);
+    let t = next.timestamp;
+    replica_outcome::accepted(replica_outgoing::send(me, i, Message::Inv(t)), next)
 }
 
 // A write of a value to record i, r.
@@ -40,12 +69,8 @@ pub fn write(
     ensures { λ m. ⌜ (m ≡ effect higher me count i r (now (store .entry)) Write (now (value .entry)) .moved)
         × (now (store .exit) ≡ effect higher me count i r (now (store .entry)) Write (now (value .entry)) .store) ⌝ }
 {
-    let a = asks(me, count, store.len(), i, r, value.len());
-    let Asked::Passed(r1) = a else {
-        return replica_asking::stopped(a, r);
-    };
-    replica_outcome::place(store, count, i, value);
-    let next = r1.write(me.number, value.len() as u8);
-    let t = next.timestamp;
-    replica_outcome::accepted(replica_outgoing::send(me, i, Message::Inv(t)), next)
+    let m = move_write(me, count, store.len(), i, r, value);
+    let a = m.answer;
+    replica_outcome::stored(store, count, i, a, value);
+    m
 }

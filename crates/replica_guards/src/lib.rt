@@ -109,8 +109,12 @@ pub fn question17(me: Replica, r: Record) -> Asked
 {
     let s = r.state;
     let pending = states::is_pending(s);
-    let valid = states::is_valid(s);
-    question(17, pending | (valid & (r.writer == me.number)), r)
+    if pending {
+        question(17, true, r)
+    } else {
+        let valid = states::is_valid(s);
+        question(17, valid & (r.writer == me.number), r)
+    }
 }
 
 pub fn question18(me: Replica, epoch: u32, r: Record) -> Asked
@@ -123,6 +127,10 @@ pub fn question19(me: Replica, view: u16, r: Record) -> Asked
     ensures { λ a. ⌜ a ≡ asked (question19 me view ∷ []) r ⌝ }
 {
     let inside = replica_members::within(view, me.view);
-    let two = replica_members::plural(view);
-    question(19, inside & two, r)
+    if inside {
+        let two = replica_members::plural(view);
+        question(19, two, r)
+    } else {
+        Asked::Refused(19)
+    }
 }

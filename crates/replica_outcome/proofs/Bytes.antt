@@ -13,7 +13,9 @@ use Rattle.hermes.specs.declared.record.Record.{Record}
 use Rattle.hermes.specs.declared.event.Replica.{Replica}
 use Rattle.hermes.proofs.Guards.{Common}
 use Rattle.hermes.proofs.Tests.{both}
-use Rattle.replica_outcome.specs.Placing.{room}
+use Rattle.hermes.specs.Event.{Step, movedBy, storedBy}
+use Rattle.hermes.specs.Event as event
+use Rattle.replica_outcome.specs.Placing.{room, storedFor}
 
 -- ---- zeros
 
@@ -73,3 +75,9 @@ roomy count bytes i n e =
 pub room-passed : {me : Replica} {count bytes i : ℕ} {r : Record} → Common me count bytes i r → (n : ℕ) → n ≤ 192 → room count bytes i n ≡ true
 room-passed {count = count} {bytes = bytes} {i = i} c n short =
     rw (le-leb count 4096 (c .few), eq-eqb bytes (192 * count) (c .whole), lt-ltb i count (c .inside), le-leb n 192 short)
+
+-- the store by the answer of a step that stores v is the store after that step, where its questions leave room
+pub stored-for : (k count i : ℕ) (r : Record) (s : Step) (v store : List ℕ) → s .stored ≡ event.placed v → (k ≡ 0 → room count (length store) i (length v) ≡ true)
+    → storedFor (movedBy k r s .answer) count i v store ≡ storedBy k i store s
+stored-for zero count i r s v store e fits = rw (fits refl, e)
+stored-for (suc k) count i r s v store e fits = refl

@@ -3,4 +3,4 @@ mod ends;
 mod value;
 
 pub use ends::accepted;
-pub use value::place;
+pub use value::stored;

@@ -3,7 +3,8 @@ ghost use mathlib.Core.Path.{_≡_};
 ghost use Prim.Native.Nat.{_≤_, _+_, _*_};
 ghost use lib.ListN.{length};
 ghost use Rattle.hermes.specs.Store.{place};
-ghost use Rattle.replica_outcome.specs.Placing.{room, placed};
+ghost use Rattle.replica_outcome.specs.Placing.{room, placed, storedFor};
+use hermes::Answer;
 use hermes::Record;
 
 // The comparisons of questions 2, 4, and 8 or 12. After them the compiler drops these.
@@ -36,10 +37,20 @@ fn put(store: &mut [u8], i: usize, value: &[u8])
 }
 
 // The value goes into the 192 bytes of record i of count, and zeros after it. Without room for it the store stays as it is.
-pub fn place(store: &mut [u8], count: usize, i: usize, value: &[u8])
+fn place(store: &mut [u8], count: usize, i: usize, value: &[u8])
     ensures { λ _. ⌜ now (store .exit) ≡ placed count i (now (value .entry)) (now (store .entry)) ⌝ }
 {
     if has_room(count, store.len(), i, value.len()) {
         put(store, i, value);
+    }
+}
+
+// The store of an event that stores its value, by its answer: an accepted one's value goes into its place.
+pub fn stored(store: &mut [u8], count: usize, i: usize, a: Answer, value: &[u8])
+    ensures { λ _. ⌜ now (store .exit) ≡ storedFor a count i (now (value .entry)) (now (store .entry)) ⌝ }
+{
+    match a {
+        Answer::Accepted(_) => place(store, count, i, value),
+        Answer::Refused(_) => {}
     }
 }

@@ -11,8 +11,8 @@ move-inv-requires c κs = search needs
 later-requires : tie.Need-later-requires
 later-requires c κs = search needs
 
-store-inv-requires : tie.Need-store-inv-requires
-store-inv-requires c κs = search needs
+stored-requires : tie.Need-stored-requires
+stored-requires c κs = search needs
 
 same-length : tie.Need-same-length
 same-length c = search needs
@@ -20,7 +20,7 @@ same-length c = search needs
 returns : tie.Need-returns
 returns c = let v = c .before .before .before .before .before .before .before .before .before .before .args in (
   c .before .before .before .before .before .before .before .move-inv .ensures ∙ inv-moved (v .me) (v .count) (v .i) (v .r) (v .store .now) (v .value .now) (v .sender) (v .epoch) (v .t),
-  c .before .before .store-inv .ensures ∙ inv-newer (v .me) (v .count) (v .i) (v .r) (v .store .now) (v .value .now) (v .sender) (v .epoch) (v .t) _ (c .before .before .before .before .before .before .before .move-inv .ensures) (sym (c .before .before .before .before .before .later .ensures) ∙ c .before .before .before .before .if1 .taken),
+  c .before .before .stored .ensures ∙ inv-newer (v .me) (v .count) (v .i) (v .r) (v .store .now) (v .value .now) (v .sender) (v .epoch) (v .t) _ (c .before .before .before .before .before .before .before .move-inv .ensures) (sym (c .before .before .before .before .before .later .ensures) ∙ c .before .before .before .before .if1 .taken),
 )
 
 returns-2 : tie.Need-returns-2
@@ -32,4 +32,4 @@ returns-2 c = let v = c .before .before .before .before .before .before .args in
 pub deliver-inv-spec : {M : Type 1} → statement M
 deliver-inv-spec =
     tie.close
-    (tie.spec move-inv-requires later-requires store-inv-requires same-length returns returns-2)
+    (tie.spec move-inv-requires later-requires stored-requires same-length returns returns-2)

@@ -24,68 +24,15 @@ returns c = let v = c .before .before .before .args in
     stop (common (v .me) (v .count) (v .bytes) (v .i) (v .r) []) (question7 (v .r) ∷ question8 (v .n) ∷ question9 (v .r) ∷ []) (v .r) (c .enum-told .given .0 .0) (sym (c .before .before .every .ensures) ∙ c .enum-told .given .1)
     )
 
-question7-requires : tie.Need-question7-requires
-question7-requires c κs = search needs
-
-enum-known-b : tie.Need-enum-known-b
-enum-known-b c = search needs
-
-enum-told-2 : tie.Need-enum-told-2
-enum-told-2 c = search needs
+asks-value-requires : tie.Need-asks-value-requires
+asks-value-requires c κs = search needs
 
 returns-2 : tie.Need-returns-2
-returns-2 c = let v = c .before .before .before .before .before .before .before .args in
-    c .enum-told2 .given .1
+returns-2 c = let v = c .before .before .before .before .before .args in
+    c .asks-value .ensures
     ∙ sym (
-    then (common (v .me) (v .count) (v .bytes) (v .i) (v .r) []) (λ x. question7 (x) ∷ question8 (v .n) ∷ question9 (x) ∷ []) (v .r) (c .before .before .before .before .a .given .0 .0) (sym (c .before .before .before .before .before .before .every .ensures) ∙ c .before .before .before .before .a .given .1)
-    ∙ stop (question7 (c .before .before .before .before .a .given .0 .0) ∷ []) (question8 (v .n) ∷ question9 (c .before .before .before .before .a .given .0 .0) ∷ []) (c .before .before .before .before .a .given .0 .0) (c .enum-told2 .given .0 .0) (sym (c .before .before .question7 .ensures) ∙ c .enum-told2 .given .1)
-    )
-
-question8-requires : tie.Need-question8-requires
-question8-requires c κs = search needs
-
-enum-known-c : tie.Need-enum-known-c
-enum-known-c c = search needs
-
-enum-told-3 : tie.Need-enum-told-3
-enum-told-3 c = search needs
-
-returns-3 : tie.Need-returns-3
-returns-3 c = let v = c .before .before .before .before .before .before .before .before .before .before .before .args in
-    c .enum-told3 .given .1
-    ∙ sym (
-    then (common (v .me) (v .count) (v .bytes) (v .i) (v .r) []) (λ x. question7 (x) ∷ question8 (v .n) ∷ question9 (x) ∷ []) (v .r) (c .before .before .before .before .before .before .before .before .a .given .0 .0) (sym (c .before .before .before .before .before .before .before .before .before .before .every .ensures) ∙ c .before .before .before .before .before .before .before .before .a .given .1)
-    ∙ then (question7 (c .before .before .before .before .before .before .before .before .a .given .0 .0) ∷ []) (λ x. question8 (v .n) ∷ question9 (x) ∷ []) (c .before .before .before .before .before .before .before .before .a .given .0 .0) (c .before .before .before .before .b .given .0 .0) (sym (c .before .before .before .before .before .before .question7 .ensures) ∙ c .before .before .before .before .b .given .1)
-    ∙ stop (question8 (v .n) ∷ []) (question9 (c .before .before .before .before .b .given .0 .0) ∷ []) (c .before .before .before .before .b .given .0 .0) (c .enum-told3 .given .0 .0) (sym (c .before .before .question8 .ensures) ∙ c .enum-told3 .given .1)
-    )
-
-question9-requires : tie.Need-question9-requires
-question9-requires c κs = search needs
-
-returns-4 : tie.Need-returns-4
-returns-4 c = let v = c .before .before .before .before .before .before .before .before .before .before .before .before .before .args in
-    c .question9 .ensures
-    ∙ sym (
-    then (common (v .me) (v .count) (v .bytes) (v .i) (v .r) []) (λ x. question7 (x) ∷ question8 (v .n) ∷ question9 (x) ∷ []) (v .r) (c .before .before .before .before .before .before .before .before .before .before .a .given .0 .0) (sym (c .before .before .before .before .before .before .before .before .before .before .before .before .every .ensures) ∙ c .before .before .before .before .before .before .before .before .before .before .a .given .1)
-    ∙ then (question7 (c .before .before .before .before .before .before .before .before .before .before .a .given .0 .0) ∷ []) (λ x. question8 (v .n) ∷ question9 (x) ∷ []) (c .before .before .before .before .before .before .before .before .before .before .a .given .0 .0) (c .before .before .before .before .before .before .b .given .0 .0) (sym (c .before .before .before .before .before .before .before .before .question7 .ensures) ∙ c .before .before .before .before .before .before .b .given .1)
-    ∙ then (question8 (v .n) ∷ []) (λ x. question9 (x) ∷ []) (c .before .before .before .before .before .before .b .given .0 .0) (c .before .before .c .given .0 .0) (sym (c .before .before .before .before .question8 .ensures) ∙ c .before .before .c .given .1)
+    then (common (v .me) (v .count) (v .bytes) (v .i) (v .r) []) (λ x. question7 x ∷ question8 (v .n) ∷ question9 x ∷ []) (v .r) (c .before .before .a .given .0 .0) (sym (c .before .before .before .before .every .ensures) ∙ c .before .before .a .given .1)
     )
 
 pub asks-spec : {M : Type 1} → statement M
-asks-spec =
-    tie.close
-    (tie.spec
-    every-requires
-    enum-known-a
-    enum-told
-    returns
-    question7-requires
-    enum-known-b
-    enum-told-2
-    returns-2
-    question8-requires
-    enum-known-c
-    enum-told-3
-    returns-3
-    question9-requires
-    returns-4)
+asks-spec = tie.close (tie.spec every-requires enum-known-a enum-told returns asks-value-requires returns-2)

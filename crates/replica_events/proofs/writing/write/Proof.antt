@@ -1,71 +1,24 @@
 -- `replica_events::writing::write` meets its contract.
-use Rattle.hermes.proofs.Guards.{event-passed, own-passed, write-own}
-use Rattle.hermes.specs.Event.{effect, writeStep}
-use native.Mathlib.Omega.{arith}
-use lib.ListN.{length}
-use Rattle.hermes.specs.declared.event.Event.the-variants as event
-use Rattle.replica_outcome.proofs.Outcomes.{stops, stops-store, goes, goes-store, accepted}
-use Rattle.replica_outcome.proofs.Bytes.{room-passed}
-use mathlib.Core.Path.{sym, _∙_}
+use Rattle.replica_events.proofs.Writes.{write-moved, write-stored}
+use mathlib.Core.Path.{_∙_}
 use borrow.Author.Needs.{needs}
 use Rattle.replica_events.proofs.writing.write.Statement.{statement}
 use Rattle.replica_events.proofs.writing.write.Tie as tie
 
-asks-requires : tie.Need-asks-requires
-asks-requires c κs = search needs
+move-write-requires : tie.Need-move-write-requires
+move-write-requires c κs = search needs
 
-enum-known-a : tie.Need-enum-known-a
-enum-known-a c = search needs
-
-enum-told : tie.Need-enum-told
-enum-told c = search needs
-
-stopped-requires : tie.Need-stopped-requires
-stopped-requires c κs = search needs
-
-returns : tie.Need-returns
-unfolding effect
-returns c = let v = c .before .before .before .before .before .before .args in (c .stopped .ensures ∙ stops (v .me) (v .count) (length (v .store .now)) (v .i) (v .r) event.Write (length (v .value .now)) _ (c .before .enum-told .given .0 .0) _ (c .before .before .before .asks .ensures) (c .before .enum-told .given .1), stops-store (v .me) (v .count) (length (v .store .now)) (v .i) (v .r) event.Write (length (v .value .now)) _ (c .before .enum-told .given .0 .0) (v .store .now) _ (c .before .before .before .asks .ensures) (c .before .enum-told .given .1))
-
-place-requires : tie.Need-place-requires
-place-requires c κs = search needs
-
-cast-write : tie.Need-cast-write
-cast-write c = let v = c .before .before .before .before .before .before .before .before .before .before .args in
-    let z = accepted (v .me) (v .count) (length (v .store .now)) (v .i) (v .r) event.Write (length (v .value .now)) (c .before .before .before .before .before .a .given .0 .0) (sym (c .before .before .before .before .before .before .before .asks .ensures) ∙ c .before .before .before .before .before .a .given .1) in
-    omega (arith, write-own (v .me) (v .r) (length (v .value .now)) (own-passed (v .me) (v .count) (length (v .store .now)) (v .i) (v .r) event.Write (length (v .value .now)) z) .fits)
-
-write-requires : tie.Need-write-requires
-write-requires c κs = search needs
-
-send-requires : tie.Need-send-requires
-send-requires c κs = search needs
-
-accepted-requires : tie.Need-accepted-requires
-accepted-requires c κs = search needs
+stored-requires : tie.Need-stored-requires
+stored-requires c κs = search needs
 
 same-length : tie.Need-same-length
 same-length c = search needs
 
-returns-2 : tie.Need-returns-2
-unfolding effect
-returns-2 c = let v = c .before .before .before .before .before .before .before .before .before .before .before .before .before .before .args in
-    let z = accepted (v .me) (v .count) (length (v .store .now)) (v .i) (v .r) event.Write (length (v .value .now)) (c .before .before .before .before .before .before .before .before .before .a .given .0 .0) (sym (c .before .before .before .before .before .before .before .before .before .before .before .asks .ensures) ∙ c .before .before .before .before .before .before .before .before .before .a .given .1) in
-    let here = room-passed (event-passed (v .me) (v .count) (length (v .store .now)) (v .i) (v .r) event.Write (length (v .value .now)) z) (length (v .value .now)) (write-own (v .me) (v .r) (length (v .value .now)) (own-passed (v .me) (v .count) (length (v .store .now)) (v .i) (v .r) event.Write (length (v .value .now)) z) .fits) in
-    (c .accepted .ensures ∙ rw (c .before .send .ensures, c .before .before .before .write .ensures) (goes (v .me) (v .count) (length (v .store .now)) (v .i) (v .r) event.Write (length (v .value .now)) _ (c .before .before .before .before .before .before .before .before .before .a .given .0 .0) (λ x. writeStep (v .me) (v .i) x (v .value .now)) (c .before .before .before .before .before .before .before .before .before .before .before .asks .ensures) (c .before .before .before .before .before .before .before .before .before .a .given .1)), c .before .before .before .before .before .before .place .ensures ∙ rw here (goes-store (v .me) (v .count) (length (v .store .now)) (v .i) (v .r) event.Write (length (v .value .now)) _ (c .before .before .before .before .before .before .before .before .before .a .given .0 .0) (v .store .now) (λ x. writeStep (v .me) (v .i) x (v .value .now)) (c .before .before .before .before .before .before .before .before .before .before .before .asks .ensures) (c .before .before .before .before .before .before .before .before .before .a .given .1)))
+returns : tie.Need-returns
+returns c = let v = c .before .before .before .before .before .before .before .args in (
+  c .before .before .before .before .move-write .ensures ∙ write-moved (v .me) (v .count) (v .i) (v .r) (v .store .now) (v .value .now),
+  c .before .before .stored .ensures ∙ write-stored (v .me) (v .count) (v .i) (v .r) (v .store .now) (v .value .now) _ (c .before .before .before .before .move-write .ensures),
+)
 
 pub write-spec : {M : Type 1} → statement M
-write-spec =
-    tie.close
-    (tie.spec
-    asks-requires
-    enum-known-a
-    enum-told
-    stopped-requires
-    returns
-    place-requires
-    cast-write
-    write-requires
-    send-requires accepted-requires
-    same-length
-    returns-2)
+write-spec = tie.close (tie.spec move-write-requires stored-requires same-length returns)

@@ -1,8 +1,8 @@
--- `replica_delivery::delivery::store_inv` meets its contract.
+-- `replica_outcome::value::stored` meets its contract.
 use mathlib.Core.Path.{_∙_}
 use borrow.Author.Needs.{needs}
-use Rattle.replica_delivery.proofs.delivery.store_inv.Statement.{statement}
-use Rattle.replica_delivery.proofs.delivery.store_inv.Tie as tie
+use Rattle.replica_outcome.proofs.value.stored.Statement.{statement}
+use Rattle.replica_outcome.proofs.value.stored.Tie as tie
 
 enum-told : tie.Need-enum-told
 enum-told c = search needs
@@ -22,6 +22,5 @@ returns c = c .before .before .place .ensures ∙ rw (c .before .before .before 
 returns-2 : tie.Need-returns-2
 returns-2 c = search needs
 
-pub store-inv-spec : {M : Type 1} → statement M
-store-inv-spec =
-    tie.close (tie.spec enum-told place-requires enum-told-2 same-length returns returns-2)
+pub stored-spec : {M : Type 1} → statement M
+stored-spec = tie.close (tie.spec enum-told place-requires enum-told-2 same-length returns returns-2)
