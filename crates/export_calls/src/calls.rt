@@ -1,23 +1,34 @@
-// Questions 1 to 4 for a table of so many bytes. Where they are not sixteen for each record, they hold none.
+// What every exported event on a record begins and ends with.
+ghost use mathlib.Core.Path.{_≡_};
+ghost use Rattle.replica_asking.specs.Cascade.{asked, beforehand, stoppedBy};
+ghost use Rattle.export_numbers.specs.Crossing.{answerOut};
+ghost use Rattle.export_records.specs.Layout.{countOf, unsound};
+ghost use Rattle.export_calls.specs.Calls.{begun, Finished};
 use export_numbers::CetskobiAnswer;
 use export_records::Found;
 use export_records::SIZE;
-use hermes::Answer;
 use hermes::Moved;
 use hermes::Record;
 use hermes::Replica;
 use replica_asking::Asked;
 
-fn before(me: Replica, len: usize, bytes: usize, i: usize, r: Record) -> Asked {
+// Questions 1 to 4 for a table of so many bytes: without a remainder first, so that the compiler asks after it once.
+fn beforehand(me: Replica, len: usize, bytes: usize, i: usize, r: Record) -> Asked
+    ensures { λ a. ⌜ a ≡ asked (beforehand me (countOf len) bytes i) r ⌝ }
+{
     if len % SIZE == 0 {
-        replica_asking::before(me, len / SIZE, bytes, i, r)
+        replica_asking::beforehand(me, len / SIZE, bytes, i, r)
     } else {
-        replica_asking::before(me, 0, bytes, i, r)
+        replica_asking::beforehand(me, 0, bytes, i, r)
     }
 }
 
-pub fn begin(me: Replica, table: &[u8], bytes: usize, i: usize) -> Asked {
-    let a = before(me, table.len(), bytes, i, export_records::none());
+// The beginning of an event on record i, with so many bytes of store: questions 1 to 4, and only then the record out of its bytes. In this
+// order the compiler has one way to each no, and saves no register for it.
+pub fn begin(me: Replica, table: &[u8], bytes: usize, i: usize) -> Asked
+    ensures { λ a. ⌜ a ≡ begun me (now (table .entry)) bytes i ⌝ }
+{
+    let a = beforehand(me, table.len(), bytes, i, export_records::none());
     let Asked::Passed(_) = a else {
         return a;
     };
@@ -28,14 +39,19 @@ pub fn begin(me: Replica, table: &[u8], bytes: usize, i: usize) -> Asked {
     }
 }
 
-pub fn refused(a: Asked) -> CetskobiAnswer {
-    match a {
-        Asked::Refused(k) => export_numbers::answer_out(Answer::Refused(k)),
-        Asked::Passed(_) => export_numbers::answer_out(Answer::Refused(0)),
-    }
+// The answer to an event whose beginning was refused.
+pub fn refused(a: Asked) -> CetskobiAnswer
+    ensures { λ out. ⌜ out ≡ answerOut (stoppedBy a unsound .answer) ⌝ }
+{
+    let m = replica_asking::stopped(a, export_records::none());
+    let answer = m.answer;
+    export_numbers::answer_out(answer)
 }
 
-pub fn finish(table: &mut [u8], i: usize, m: Moved) -> CetskobiAnswer {
+// The end of an event on record i: its answer, and the bytes of the table.
+pub fn finish(table: &mut [u8], i: usize, m: Moved) -> CetskobiAnswer
+    ensures { λ a. ⌜ Finished (now (table .entry)) i m a (now (table .exit)) ⌝ }
+{
     export_storing::settle(table, i, m);
     let a = m.answer;
     export_numbers::answer_out(a)

@@ -1,4 +1,1 @@
-pub mod Missing
-pub mod Parts
-pub mod Ends
-pub mod Unmoved
+pub mod Reads

@@ -13,13 +13,13 @@ use Rattle.hermes.proofs.Guards.{positive}
 use Rattle.replica_asking.specs.declared.Asked.the-variants.{Passed, Refused}
 use Rattle.replica_asking.specs.Cascade.{asked, next}
 
-never : {r : Record} {k : ℕ} → Passed r ≡ Refused k → ⊥
+pub never : {r : Record} {k : ℕ} → Passed r ≡ Refused k → ⊥
 never e = let z : _≡_ {A = ℕ} 0 1 = cc in omega arith
 
-the-record : {r s : Record} → Passed r ≡ Passed s → r ≡ s
+pub the-record : {r s : Record} → Passed r ≡ Passed s → r ≡ s
 the-record e = cc
 
-the-number : {k n : ℕ} → Refused k ≡ Refused n → k ≡ n
+pub the-number : {k n : ℕ} → Refused k ≡ Refused n → k ≡ n
 the-number e = cc
 
 -- a question asked of equal answers

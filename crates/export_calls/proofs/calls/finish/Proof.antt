@@ -1,7 +1,7 @@
--- `export_events::events::finish` meets its contract.
+-- `export_calls::calls::finish` meets its contract.
 use borrow.Author.Needs.{needs}
-use Rattle.export_events.proofs.events.finish.Statement.{statement}
-use Rattle.export_events.proofs.events.finish.Tie as tie
+use Rattle.export_calls.proofs.calls.finish.Statement.{statement}
+use Rattle.export_calls.proofs.calls.finish.Tie as tie
 
 settle-requires : tie.Need-settle-requires
 settle-requires c κs = search needs

@@ -22,7 +22,7 @@ use Rattle.export_storing.proofs.Back.{settled-back}
 use Rattle.export_numbers.specs.declared.numbers.CetskobiReplica.{CetskobiReplica}
 use Rattle.export_numbers.specs.declared.numbers.CetskobiAnswer.{CetskobiAnswer}
 use Rattle.export_numbers.specs.Crossing.{replicaOf}
-use Rattle.export_events.specs.Events.{nodeOf, Done}
+use Rattle.export_calls.specs.Calls.{nodeOf, Done}
 
 -- a step that leaves the record, done or refused
 same-after : (k : ℕ) (r : Record) (s : Step) → s .after ≡ r → movedBy k r s .after ≡ r

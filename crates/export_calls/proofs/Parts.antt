@@ -5,7 +5,7 @@ use native.Mathlib.Omega.{arith}
 use mathlib.Core.List.{List, []}
 use lib.ListN.{length, take, drop, length-drop}
 use lib.Seq.{length-take-le}
-use Rattle.export_events.specs.Part.{PartAt}
+use Rattle.export_calls.specs.Part.{PartAt}
 
 -- so many bytes that lie in the store
 pub whole-part : (store : List ℕ) (i n : ℕ) → 192 * i + n ≤ length store → PartAt store i (take n (drop (192 * i) store)) n
