@@ -2,7 +2,8 @@
 ghost use mathlib.Core.Path.{_≡_};
 ghost use mathlib.Core.List.{[]};
 ghost use Rattle.hermes.specs.declared.event.Event.the-variants.{Write, Replay, Validate, Resend};
-ghost use Rattle.export_events.specs.Events.{nodeOf, missing, Finished, Done, ReadDone};
+ghost use Rattle.export_calls.specs.Calls.{nodeOf, Done};
+ghost use Rattle.export_events.specs.Events.{ReadDone};
 use export_numbers::CetskobiAnswer;
 use export_numbers::CetskobiReading;
 use export_numbers::CetskobiReplica;
