@@ -1,4 +1,4 @@
-// Delivery from a packet, for C and Rust.
+// Delivery from a packet.
 ghost use Rattle.packet_format.specs.Reading.{fetched};
 ghost use Rattle.export_arrival.specs.Arrival.{Arrived};
 ghost use Rattle.export_calls.specs.Calls.{nodeOf};

@@ -11,7 +11,7 @@ use Rattle.export_numbers.specs.declared.numbers.CetskobiReplica.{CetskobiRepli
 use Rattle.export_numbers.specs.declared.numbers.CetskobiAnswer.{CetskobiAnswer}
 use Rattle.export_numbers.specs.declared.numbers.CetskobiMessage.{CetskobiMessage}
 use Rattle.export_numbers.specs.Crossing.{receivedIn}
-use Rattle.export_events.specs.Events.{nodeOf, Done}
+use Rattle.export_calls.specs.Calls.{nodeOf, Done}
 
 pub of-kind : (me : CetskobiReplica) (bytes store : List ℕ) (i : ℕ) (message : CetskobiMessage) (v : List ℕ) (a : CetskobiAnswer) (bytes′ store′ : List ℕ) (m : Received) (k : Message)
     → m ≡ receivedIn message → m .message ≡ k

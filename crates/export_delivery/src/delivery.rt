@@ -5,7 +5,7 @@ ghost use Rattle.hermes.specs.declared.event.Event.the-variants.{Deliver};
 ghost use Rattle.hermes.specs.declared.message.Message.the-variants.{Inv, Ack, Val};
 ghost use Rattle.replica_delivery.specs.Kinds.{cameFrom};
 ghost use Rattle.export_numbers.specs.Crossing.{receivedIn};
-ghost use Rattle.export_events.specs.Events.{nodeOf, Done};
+ghost use Rattle.export_calls.specs.Calls.{nodeOf, Done};
 use export_numbers::CetskobiAnswer;
 use export_numbers::CetskobiMessage;
 use export_numbers::CetskobiReplica;
@@ -38,8 +38,8 @@ fn arrive_inv(
     let m = replica_delivery::move_inv(who, count, store.len(), i, r, sender, epoch, t, value);
     if newer {
         let out = export_calls::finish(table, i, m);
-        let a = m.answer;
-        replica_outcome::stored(store, count, i, a, value);
+        let answer = m.answer;
+        replica_outcome::stored(store, count, i, answer, value);
         return out;
     }
     export_calls::finish(table, i, m)

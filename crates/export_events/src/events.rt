@@ -28,8 +28,8 @@ pub extern "C" fn cetskobi_write(
     let count = export_records::count(table.len());
     let m = replica_events::move_write(who, count, store.len(), i, r, value);
     let out = export_calls::finish(table, i, m);
-    let a = m.answer;
-    replica_outcome::stored(store, count, i, a, value);
+    let answer = m.answer;
+    replica_outcome::stored(store, count, i, answer, value);
     out
 }
 

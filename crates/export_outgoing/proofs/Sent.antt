@@ -37,9 +37,9 @@ use Rattle.hermes.proofs.Order.{equal-same}
 use Rattle.hermes.proofs.Guards.{slot-fits}
 use Rattle.hermes.proofs.Apply.{Applied, refused, accepted, applied, first-five, sound-step, stepOf, done}
 use Rattle.export_outgoing.specs.Leaving.{leftOf, fromSender, recipientsOf, Delivered, along, stampOf, holds, alongOf, AlongAt}
-use Rattle.export_events.specs.Part.{PartAt}
-use Rattle.export_events.specs.Events.{Done}
-use Rattle.export_events.proofs.Parts.{whole-part, no-part}
+use Rattle.export_calls.specs.Part.{PartAt}
+use Rattle.export_calls.specs.Calls.{Done}
+use Rattle.export_calls.proofs.Parts.{whole-part, no-part}
 
 -- ---- the kinds that the code tells apart
 

@@ -20,7 +20,7 @@ use Rattle.hermes.specs.Node.{recordAt}
 use Rattle.export_records.specs.Layout.{tableOf}
 use Rattle.export_numbers.specs.declared.numbers.CetskobiAnswer.{CetskobiAnswer}
 use Rattle.export_numbers.specs.Crossing.{messageIn}
-use Rattle.export_events.specs.Part.{PartAt}
+use Rattle.export_calls.specs.Part.{PartAt}
 
 -- a message of this kind about record i, stamped 0; of kind 0 and of an unknown kind nothing
 abbrev pub leftOf : ℕ → ℕ → Outgoing

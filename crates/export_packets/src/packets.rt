@@ -5,15 +5,8 @@ ghost use Rattle.packet_format.specs.Reading.{fetched};
 ghost use Rattle.packet_format.specs.Writing.{outputOf};
 ghost use Rattle.packet_words.specs.Words.{wordMessages, packed};
 ghost use Rattle.export_numbers.specs.Packets.{fetchedOut, writtenOut};
-ghost use Rattle.export_packets.specs.Packets.{Arrived};
-ghost use Rattle.export_events.specs.Events.{nodeOf};
-use export_numbers::CetskobiAnswer;
 use export_numbers::CetskobiFetched;
-use export_numbers::CetskobiMessage;
-use export_numbers::CetskobiReplica;
 use export_numbers::CetskobiWritten;
-use hermes::Answer;
-use packet_format::Fetched;
 
 // Message i of a packet.
 #[no_mangle]

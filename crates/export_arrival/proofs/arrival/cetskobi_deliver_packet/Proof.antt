@@ -1,8 +1,8 @@
--- `export_packets::packets::cetskobi_deliver_packet` meets its contract.
-use Rattle.export_packets.proofs.Arrivals.{found, refused}
+-- `export_arrival::arrival::cetskobi_deliver_packet` meets its contract.
+use Rattle.export_arrival.proofs.Arrivals.{found, refused}
 use borrow.Author.Needs.{needs}
-use Rattle.export_packets.proofs.packets.cetskobi_deliver_packet.Statement.{statement}
-use Rattle.export_packets.proofs.packets.cetskobi_deliver_packet.Tie as tie
+use Rattle.export_arrival.proofs.arrival.cetskobi_deliver_packet.Statement.{statement}
+use Rattle.export_arrival.proofs.arrival.cetskobi_deliver_packet.Tie as tie
 
 fetch-requires : tie.Need-fetch-requires
 fetch-requires c κs = search needs

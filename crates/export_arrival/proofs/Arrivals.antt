@@ -16,8 +16,8 @@ use Rattle.export_numbers.specs.declared.numbers.CetskobiReplica.{CetskobiRepli
 use Rattle.export_numbers.specs.declared.numbers.CetskobiAnswer.{CetskobiAnswer}
 use Rattle.export_numbers.specs.declared.numbers.CetskobiMessage.{CetskobiMessage}
 use Rattle.export_numbers.specs.Crossing.{answerOut, messageIn, receivedIn}
-use Rattle.export_events.specs.Events.{nodeOf, Done}
-use Rattle.export_packets.specs.Packets.{Arrived}
+use Rattle.export_calls.specs.Calls.{nodeOf, Done}
+use Rattle.export_arrival.specs.Arrival.{Arrived}
 
 -- a message that crossed as its numbers is that message
 back : (m : Message) → messageIn (kindOf m) (timestampOf m .version) (timestampOf m .tie) ≡ m
