@@ -1,10 +1,10 @@
 -- Two stores are a run of two bytes.
 use native.Mathlib.Omega.{arith}
 use lib.ListN.{length-set}
-use Rattle.packet_writer.proofs.Stores.{two-bytes}
+use Rattle.packet_contents.proofs.Stores.{two-bytes}
 use borrow.Author.Needs.{needs}
-use Rattle.packet_writer.proofs.output.put2.Statement.{statement}
-use Rattle.packet_writer.proofs.output.put2.Tie as tie
+use Rattle.packet_contents.proofs.output.put2.Statement.{statement}
+use Rattle.packet_contents.proofs.output.put2.Tie as tie
 
 cast-out : tie.Need-cast-out
 cast-out c = search needs

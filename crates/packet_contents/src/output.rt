@@ -24,15 +24,3 @@ pub(crate) fn put4(out: &mut [u8], at: usize, n: u32)
     out[at + 2] = (n / 256 % 256) as u8;
     out[at + 3] = (n % 256) as u8;
 }
-
-// All of `bytes`.
-pub(crate) fn put_all(out: &mut [u8], at: usize, bytes: &[u8])
-    requires { ⌜ at + length (now bytes) ≤ length (now out) ⌝ }
-    ensures { λ _. ⌜ now (out .exit) ≡ sets (now (out .entry)) at (now (bytes .entry)) ⌝ }
-{
-    let mut k = 0;
-    while k < bytes.len() {
-        out[at + k] = bytes[k];
-        k += 1;
-    }
-}

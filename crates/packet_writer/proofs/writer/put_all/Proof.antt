@@ -4,9 +4,9 @@ use Prim.Native.Nat.{_-_, _≤_}
 use native.Mathlib.Omega.{arith}
 use lib.ListN.{length, take, length-set}
 use lib.Seq.{sets}
-use Rattle.packet_writer.proofs.Stores.{sets-more, sets-done}
-use Rattle.packet_writer.proofs.output.put_all.Statement.{statement}
-use Rattle.packet_writer.proofs.output.put_all.Tie as tie
+use Rattle.packet_writer.proofs.Copying.{sets-more, sets-done}
+use Rattle.packet_writer.proofs.writer.put_all.Statement.{statement}
+use Rattle.packet_writer.proofs.writer.put_all.Tie as tie
 
 abbrev Inv-loop : tie.InvT-loop
 Inv-loop out₀ at bytes k₀ out k = (k ≤ length bytes) × (out ≡ sets out₀ at (take k bytes)) × (length out ≡ length out₀)
