@@ -1,9 +1,9 @@
 mod packets;
 
+pub use export_fields::CetskobiFetched;
+pub use export_fields::CetskobiWritten;
 pub use export_numbers::CetskobiAnswer;
-pub use export_numbers::CetskobiFetched;
 pub use export_numbers::CetskobiReplica;
-pub use export_numbers::CetskobiWritten;
 pub use packets::cetskobi_deliver_packet;
 pub use packets::cetskobi_fetch;
 pub use packets::cetskobi_pack;

@@ -4,14 +4,14 @@ ghost use lib.ListN.{length};
 ghost use Rattle.packet_format.specs.Reading.{fetched};
 ghost use Rattle.packet_format.specs.Writing.{outputOf};
 ghost use Rattle.packet_words.specs.Words.{wordMessages, packed};
-ghost use Rattle.export_numbers.specs.Packets.{fetchedOut, writtenOut};
+ghost use Rattle.export_fields.specs.Answers.{fetchedOut, writtenOut};
 ghost use Rattle.export_packets.specs.Packets.{Arrived};
 ghost use Rattle.export_events.specs.Events.{nodeOf};
+use export_fields::CetskobiFetched;
+use export_fields::CetskobiWritten;
 use export_numbers::CetskobiAnswer;
-use export_numbers::CetskobiFetched;
 use export_numbers::CetskobiMessage;
 use export_numbers::CetskobiReplica;
-use export_numbers::CetskobiWritten;
 use hermes::Answer;
 use packet_format::Fetched;
 
@@ -20,7 +20,7 @@ use packet_format::Fetched;
 pub extern "C" fn cetskobi_fetch(packet: &[u8], i: usize) -> CetskobiFetched
     ensures { λ r. ⌜ r ≡ fetchedOut (fetched (now (packet .entry)) i) ⌝ }
 {
-    export_numbers::fetched_out(packet_reader::fetch(packet, i))
+    export_fields::fetched_out(packet_reader::fetch(packet, i))
 }
 
 // A packet of messages, seven words for each, whose bodies stand end to end.
@@ -30,7 +30,7 @@ pub extern "C" fn cetskobi_pack(messages: &[u32], bodies: &[u8], out: &mut [u8])
         × (now (out .exit) ≡ outputOf (packed (now (messages .entry)) (now (bodies .entry)) (length (now (out .entry)))) (wordMessages (now (messages .entry))) (now (bodies .entry)) (now (out .entry))) ⌝ }
 {
     let written = packet_writer::write(messages, bodies, out);
-    export_numbers::written_out(written)
+    export_fields::written_out(written)
 }
 
 // Delivery of message i of a packet, with its body, to the record that it is about: that of `cetskobi_deliver`.

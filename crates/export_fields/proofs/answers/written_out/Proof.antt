@@ -1,7 +1,7 @@
--- `export_numbers::packets::written_out` meets its contract.
+-- `export_fields::answers::written_out` meets its contract.
 use borrow.Author.Needs.{needs}
-use Rattle.export_numbers.proofs.packets.written_out.Statement.{statement}
-use Rattle.export_numbers.proofs.packets.written_out.Tie as tie
+use Rattle.export_fields.proofs.answers.written_out.Statement.{statement}
+use Rattle.export_fields.proofs.answers.written_out.Tie as tie
 
 enum-known-written : tie.Need-enum-known-written
 enum-known-written c = search needs

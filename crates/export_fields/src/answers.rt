@@ -1,6 +1,6 @@
 // How the answers of the packet's reader and writer cross as numbers.
 ghost use mathlib.Core.Path.{_≡_};
-ghost use Rattle.export_numbers.specs.Packets.{fetchedOut, writtenOut};
+ghost use Rattle.export_fields.specs.Answers.{fetchedOut, writtenOut};
 use packet_format::Fetched;
 use packet_format::Written;
 

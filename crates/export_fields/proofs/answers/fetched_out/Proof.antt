@@ -1,9 +1,9 @@
--- `export_numbers::packets::fetched_out` meets its contract.
+-- `export_fields::answers::fetched_out` meets its contract.
 use mathlib.Core.Path.{ap}
-use Rattle.export_numbers.specs.Packets.{fieldsOut}
+use Rattle.export_fields.specs.Answers.{fieldsOut}
 use borrow.Author.Needs.{needs}
-use Rattle.export_numbers.proofs.packets.fetched_out.Statement.{statement}
-use Rattle.export_numbers.proofs.packets.fetched_out.Tie as tie
+use Rattle.export_fields.proofs.answers.fetched_out.Statement.{statement}
+use Rattle.export_fields.proofs.answers.fetched_out.Tie as tie
 
 enum-known-fetched : tie.Need-enum-known-fetched
 enum-known-fetched c = search needs

@@ -6,8 +6,8 @@ use Rattle.packet_format.specs.declared.answer.Fetched.the-variants.{Found, Ref
 use Rattle.packet_format.specs.declared.answer.Written.{Written}
 use Rattle.packet_format.specs.declared.answer.Written.the-variants as answer
 use Rattle.packet_format.specs.Entry.{fieldsFor}
-use Rattle.export_numbers.specs.declared.packets.CetskobiFetched.{CetskobiFetched}
-use Rattle.export_numbers.specs.declared.packets.CetskobiWritten.{CetskobiWritten}
+use Rattle.export_fields.specs.declared.answers.CetskobiFetched.{CetskobiFetched}
+use Rattle.export_fields.specs.declared.answers.CetskobiWritten.{CetskobiWritten}
 
 -- ---- reading
 
