@@ -4,16 +4,16 @@ ghost use lib.ListN.{length};
 ghost use Rattle.packet_format.specs.Reading.{fetched};
 ghost use Rattle.packet_format.specs.Writing.{outputOf};
 ghost use Rattle.packet_words.specs.Words.{wordMessages, packed};
-ghost use Rattle.export_numbers.specs.Packets.{fetchedOut, writtenOut};
-use export_numbers::CetskobiFetched;
-use export_numbers::CetskobiWritten;
+ghost use Rattle.export_fields.specs.Answers.{fetchedOut, writtenOut};
+use export_fields::CetskobiFetched;
+use export_fields::CetskobiWritten;
 
 // Message i of a packet.
 #[no_mangle]
 pub extern "C" fn cetskobi_fetch(packet: &[u8], i: usize) -> CetskobiFetched
     ensures { λ r. ⌜ r ≡ fetchedOut (fetched (now (packet .entry)) i) ⌝ }
 {
-    export_numbers::fetched_out(packet_reader::fetch(packet, i))
+    export_fields::fetched_out(packet_reader::fetch(packet, i))
 }
 
 // A packet of messages, seven words for each, whose bodies stand end to end.
@@ -23,5 +23,5 @@ pub extern "C" fn cetskobi_pack(messages: &[u32], bodies: &[u8], out: &mut [u8])
         × (now (out .exit) ≡ outputOf (packed (now (messages .entry)) (now (bodies .entry)) (length (now (out .entry)))) (wordMessages (now (messages .entry))) (now (bodies .entry)) (now (out .entry))) ⌝ }
 {
     let written = packet_writer::write(messages, bodies, out);
-    export_numbers::written_out(written)
+    export_fields::written_out(written)
 }

@@ -14,7 +14,7 @@ use Rattle.packet_words.specs.Words.{orUnfit, entryIn, fieldsAt, entryAt
 use Rattle.packet_words.proofs.Places.{message-at}
 
 -- question 22 says the same of the words and of their message
-good-fit : (f : Fields) → good (fieldsFor (entryIn f) 0) ≡ good f
+pub good-fit : (f : Fields) → good (fieldsFor (entryIn f) 0) ≡ good f
 unfolding entryIn good
 good-fit f = go (ltb (f .kind) 1) (ltb 3 (f .kind)) (ltb 255 (f .sender)) (ltb 255 (f .tie)) (ltb 255 (f .len)) refl refl refl refl refl
   where
@@ -29,7 +29,7 @@ good-fit f = go (ltb (f .kind) 1) (ltb 3 (f .kind)) (ltb 255 (f .sender)) (ltb 2
         ap good (message-back f (f .offset) (ltb-false (f .kind) 1 p) (ltb-false 3 (f .kind) q) refl)
 
 -- where it says yes, words are the fields of their message
-fields-fit : (words : List ℕ) (w at : ℕ) → good (fieldsAt words w 0) ≡ true → fieldsFor (entryAt words w) at ≡ fieldsAt words w at
+pub fields-fit : (words : List ℕ) (w at : ℕ) → good (fieldsAt words w 0) ≡ true → fieldsFor (entryAt words w) at ≡ fieldsAt words w at
 unfolding entryIn
 fields-fit words w at h =
     let f = fieldsAt words w at in

@@ -1,19 +1,18 @@
 -- The answer of a write from its two questions.
 use mathlib.Core.Path.{_≡_, refl, ap, sym, _∙_}
 use mathlib.Core.Bool.{Bool, true, false, cond, _||_}
-use mathlib.Core.Logic.{⊎-elim}
 use mathlib.Core.List.{List}
 use Prim.Native.Nat.{ℕ, _≤_, _<_}
 use native.Mathlib.Omega.{arith}
-use borrow.Author.Tests.{eq-eqb, ne-eqb, le-leb, lt-leb, ltb-true, ltb-false}
-use lib.Dec.{leb, ltb}
+use borrow.Author.Tests.{eq-eqb, ne-eqb, le-leb, lt-leb}
+use lib.Dec.{ltb}
 use lib.ListN.{length}
 use lib.Seq.{take-length}
-use Rattle.hermes.proofs.Tests.{either, neither, and-false}
 use Rattle.packet_format.specs.declared.entry.Entry.{Entry}
 use Rattle.packet_format.specs.declared.answer.Written.the-variants as answer
 use Rattle.packet_format.specs.Writing.{summed, totalOf, allGood, question24, question25, writeRefusal, packetWritten}
 use Rattle.packet_format.proofs.Writing.{accepted}
+use Rattle.packet_contents.proofs.Tables.{crowded}
 use Rattle.packet_question.specs.declared.question.Asked.{Asked}
 use Rattle.packet_question.specs.declared.question.Asked.the-variants.{Passed, Refused}
 use Rattle.packet_question.specs.Asking.{asked}
@@ -34,10 +33,6 @@ refused es r h p = go (allGood es) refl (sym h ∙ p)
     go : (b : Bool) → allGood es ≡ b → cond b (Passed (summed es)) Refused ≡ Refused → allGood es ≡ false
     go true e q = let z : _≡_ {A = ℕ} 0 1 = cc in absurd (omega arith)
     go false e q = e
-
--- what the code's test of the total tells where it is passed
-pub roomy : (total room : ℕ) → (ltb 1400 total || ltb room total) ≡ false → (total ≤ 1400) × (total ≤ room)
-roomy total room h = let s = neither (ltb 1400 total) (ltb room total) h in (ltb-false _ _ (s .0), ltb-false _ _ (s .1))
 
 module _ (es : List Entry) (bodies : List ℕ) (room : ℕ) where
   refused-24 : question24 es (length es) bodies .yes ≡ false → answer.Refused 24 ≡ packetWritten es (length es) bodies room
@@ -61,9 +56,7 @@ module _ (es : List Entry) (bodies : List ℕ) (room : ℕ) where
         refused-25 q = simp (le-leb _ _ a, le-leb _ _ b, take-length es, g, eq-eqb _ _ e, q)
 
         pub unroomy : (ltb 1400 total || ltb room total) ≡ true → answer.Refused 25 ≡ packetWritten es (length es) bodies room
-        unroomy h =
-            ⊎-elim (λ l. refused-25 (rw (← t, lt-leb total 1400 (ltb-true 1400 total l))))
-            (λ l. refused-25 (rw (← t, lt-leb total room (ltb-true room total l)) (and-false (leb total 1400)))) (either (ltb 1400 total) (ltb room total) h)
+        unroomy h = refused-25 (rw (← t) (crowded total room h))
 
         pub written-whole : total ≤ 1400 → total ≤ room → answer.Total total ≡ packetWritten es (length es) bodies room
         written-whole s f =

@@ -1,3 +1,3 @@
-pub mod Stores
+pub mod Copying
 pub mod Messages
 pub mod Answers

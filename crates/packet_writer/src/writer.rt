@@ -1,18 +1,29 @@
 // The writer.
 ghost use mathlib.Core.Path.{_≡_};
+ghost use Prim.Native.Nat.{_+_, _≤_};
 ghost use lib.ListN.{length};
+ghost use lib.Seq.{sets};
 ghost use Rattle.packet_format.specs.Writing.{outputOf};
 ghost use Rattle.packet_words.specs.Words.{wordMessages, packed};
-use crate::contents::put_contents;
-use crate::output::put_all;
-use crate::output::put2;
+use packet_contents::put_front;
 use packet_format::ENTRY_BYTES;
 use packet_format::HEADER_BYTES;
-use packet_format::RULE;
 use packet_format::TOTAL_MAX;
 use packet_format::Written;
 use packet_question::Asked;
 use packet_question::ask;
+
+// All of `bytes`.
+fn put_all(out: &mut [u8], at: usize, bytes: &[u8])
+    requires { ⌜ at + length (now bytes) ≤ length (now out) ⌝ }
+    ensures { λ _. ⌜ now (out .exit) ≡ sets (now (out .entry)) at (now (bytes .entry)) ⌝ }
+{
+    let mut k = 0;
+    while k < bytes.len() {
+        out[at + k] = bytes[k];
+        k += 1;
+    }
+}
 
 // A packet of the messages that the words hold, whose bodies stand end to end, written to the front of `out`.
 pub fn write(words: &[u32], bodies: &[u8], out: &mut [u8]) -> Written
@@ -35,10 +46,7 @@ pub fn write(words: &[u32], bodies: &[u8], out: &mut [u8]) -> Written
     if (TOTAL_MAX < total) | (out.len() < total) {
         return Written::Refused(25);
     }
-    out[0] = RULE;
-    out[1] = count as u8;
-    put2(out, 2, total);
-    put_contents(out, words, count);
+    put_front(words, bodies, out);
     put_all(out, start, bodies);
     Written::Total(total)
 }

@@ -1,28 +1,29 @@
 -- A script line by line: what is still to be printed after a line is what its rest prints.
 use mathlib.Core.Path.{_≡_, refl, sym, ap, _∙_, subst}
-use mathlib.Core.Bool.{cond}
+use mathlib.Core.Bool.{true, false, cond}
 use mathlib.Core.List.{List, [], _∷_, _++_}
 use Prim.Native.Nat.{ℕ, zero, suc, _+_, _-_, _*_, _≤_, _<_}
 use native.Mathlib.Nat.{zero-add, not-suc-le-zero}
 use native.Mathlib.Omega.{arith}
-use borrow.Author.Tests.{le-ltb, le-leb, lt-leb}
-use lib.Dec.{ltb, eqb}
-use lib.ListN.{length, take, drop, getD, set, length-set, length-append, length-drop, drop-of-length-le}
-use lib.Seq.{sets, take-length, drop-drop, take-nil}
-use Rattle.bytes.specs.Bytes.{indexOf, slice}
+use borrow.Author.Tests.{le-ltb, leb-true}
+use lib.Dec.{ltb, leb, eqb}
+use lib.ListN.{length, take, drop, getD, set, length-set, length-append, drop-of-length-le}
+use lib.Seq.{sets, take-nil}
 use Rattle.play_script.specs.Text.{lines}
 use Rattle.play_script.specs.Command.{lineOf, sizeOf}
 use Rattle.play_script.specs.declared.command.Line.{Line}
 use Rattle.play_script.specs.declared.line.Size.{Size}
-use Rattle.play_script.proofs.Lines.{lines-step}
-use Rattle.play_script.proofs.Words.{find-is, size-empty}
+use Rattle.play_script.proofs.Words.{size-empty}
 use Rattle.hermes.specs.Order.{higher}
 use Rattle.hermes.specs.Run.{Group, run}
+use Rattle.hermes.proofs.Tests.{both}
 use Rattle.play_member.specs.declared.member.Member.{Member}
 use Rattle.play_game.specs.declared.cluster.Cluster.{Cluster}
 use Rattle.play_game.specs.declared.turn.Done.{Done}
 use Rattle.play_game.specs.declared.game.Played.the-variants.{Printed, Refused}
 use Rattle.play_lines.specs.Print.{Put}
+use Rattle.play_bounds.specs.declared.bounds.Bounds.{Bounds}
+use Rattle.play_bounds.specs.Bounds.{playable, LineAt, BoundsAt}
 use Rattle.play_game.specs.Play.{freshNode, freshGroup, reply, turn, turnOf, after, prints, begun, opened, printed, playedAnswer, outputOf}
 use Rattle.play_log.specs.Log.{upTo, logOf}
 use Rattle.play_member.specs.Member.{nodeOf}
@@ -64,18 +65,11 @@ fresh-sound n heads bodies h lh lb = record {
 
 -- ---- one line after another
 
-pub next-line : (n : ℕ) (g : Group) (input : List ℕ) (pos end : ℕ) → pos < length input → end ≡ pos + indexOf 10 (slice pos (length input) input)
+pub next-line : (n : ℕ) (g : Group) (input : List ℕ) (pos : ℕ) (b : Bounds) → LineAt input pos b
     → prints n g (lines (drop pos input))
-    ≡ turn n g (take (end - pos) (drop pos input)) .text ++ prints n (after n g (take (end - pos) (drop pos input))) (lines (drop (end + 1) input))
-unfolding prints slice
-next-line n g input pos end h e =
-    let r = drop pos input in
-    let k = indexOf 10 r in
-    let e1 : end ≡ pos + k = e ∙ ap (λ (l : List ℕ). pos + indexOf 10 (drop pos l)) (take-length input) in
-    let a : k ≡ end - pos = omega arith in
-    let b : pos + (k + 1) ≡ end + 1 = omega arith in
-    ap (prints n g) (lines-step r (rw length-drop (omega arith)) ∙ ap (λ (l : List ℕ). take k r ∷ lines l) (drop-drop (k + 1) pos input))
-    ∙ (λ i. turn n g (take (a i) r) .text ++ prints n (after n g (take (a i) r)) (lines (drop (b i) input)))
+    ≡ turn n g (take (b .end - pos) (drop pos input)) .text ++ prints n (after n g (take (b .end - pos) (drop pos input))) (lines (drop (b .next) input))
+unfolding prints
+next-line n g input pos b l = ap (prints n g) (l .parts)
 
 pub no-line : (n : ℕ) (g : Group) (input : List ℕ) (pos : ℕ) → length input ≤ pos → prints n g (lines (drop pos input)) ≡ []
 unfolding prints lines
@@ -139,36 +133,36 @@ module _ (c : Cluster) (heads bodies s : List ℕ) (l : Line) (who : ℕ) (m₀ 
 
 -- ---- line one, and the whole
 
-no-first-line : (end : ℕ) → opened (lines []) ≡ begun (sizeOf (take end [])) (lines (drop (end + 1) []))
+no-first-line : (end next : ℕ) → opened (lines []) ≡ begun (sizeOf (take end [])) (lines (drop next []))
 unfolding lines
-no-first-line end = ap (λ (z : Size). begun z (lines (drop (end + 1) []))) (sym (ap sizeOf (take-nil end) ∙ size-empty))
+no-first-line end zero = ap (λ (z : Size). begun z []) (sym (ap sizeOf (take-nil end) ∙ size-empty))
+no-first-line end (suc next) = ap (λ (z : Size). begun z []) (sym (ap sizeOf (take-nil end) ∙ size-empty))
 
-pub first-line : (input : List ℕ) (end : ℕ) → end ≡ 0 + indexOf 10 (slice 0 (length input) input)
-    → printed input ≡ begun (sizeOf (take end input)) (lines (drop (end + 1) input))
+pub first-line : (input : List ℕ) (b : Bounds) → BoundsAt input 0 b → printed input ≡ begun (sizeOf (take (b .end) input)) (lines (drop (b .next) input))
 unfolding printed
-first-line [] end e = no-first-line end
-first-line (b ∷ input) end e =
-    let q = find-is 10 end (b ∷ input) e in
-    ap opened (lines-step (b ∷ input) (omega arith)) ∙ (λ i. begun (sizeOf (take (sym q i) (b ∷ input))) (lines (drop (sym q i + 1) (b ∷ input))))
+first-line [] b h = no-first-line (b .end) (b .next)
+first-line (x ∷ input) b h =
+    let e : b .end - 0 ≡ b .end = omega arith in
+    ap opened (h .0 (omega arith) .parts) ∙ ap (λ (k : ℕ). begun (sizeOf (take k (x ∷ input))) (lines (drop (b .next) (x ∷ input)))) e
+
+-- line one ends inside
+pub first-inside : (input : List ℕ) (b : Bounds) → BoundsAt input 0 b → b .end ≤ length input
+first-inside [] b h = rw (ap (λ (x : Bounds). x .end) (h .1 (omega arith))) (omega arith)
+first-inside (x ∷ input) b h = h .0 (omega arith) .inside
 
 -- what is refused, and what is played
+pub roomy : (input : List ℕ) (room : ℕ) → playable input room ≡ true → (length input ≤ 65536) × (25 * length input + 2 ≤ room)
+roomy input room h =
+    let s = both (leb (length input) 65536) (leb (25 * length input + 2) room) h in (leb-true _ _ (s .0), leb-true _ _ (s .1))
+
 module _ (input out : List ℕ) where
-  pub too-long : 65536 < length input → (Refused ≡ playedAnswer input (length out)) × (out ≡ outputOf input out)
+  pub unplayed : playable input (length out) ≡ false → (Refused ≡ playedAnswer input (length out)) × (out ≡ outputOf input out)
   unfolding playedAnswer outputOf
-  too-long h = (rw (lt-leb (length input) 65536 h), rw (lt-leb (length input) 65536 h))
+  unplayed h = (rw h, rw h)
 
-  pub too-short : length input ≤ 65536 → length out < 25 * length input + 2 → (Refused ≡ playedAnswer input (length out)) × (out ≡ outputOf input out)
-  unfolding playedAnswer outputOf
-  too-short l h = (
-    rw (le-leb (length input) 65536 l, lt-leb (25 * length input + 2) (length out) h),
-    rw (le-leb (length input) 65536 l, lt-leb (25 * length input + 2) (length out) h),
-  )
-
-  pub all-played : length input ≤ 65536 → 25 * length input + 2 ≤ length out → (text : List ℕ) (to : ℕ) (out′ : List ℕ) → printed input ≡ text → Put text 0 out to out′
+  pub all-played : playable input (length out) ≡ true → (text : List ℕ) (to : ℕ) (out′ : List ℕ) → printed input ≡ text → Put text 0 out to out′
       → (Printed to ≡ playedAnswer input (length out)) × (out′ ≡ outputOf input out)
   unfolding playedAnswer outputOf
-  all-played l h text to out′ e p =
-      let q : to ≡ length (printed input) = p .end ∙ zero-add (length text) ∙ ap length (sym e) in (
-        rw (le-leb (length input) 65536 l, le-leb (25 * length input + 2) (length out) h) (ap Printed q),
-        rw (le-leb (length input) 65536 l, le-leb (25 * length input + 2) (length out) h) (p .text ∙ ap (sets out 0) (sym e)),
-      )
+  all-played h text to out′ e p =
+      let q : to ≡ length (printed input) = p .end ∙ zero-add (length text) ∙ ap length (sym e) in
+      (rw h (ap Printed q), rw h (p .text ∙ ap (sets out 0) (sym e)))

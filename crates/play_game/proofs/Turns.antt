@@ -4,7 +4,7 @@ use mathlib.Core.Bool.{Bool, true, false, cond, not, _&&_}
 use mathlib.Core.List.{List, [], _∷_, _++_}
 use Prim.Native.Nat.{ℕ, _+_, _-_, _*_, _≤_, _<_}
 use native.Mathlib.Omega.{arith}
-use borrow.Author.Tests.{ltb-true, lt-ltb, le-ltb, eqb-true, not-true, not-false}
+use borrow.Author.Tests.{ltb-true, eqb-true, not-true, not-false}
 use lib.Dec.{ltb, eqb}
 use lib.ListN.{length, getD, take, drop, length-take, length-drop}
 use Rattle.hermes.specs.declared.record.Record.{Record}
@@ -34,6 +34,7 @@ use Rattle.play_lines.specs.Print.{Put, fitting, answerLine, unknownLine}
 use Rattle.play_lines.proofs.Printing.{put-all}
 use Rattle.play_game.specs.Play.{Turn, unknown, logNumber, played, reply, actionOf, entryTurn, turnOf}
 use Rattle.play_log.specs.Log.{envelopeOf, envelopeAt, hasPlace, Appended, logOf, Stored}
+use Rattle.play_bounds.specs.Bounds.{inGroup}
 use Rattle.play_game.specs.Cluster.{whoOf, lineResult, nodeBy, logBy, commit, DoneIs}
 use Rattle.play_log.proofs.Logs.{find-known, find-unknown, place-full, log-more, stored-more}
 
@@ -164,11 +165,11 @@ module _ (m : Member) (heads bodies : List ℕ) (sent at : ℕ) (out : List ℕ)
 -- ---- what a line comes to at its member
 
 module _ (n : ℕ) (s : List ℕ) (l : Line) (log : List Logged) (node : Node) where
-  pub line-entry : (who : ℕ) (c : Command) (x : Result) → l ≡ line.Entry who c → who < n → x ≡ perform higher (actionOf c (textOf s)) log node → x ≡ lineResult n s l log node
-  line-entry who c x e h r = rw (e, lt-ltb who n h) r
+  pub line-entry : (who : ℕ) (c : Command) (x : Result) → l ≡ line.Entry who c → inGroup n who ≡ true → x ≡ perform higher (actionOf c (textOf s)) log node → x ≡ lineResult n s l log node
+  line-entry who c x e h r = rw (e, h) r
 
-  pub line-stranger : (who : ℕ) (c : Command) → l ≡ line.Entry who c → n ≤ who → nothing ≡ lineResult n s l log node
-  line-stranger who c e h = rw (e, le-ltb who n h)
+  pub line-stranger : (who : ℕ) (c : Command) → l ≡ line.Entry who c → inGroup n who ≡ false → nothing ≡ lineResult n s l log node
+  line-stranger who c e h = rw (e, h)
 
   pub line-unknown : l ≡ line.Unknown → nothing ≡ lineResult n s l log node
   line-unknown e = rw e

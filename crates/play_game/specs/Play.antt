@@ -1,9 +1,9 @@
 -- The playing program (01): a script is played on the run of a group that agreement is proved of.
-use Prim.Native.Nat.{ℕ, _+_, _-_, _*_, _^_}
-use mathlib.Core.Bool.{Bool, cond, _&&_}
+use Prim.Native.Nat.{ℕ, _-_, _^_}
+use mathlib.Core.Bool.{cond}
 use mathlib.Core.List.{List, [], _∷_, _++_}
 use lib.ListN.{length, replicate}
-use lib.Dec.{ltb, leb}
+use lib.Dec.{ltb}
 use lib.Seq.{sets}
 use Rattle.hermes.specs.declared.message.Outgoing.{Outgoing}
 use Rattle.hermes.specs.declared.message.Outgoing.the-variants.{None, Sent}
@@ -26,6 +26,7 @@ use Rattle.play_lines.specs.declared.print.Left.the-variants as left
 use Rattle.play_game.specs.declared.game.Played.{Played}
 use Rattle.play_game.specs.declared.game.Played.the-variants as outcome
 use Rattle.play_lines.specs.Print.{answerLine, unknownLine}
+use Rattle.play_bounds.specs.Bounds.{playable}
 
 -- ---- 01, "laptops from 0, all in the view, one record"
 
@@ -119,12 +120,7 @@ printed input = opened (lines input)
 
 -- ---- the library
 
--- what playing an input into an output of so many bytes answers: the number of bytes printed; refused where the input is longer than 65,536 bytes,
--- or the output has fewer than 25 bytes for each of the input's, and 2 more
-abbrev pub playable : List ℕ → ℕ → Bool
-playable input room = leb (length input) 65536 && leb (25 * length input + 2) room
-
--- what `play` answers: how many bytes it printed, or a refusal where input or room are not as above
+-- what `play` answers: how many bytes it printed, or a refusal where input or room are not as they must be
 unfoldable pub playedAnswer : List ℕ → ℕ → Played
 playedAnswer input room = cond (playable input room) (outcome.Printed (length (printed input))) outcome.Refused
 

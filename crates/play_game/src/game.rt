@@ -1,19 +1,13 @@
 // A whole script.
 ghost use mathlib.Core.Path.{_≡_};
-ghost use Prim.Native.Nat.{_+_, _*_, _≤_, _<_};
+ghost use Prim.Native.Nat.{_*_, _≤_, _<_};
 ghost use lib.ListN.{length, drop};
 ghost use Rattle.play_script.specs.Text.{lines};
 ghost use Rattle.play_lines.specs.Print.{Put};
 ghost use Rattle.play_game.specs.Play.{freshGroup, prints, playedAnswer, outputOf};
 use crate::cluster::Cluster;
 use crate::turn;
-use play_lines::LINE_MAX;
 use play_script::Size;
-
-const LINE_FEED: u8 = b'\n';
-
-// The most bytes of an input.
-const INPUT_MAX: usize = 65536;
 
 // How many bytes were printed; refused where the input is too long, or the output too short for what an input of its length could print.
 pub enum Played {
@@ -51,7 +45,8 @@ fn play_lines(
     let mut pos = from;
     let mut at = 0;
     while pos < input.len() {
-        let end = bytes::scan::find(input, pos, input.len(), LINE_FEED);
+        let bounds = play_bounds::line_at(input, pos);
+        let end = bounds.end;
         let line = &input[pos..end];
         let asked = play_script::parse(line);
         let who = turn::who(asked, c.count);
@@ -61,7 +56,7 @@ fn play_lines(
         c.members[who] = after;
         c.sent = d.sent;
         at = d.at;
-        pos = end + 1;
+        pos = bounds.next;
     }
     at
 }
@@ -70,13 +65,11 @@ fn play_lines(
 pub fn play(input: &[u8], out: &mut [u8]) -> Played
     ensures { λ r. ⌜ (r ≡ playedAnswer (now (input .entry)) (length (now (out .entry)))) × (now (out .exit) ≡ outputOf (now (input .entry)) (now (out .entry))) ⌝ }
 {
-    if INPUT_MAX < input.len() {
+    if !play_bounds::playable(input, out.len()) {
         return Played::Refused;
     }
-    if out.len() < LINE_MAX * input.len() + 2 {
-        return Played::Refused;
-    }
-    let end = bytes::scan::find(input, 0, input.len(), LINE_FEED);
+    let bounds = play_bounds::line_at(input, 0);
+    let end = bounds.end;
     let size = play_script::group_size(&input[..end]);
     let Size::Of(count) = size else {
         let to = play_lines::put_unknown(out, 0);
@@ -84,6 +77,6 @@ pub fn play(input: &[u8], out: &mut [u8]) -> Played
     };
     let mut heads = head_space();
     let mut bodies = body_space();
-    let to = play_lines(count, input, end + 1, &mut heads, &mut bodies, out);
+    let to = play_lines(count, input, bounds.next, &mut heads, &mut bodies, out);
     Played::Printed(to)
 }

@@ -90,7 +90,7 @@ fn judge(
     let Line::Entry(k, what) = asked else {
         return play_member::idle(m);
     };
-    if count <= k {
+    if !play_bounds::in_group(count, k) {
         return play_member::idle(m);
     }
     perform(m, what, line, heads, bodies, sent)
@@ -168,7 +168,13 @@ pub(crate) fn who(asked: Line, count: usize) -> usize
     ensures { λ k. ⌜ (k ≡ whoOf count asked) × (k < 4) ⌝ }
 {
     match asked {
-        Line::Entry(k, _) => { if k < count { k } else { 0 } }
+        Line::Entry(k, _) => {
+            if play_bounds::in_group(count, k) {
+                k
+            } else {
+                0
+            }
+        }
         Line::Unknown => 0,
     }
 }

@@ -1,3 +1,2 @@
 -- Laws of the text of a script.
 pub mod Words
-pub mod Lines

@@ -28,7 +28,7 @@ use Rattle.play_script.specs.declared.line.Size.the-variants as size
 
 -- ---- the first space
 
-pub find-is : (b r : ℕ) (s : List ℕ) → r ≡ 0 + indexOf b (slice 0 (length s) s) → r ≡ indexOf b s
+find-is : (b r : ℕ) (s : List ℕ) → r ≡ 0 + indexOf b (slice 0 (length s) s) → r ≡ indexOf b s
 unfolding slice
 find-is b r s e = e ∙ zero-add _ ∙ ap (indexOf b) (take-length s)
 

@@ -1,6 +1,6 @@
 -- `export_packets::packets::cetskobi_fetch` meets its contract.
 use mathlib.Core.Path.{ap, _∙_}
-use Rattle.export_numbers.specs.Packets.{fetchedOut}
+use Rattle.export_fields.specs.Answers.{fetchedOut}
 use borrow.Author.Needs.{needs}
 use Rattle.export_packets.proofs.packets.cetskobi_fetch.Statement.{statement}
 use Rattle.export_packets.proofs.packets.cetskobi_fetch.Tie as tie

@@ -1,6 +1,6 @@
 -- `export_packets::packets::cetskobi_pack` meets its contract.
 use mathlib.Core.Path.{_∙_, ap}
-use Rattle.export_numbers.specs.Packets.{writtenOut}
+use Rattle.export_fields.specs.Answers.{writtenOut}
 use borrow.Author.Needs.{needs}
 use Rattle.export_packets.proofs.packets.cetskobi_pack.Statement.{statement}
 use Rattle.export_packets.proofs.packets.cetskobi_pack.Tie as tie

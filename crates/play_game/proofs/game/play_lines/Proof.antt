@@ -35,17 +35,17 @@ loop-holds c = let v = c .before .before .before .before .before .args in
       zero-add _ ∙ ap length e,
     )
 
-find-requires : tie.Need-find-requires Inv-loop μ-loop
-find-requires c κs = (omega arith, omega arith)
+line-at-requires : tie.Need-line-at-requires Inv-loop μ-loop
+line-at-requires c κs = search needs
 
 sub-line : tie.Need-sub-line Inv-loop μ-loop
-sub-line c = omega (arith, c .find .ensures .0)
+sub-line c = omega (arith, c .line-at .ensures .0 (c .before .loop-test .taken) .begins)
 
 part-line-start : tie.Need-part-line-start Inv-loop μ-loop
-part-line-start c = omega (arith, c .find .ensures .0, c .find .ensures .1)
+part-line-start c = omega (arith, c .line-at .ensures .0 (c .before .loop-test .taken) .begins, c .line-at .ensures .0 (c .before .loop-test .taken) .inside)
 
 part-line-end : tie.Need-part-line-end Inv-loop μ-loop
-part-line-end c = omega (arith, c .find .ensures .0, c .find .ensures .1)
+part-line-end c = omega (arith, c .line-at .ensures .0 (c .before .loop-test .taken) .begins, c .line-at .ensures .0 (c .before .loop-test .taken) .inside)
 
 parse-requires : tie.Need-parse-requires Inv-loop μ-loop
 parse-requires c κs = search needs
@@ -68,27 +68,25 @@ mul-after c = omega (arith, c .before .before .before .before .before .before .b
 element-set-from-after : tie.Need-element-set-from-after Inv-loop μ-loop
 element-set-from-after c = omega (arith, c .before .before .before .before .before .before .before .before .before .before .before .before .who .ensures .1)
 
-add-pos : tie.Need-add-pos Inv-loop μ-loop
-add-pos c = omega (arith, c .before .before .before .before .before .before .before .before .before .before .before .before .before .before .before .find .ensures .1, c .before .before .before .before .before .before .before .before .before .before .before .before .before .before .before .before .before .before .before .before .before .before .before .pre .1)
-
 loop-less : tie.Need-loop-less Inv-loop μ-loop
-loop-less c = omega (arith, c .before .before .before .before .before .before .before .before .before .before .before .before .before .before .before .find .ensures .0)
+loop-less c = let l = c .before .before .before .before .before .before .before .before .before .before .before .before .before .before .before .line-at .ensures .0 (c .before .before .before .before .before .before .before .before .before .before .before .before .before .before .before .before .loop-test .taken) in omega (arith, l .begins, l .onward)
 
 loop-again : tie.Need-loop-again Inv-loop μ-loop
 loop-again c =
     let v = c .before .before .before .before .before .before .before .before .before .before .before .before .before .before .before .before .before .before .before .before .before .before .before .args in
     let i = c .before .before .before .before .before .before .before .before .before .before .before .before .before .before .before .before .before .loop in
-    let f = c .before .before .before .before .before .before .before .before .before .before .before .before .before .before .before .find in
-    let end = f .result in
+    let f = c .before .before .before .before .before .before .before .before .before .before .before .before .before .before .before .line-at in
+    let end = f .result .end in
     let p = c .before .before .before .before .before .before .before .before .before .before .before .before .before .parse in
     let w = c .before .before .before .before .before .before .before .before .before .before .before .before .who in
     let b = c .before .before .before .before .before .before .before .before .before .before .before .before .before .before .before .before .loop-test .taken in
     let r = c .before .before .before .before .before .before .before .turn in
-    let t = next-line (i .c .count) (groupOf (i .c) (i .heads) (i .bodies)) (v .input .now) (i .pos) end b (f .ensures .0) in
+    let l = f .ensures .0 b in
+    let t = next-line (i .c .count) (groupOf (i .c) (i .heads) (i .bodies)) (v .input .now) (i .pos) (f .result) l in
     let s = again (i .c) (i .heads) (i .bodies) (take (end - i .pos) (drop (i .pos) (v .input .now))) (p .result) (w .result) _ (i .at) (i .out) (r .result)
     (r .last .1 .1 .1 .1 .0) (r .last .1 .1 .1 .1 .1 .0) (r .last .1 .1 .1 .1 .1 .1 .1 .0) (i .inv .2) (p .ensures) (w .ensures .0) (w .ensures .1) (r .ensures)
-    (lines (drop (i .pos) (v .input .now))) (lines (drop (end + 1) (v .input .now))) t in
-    let q : r .result .at + 25 * (length (v .input .now) - (end + 1)) ≤ 25 * length (v .input .now) = omega (arith, b, s .0, f .ensures .0, i .inv .1) in (
+    (lines (drop (i .pos) (v .input .now))) (lines (drop (f .result .next) (v .input .now))) t in
+    let q : r .result .at + 25 * (length (v .input .now) - f .result .next) ≤ 25 * length (v .input .now) = omega (arith, b, s .0, l .begins, l .onward, i .inv .1) in (
       r .kept .1 .1 .1 .1 .1 .1 .1 .0 ∙ i .inv .0,
       q,
       s .1,
@@ -118,7 +116,7 @@ play-lines-spec =
     μ-loop
     fresh-requires
     loop-holds
-    find-requires
+    line-at-requires
     sub-line
     part-line-start
     part-line-end
@@ -129,7 +127,6 @@ play-lines-spec =
     turn-requires
     mul-after
     element-set-from-after
-    add-pos
     loop-less
     loop-again
     same-length
