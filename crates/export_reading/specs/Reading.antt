@@ -1,4 +1,4 @@
--- What an exported read gives; the other events are `Done` (export_calls).
+-- What an exported read gives. The other events are `Done` of export_calls.
 use Prim.Native.Nat.{ℕ}
 use mathlib.Core.Path.{_≡_}
 use mathlib.Core.List.{[]}

@@ -31,7 +31,7 @@ use Rattle.export_calls.specs.Calls.{nodeOf, begun}
 use Rattle.export_calls.proofs.Parts.{whole-part, no-part}
 use Rattle.export_calls.proofs.Beginnings.{refused-by, refused-done}
 use Rattle.export_calls.proofs.Ends.{Taken, same}
-use Rattle.export_events.specs.Events.{ReadDone}
+use Rattle.export_reading.specs.Reading.{ReadDone}
 
 part-none : (store : List ℕ) (i k : ℕ) (v : List ℕ) → 0 < k → PartAt store i (partOf k v) 0
 part-none store i zero v l = absurd (omega arith)

@@ -1,10 +1,10 @@
--- `export_events::events::cetskobi_read` meets its contract.
+-- `export_reading::reading::cetskobi_read` meets its contract.
 use Rattle.export_calls.proofs.Ends.{taken-here}
-use Rattle.export_events.proofs.Readings.{begun-read, read-refused, read-accepted}
+use Rattle.export_reading.proofs.Readings.{begun-read, read-refused, read-accepted}
 use native.Mathlib.Omega.{arith}
 use borrow.Author.Needs.{needs}
-use Rattle.export_events.proofs.events.cetskobi_read.Statement.{statement}
-use Rattle.export_events.proofs.events.cetskobi_read.Tie as tie
+use Rattle.export_reading.proofs.reading.cetskobi_read.Statement.{statement}
+use Rattle.export_reading.proofs.reading.cetskobi_read.Tie as tie
 
 replica-of-requires : tie.Need-replica-of-requires
 replica-of-requires c κs = search needs
