@@ -26,7 +26,7 @@ use Rattle.replica_start.proofs.Walk.{replica-val, has-number, has-replica}
 use Rattle.hermes.specs.declared.record.Record.{Record}
 use Rattle.hermes.specs.declared.event.Replica.{Replica}
 use Rattle.hermes.proofs.event.Replica as P
-use Rattle.replica_table.proofs.read_number as engine
+use Rattle.replica_parts.proofs.read_number as engine
 
 abbrev pub args : Replica → List Record → List ℕ → GName → GName → ℕ → ℕ → Replica × (RefT (List Record) × (RefT (List ℕ) × (ℕ × Unit {0})))
 args me xs bs γ δ b c = (me, (record { ptr = (b, 0); name = γ; now = xs }, (record { ptr = (c, 0); name = δ; now = bs }, (0, tt))))

@@ -56,10 +56,10 @@ use Rattle.hermes.specs.Node as node
 use Rattle.check_story.specs.declared.laptop.Turned.{Turned}
 use Rattle.check_story.proofs.laptop.Turned as S
 use Rattle.check_story.proofs.laptop.Turned.Laws as S′
-use Rattle.replica_table.proofs.body as engine
-use Rattle.replica_table.proofs.body.Symbol as engine-def
-use Rattle.replica_table.proofs.body.Symbol.{name as #replica-table·body}
-use Rattle.replica_table.proofs.body.Met as engine-thm
+use Rattle.replica_parts.proofs.body as engine
+use Rattle.replica_parts.proofs.body.Symbol as engine-def
+use Rattle.replica_parts.proofs.body.Symbol.{name as #replica-parts·body}
+use Rattle.replica_parts.proofs.body.Met as engine-thm
 use Rattle.check_story.proofs.laptop.turn as turn
 use Rattle.check_story.proofs.laptop.turn.Symbol as turn-def
 use Rattle.check_story.proofs.laptop.turn.Symbol.{name as #check-story·laptop·turn}
@@ -133,7 +133,7 @@ module _ {M : Type 1} (𝓤 : URA M) (H : Heap 𝓤) (A : Atoms 𝓤) (W : Given
       owned ! S.the-row (Is S.the-row) (SL.makes S.the-type S′.the-plain 𝓤 H A) t _ t-is $ nothing ! $ has-event ! e e-is $ fjoin ! $ has-bytes ! bs bs-is $ fjoin ! $ has-records ! xs xs-is $ fjoin ! $ has-replica ! me me-is $ fjoin ! $
       has-bytes ! ss ss-is $ fjoin ! $ has-records ! ys ys-is $ fjoin ! $ has-outgoing ! out out-is $ fjoin ! $ nothing ! $ done !
 
-  walk : (C : Calls 𝓤 H) (Λ : Loops 𝓤 H) → FmC 𝓤 H (W .laws) C → Triple 𝓤 (C #replica-table·body) (Engine 𝓤 H A mem run) → Triple 𝓤 (C #check-story·laptop·turn) (Turn 𝓤 H A mem run) → ent 𝓤 (onEntry 𝓤 H A deliver.signature tt tt a at)
+  walk : (C : Calls 𝓤 H) (Λ : Loops 𝓤 H) → FmC 𝓤 H (W .laws) C → Triple 𝓤 (C #replica-parts·body) (Engine 𝓤 H A mem run) → Triple 𝓤 (C #check-story·laptop·turn) (Turn 𝓤 H A mem run) → ent 𝓤 (onEntry 𝓤 H A deliver.signature tt tt a at)
       (WpFn 𝓤 H C Λ code.function (outgoing-val out ∷ records-val ys ∷ bytes-val ss ∷ replica-val me ∷ records-val xs ∷ bytes-val bs ∷ event-val e ∷ []) Post)
   walk C Λ fm known known-turn =
       qed W (‵ ftrue ∷ ‵ (owns (O.the-row ∷ Array R.the-row 1 ∷ Array u8 192 ∷ P.the-row ∷ Array R.the-row 1 ∷ Array u8 192 ∷ E.the-row ∷ []) a at) ∷ []) ∵ keep ! [] $
@@ -173,7 +173,7 @@ module _ {M : Type 1} (𝓤 : URA M) (H : Heap 𝓤) (A : Atoms 𝓤) (W : Given
       keep ! ([]) $ by ! (exits t (subst (Is S.the-row t) (SL.tells S.the-type S′.the-laws t (u ∷ []) is) is) (subst (λ (vs : List ℕ). Turns vs t) handed said))))))))))))))))))))))))))
 
 module _ {M : Type 1} (𝓤 : URA M) (H : Heap 𝓤) (A : Atoms 𝓤) (W : Given 𝓤 H A) (mem : Memory → SProp 𝓤) (run : Routine → Fun 𝓤) where
-  deliver-walks : (C : Calls 𝓤 H) (Λ : Loops 𝓤 H) → FmC 𝓤 H (W .laws) C → Triple 𝓤 (C #replica-table·body) (Engine 𝓤 H A mem run) → Triple 𝓤 (C #check-story·laptop·turn) (Turn 𝓤 H A mem run)
+  deliver-walks : (C : Calls 𝓤 H) (Λ : Loops 𝓤 H) → FmC 𝓤 H (W .laws) C → Triple 𝓤 (C #replica-parts·body) (Engine 𝓤 H A mem run) → Triple 𝓤 (C #check-story·laptop·turn) (Turn 𝓤 H A mem run)
       → Walks 𝓤 H A deliver.ended stayed (WpFn 𝓤 H C Λ code.function) (deliver.clauses 𝓤 H A mem run)
   deliver-walks C Λ fm known known-turn = walked 𝓤 H A deliver.ended stayed (deliver.clauses 𝓤 H A mem run) (WpFn 𝓤 H C Λ code.function)
       (λ κs. (EL.vals O.the-type O′.the-laws, (records-vals, (bytes-vals, (SL.vals P.the-type P′.the-laws, (records-vals, (bytes-vals, (EL.vals E.the-type E′.the-laws, tt))))))))
@@ -190,7 +190,7 @@ module _ {M : Type 1} (𝓤 : URA M) (H : Heap 𝓤) (A : Atoms 𝓤) (W : Given
       (λ κs qs bounds a g are. via 𝓤 _ (fst∗ 𝓤 _ (emp 𝓤)) (walk 𝓤 H A W mem run (a .0) (a .1 .0) (a .1 .1 .0) (a .1 .1 .1 .0) (a .1 .1 .1 .1 .0) (a .1 .1 .1 .1 .1 .0) (a .1 .1 .1 .1 .1 .1 .0)
       (are .0) (are .1 .0) (are .1 .1 .0) (are .1 .1 .1 .0) (are .1 .1 .1 .1 .0) (are .1 .1 .1 .1 .1 .0) (are .1 .1 .1 .1 .1 .1 .0) C Λ fm known known-turn))
 
-deliver-meets : {M : Type 1} (𝓤 : URA M) (H : Heap 𝓤) (A : Atoms 𝓤) → Given 𝓤 H A → (mem : Memory → SProp 𝓤) (run : Routine → Fun 𝓤) (𝓣 : Tables 𝓤 H) → Triple 𝓤 (𝓣 .C #replica-table·body) (Engine 𝓤 H A mem run) → Triple 𝓤 (𝓣 .C #check-story·laptop·turn) (Turn 𝓤 H A mem run)
+deliver-meets : {M : Type 1} (𝓤 : URA M) (H : Heap 𝓤) (A : Atoms 𝓤) → Given 𝓤 H A → (mem : Memory → SProp 𝓤) (run : Routine → Fun 𝓤) (𝓣 : Tables 𝓤 H) → Triple 𝓤 (𝓣 .C #replica-parts·body) (Engine 𝓤 H A mem run) → Triple 𝓤 (𝓣 .C #check-story·laptop·turn) (Turn 𝓤 H A mem run)
     → Meets 𝓤 H A deliver.signature (WpFn 𝓤 H (𝓣 .C) (𝓣 .Λ) code.function) (deliver.spec 𝓤 H A mem run)
 deliver-meets 𝓤 H A W mem run 𝓣 known known-turn =
     walk-meets 𝓤 H A deliver.ended stayed W (
@@ -211,5 +211,5 @@ deliver-spec 𝓤 H 𝓜 𝓖 𝓡 =
     entered 𝓤 H (tripleOf 𝓤 H (𝓖 .A) deliver.signature (deliver.spec 𝓤 H (𝓖 .A) (𝓜 .mem) (𝓡 .run)))
     (tables 𝓤 H 𝓜 𝓡 code.env .C) (tables 𝓤 H 𝓜 𝓡 code.env .Λ) #check-story·laptop·deliver code.function (code.unfolded 𝓤 H 𝓜 𝓡)
     (deliver-meets 𝓤 H (𝓖 .A) (givenOf 𝓤 H 𝓜 𝓖) (𝓜 .mem) (𝓡 .run) (tablesOf 𝓤 H 𝓜 (tables 𝓤 H 𝓜 𝓡 code.env))
-    (cited 𝓤 H (Engine 𝓤 H (𝓖 .A) (𝓜 .mem) (𝓡 .run)) 𝓜 𝓡 code.env #replica-table·body engine-def.routine code.calls-replica-table·body (engine-thm.met 𝓤 H 𝓜 𝓖 𝓡))
+    (cited 𝓤 H (Engine 𝓤 H (𝓖 .A) (𝓜 .mem) (𝓡 .run)) 𝓜 𝓡 code.env #replica-parts·body engine-def.routine code.calls-replica-parts·body (engine-thm.met 𝓤 H 𝓜 𝓖 𝓡))
     (cited 𝓤 H (Turn 𝓤 H (𝓖 .A) (𝓜 .mem) (𝓡 .run)) 𝓜 𝓡 code.env #check-story·laptop·turn turn-def.routine code.calls-check-story·laptop·turn (turn-thm.met 𝓤 H 𝓜 𝓖 𝓡)))

@@ -49,10 +49,10 @@ use Rattle.hermes.proofs.event.Answer as An
 use Rattle.hermes.proofs.event.Answer.Laws as An′
 use Rattle.hermes.specs.Order.{higher}
 use Rattle.hermes.specs.Node as node
-use Rattle.replica_table.proofs.read_number as engine
-use Rattle.replica_table.proofs.read_number.Symbol as engine-def
-use Rattle.replica_table.proofs.read_number.Symbol.{name as #replica-table·read-number}
-use Rattle.replica_table.proofs.read_number.Met as engine-thm
+use Rattle.replica_parts.proofs.read_number as engine
+use Rattle.replica_parts.proofs.read_number.Symbol as engine-def
+use Rattle.replica_parts.proofs.read_number.Symbol.{name as #replica-parts·read-number}
+use Rattle.replica_parts.proofs.read_number.Met as engine-thm
 use Rattle.check_story.proofs.laptop.read_number.Key.{name as #check-story·laptop·read-number}
 use Rattle.check_story.proofs.laptop.read_number as read-number
 use Rattle.check_story.proofs.laptop.read_number.Statement as stated
@@ -89,7 +89,7 @@ module _ {M : Type 1} (𝓤 : URA M) (H : Heap 𝓤) (A : Atoms 𝓤) (W : Given
       qed W [] ∵ suffices ! _ (ends-at 𝓤 H A read-number.ended stayed (read-number.clauses 𝓤 H A mem run) W ((tt, tt, tt, a, at), tt) (answer-val r) r (tt, (tt, (tt, tt))) (tt, (tt, (tt, tt)))) $ says ! said $
       has-answer ! r r-is $ nothing ! $ has-bytes ! bs bs-is $ fjoin ! $ has-records ! xs xs-is $ fjoin ! $ has-replica ! me me-is $ fjoin ! $ nothing ! $ done !
 
-  walk : (C : Calls 𝓤 H) (Λ : Loops 𝓤 H) → FmC 𝓤 H (W .laws) C → Triple 𝓤 (C #replica-table·read-number) (Engine 𝓤 H A mem run) → ent 𝓤 (onEntry 𝓤 H A read-number.signature tt tt a at)
+  walk : (C : Calls 𝓤 H) (Λ : Loops 𝓤 H) → FmC 𝓤 H (W .laws) C → Triple 𝓤 (C #replica-parts·read-number) (Engine 𝓤 H A mem run) → ent 𝓤 (onEntry 𝓤 H A read-number.signature tt tt a at)
       (WpFn 𝓤 H C Λ code.function (replica-val me ∷ records-val xs ∷ bytes-val bs ∷ []) Post)
   walk C Λ fm known =
       qed W (‵ ftrue ∷ ‵ (owns (P.the-row ∷ Array R.the-row 1 ∷ Array u8 192 ∷ []) a at) ∷ []) ∵ keep ! [] $
@@ -120,13 +120,13 @@ module _ {M : Type 1} (𝓤 : URA M) (H : Heap 𝓤) (A : Atoms 𝓤) (W : Given
       keep ! ([]) $ by ! (exits r (subst (Is An.the-row r) (EL.tells An.the-type An′.the-laws r (w ∷ []) is) is) said))))))))))))))))
 
 module _ {M : Type 1} (𝓤 : URA M) (H : Heap 𝓤) (A : Atoms 𝓤) (W : Given 𝓤 H A) (mem : Memory → SProp 𝓤) (run : Routine → Fun 𝓤) where
-  read-number-walks : (C : Calls 𝓤 H) (Λ : Loops 𝓤 H) → FmC 𝓤 H (W .laws) C → Triple 𝓤 (C #replica-table·read-number) (Engine 𝓤 H A mem run) → Walks 𝓤 H A read-number.ended stayed (WpFn 𝓤 H C Λ code.function) (read-number.clauses 𝓤 H A mem run)
+  read-number-walks : (C : Calls 𝓤 H) (Λ : Loops 𝓤 H) → FmC 𝓤 H (W .laws) C → Triple 𝓤 (C #replica-parts·read-number) (Engine 𝓤 H A mem run) → Walks 𝓤 H A read-number.ended stayed (WpFn 𝓤 H C Λ code.function) (read-number.clauses 𝓤 H A mem run)
   read-number-walks C Λ fm known = walked 𝓤 H A read-number.ended stayed (read-number.clauses 𝓤 H A mem run) (WpFn 𝓤 H C Λ code.function)
       (λ κs. (SL.vals P.the-type P′.the-laws, (records-vals, (bytes-vals, tt))))
       (λ κs. (SL.tells P.the-type P′.the-laws, (records-tells, (bytes-tells, tt))))
       (λ κs qs bounds a g are. via 𝓤 _ (fst∗ 𝓤 _ (emp 𝓤)) (walk 𝓤 H A W mem run (a .0) (a .1 .0) (a .1 .1 .0) (are .0) (are .1 .0) (are .1 .1 .0) C Λ fm known))
 
-read-number-meets : {M : Type 1} (𝓤 : URA M) (H : Heap 𝓤) (A : Atoms 𝓤) → Given 𝓤 H A → (mem : Memory → SProp 𝓤) (run : Routine → Fun 𝓤) (𝓣 : Tables 𝓤 H) → Triple 𝓤 (𝓣 .C #replica-table·read-number) (Engine 𝓤 H A mem run)
+read-number-meets : {M : Type 1} (𝓤 : URA M) (H : Heap 𝓤) (A : Atoms 𝓤) → Given 𝓤 H A → (mem : Memory → SProp 𝓤) (run : Routine → Fun 𝓤) (𝓣 : Tables 𝓤 H) → Triple 𝓤 (𝓣 .C #replica-parts·read-number) (Engine 𝓤 H A mem run)
     → Meets 𝓤 H A read-number.signature (WpFn 𝓤 H (𝓣 .C) (𝓣 .Λ) code.function) (read-number.spec 𝓤 H A mem run)
 read-number-meets 𝓤 H A W mem run 𝓣 known =
     walk-meets 𝓤 H A read-number.ended stayed W
@@ -139,4 +139,4 @@ read-number-spec 𝓤 H 𝓜 𝓖 𝓡 =
     entered 𝓤 H (tripleOf 𝓤 H (𝓖 .A) read-number.signature (read-number.spec 𝓤 H (𝓖 .A) (𝓜 .mem) (𝓡 .run)))
     (tables 𝓤 H 𝓜 𝓡 code.env .C) (tables 𝓤 H 𝓜 𝓡 code.env .Λ) #check-story·laptop·read-number code.function (code.unfolded 𝓤 H 𝓜 𝓡)
     (read-number-meets 𝓤 H (𝓖 .A) (givenOf 𝓤 H 𝓜 𝓖) (𝓜 .mem) (𝓡 .run) (tablesOf 𝓤 H 𝓜 (tables 𝓤 H 𝓜 𝓡 code.env))
-    (cited 𝓤 H (Engine 𝓤 H (𝓖 .A) (𝓜 .mem) (𝓡 .run)) 𝓜 𝓡 code.env #replica-table·read-number engine-def.routine code.calls-replica-table·read-number (engine-thm.met 𝓤 H 𝓜 𝓖 𝓡)))
+    (cited 𝓤 H (Engine 𝓤 H (𝓖 .A) (𝓜 .mem) (𝓡 .run)) 𝓜 𝓡 code.env #replica-parts·read-number engine-def.routine code.calls-replica-parts·read-number (engine-thm.met 𝓤 H 𝓜 𝓖 𝓡)))

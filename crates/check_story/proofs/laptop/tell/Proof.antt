@@ -45,10 +45,10 @@ use Rattle.hermes.specs.declared.event.Replica.{Replica}
 use Rattle.hermes.proofs.record.Record as R
 use Rattle.hermes.proofs.event.Replica as P
 use Rattle.hermes.proofs.event.Replica.Laws as P′
-use Rattle.replica_table.proofs.read as engine
-use Rattle.replica_table.proofs.read.Symbol as engine-def
-use Rattle.replica_table.proofs.read.Symbol.{name as #replica-table·read}
-use Rattle.replica_table.proofs.read.Met as engine-thm
+use Rattle.replica_parts.proofs.read as engine
+use Rattle.replica_parts.proofs.read.Symbol as engine-def
+use Rattle.replica_parts.proofs.read.Symbol.{name as #replica-parts·read}
+use Rattle.replica_parts.proofs.read.Met as engine-thm
 use Rattle.check_story.proofs.telling.text as text
 use Rattle.check_story.proofs.telling.text.Symbol as text-def
 use Rattle.check_story.proofs.telling.text.Symbol.{name as #check-story·telling·text}
@@ -96,7 +96,7 @@ module _ {M : Type 1} (𝓤 : URA M) (H : Heap 𝓤) (A : Atoms 𝓤) (W : Given
       suffices ! End (via 𝓤 (sep 𝓤 (emp 𝓤) End) (emp∗ 𝓤 End) (comm∗ 𝓤 (emp 𝓤) End)) $
       owned ! unit (Is unit) (nothing-makes 𝓤 H A W) tt _ refl $ nothing ! $ has-bytes ! bs bs-is $ fjoin ! $ has-records ! xs xs-is $ fjoin ! $ has-replica ! me me-is $ fjoin ! $ nothing ! $ done !
 
-  walk : (C : Calls 𝓤 H) (Λ : Loops 𝓤 H) → FmC 𝓤 H (W .laws) C → Triple 𝓤 (C #replica-table·read) (Engine 𝓤 H A mem run) → Triple 𝓤 (C #check-story·telling·text) (Text 𝓤 H A mem run) → ent 𝓤 (onEntry 𝓤 H A tell.signature tt tt a at)
+  walk : (C : Calls 𝓤 H) (Λ : Loops 𝓤 H) → FmC 𝓤 H (W .laws) C → Triple 𝓤 (C #replica-parts·read) (Engine 𝓤 H A mem run) → Triple 𝓤 (C #check-story·telling·text) (Text 𝓤 H A mem run) → ent 𝓤 (onEntry 𝓤 H A tell.signature tt tt a at)
       (WpFn 𝓤 H C Λ code.function (replica-val me ∷ records-val xs ∷ bytes-val bs ∷ []) Post)
   walk C Λ fm known known-text =
       qed W (‵ ftrue ∷ ‵ (owns (P.the-row ∷ Array R.the-row 1 ∷ Array u8 192 ∷ []) a at) ∷ []) ∵ keep ! [] $
@@ -134,14 +134,14 @@ module _ {M : Type 1} (𝓤 : URA M) (H : Heap 𝓤) (A : Atoms 𝓤) (W : Given
       keep ! ([]) $ by ! (exits))))))))))))))))))))
 
 module _ {M : Type 1} (𝓤 : URA M) (H : Heap 𝓤) (A : Atoms 𝓤) (W : Given 𝓤 H A) (mem : Memory → SProp 𝓤) (run : Routine → Fun 𝓤) where
-  tell-walks : (C : Calls 𝓤 H) (Λ : Loops 𝓤 H) → FmC 𝓤 H (W .laws) C → Triple 𝓤 (C #replica-table·read) (Engine 𝓤 H A mem run) → Triple 𝓤 (C #check-story·telling·text) (Text 𝓤 H A mem run)
+  tell-walks : (C : Calls 𝓤 H) (Λ : Loops 𝓤 H) → FmC 𝓤 H (W .laws) C → Triple 𝓤 (C #replica-parts·read) (Engine 𝓤 H A mem run) → Triple 𝓤 (C #check-story·telling·text) (Text 𝓤 H A mem run)
       → Walks 𝓤 H A tell.ended stayed (WpFn 𝓤 H C Λ code.function) (tell.clauses 𝓤 H A mem run)
   tell-walks C Λ fm known known-text = walked 𝓤 H A tell.ended stayed (tell.clauses 𝓤 H A mem run) (WpFn 𝓤 H C Λ code.function)
       (λ κs. (SL.vals P.the-type P′.the-laws, (records-vals, (bytes-vals, tt))))
       (λ κs. (SL.tells P.the-type P′.the-laws, (records-tells, (bytes-tells, tt))))
       (λ κs qs bounds a g are. via 𝓤 _ (fst∗ 𝓤 _ (emp 𝓤)) (walk 𝓤 H A W mem run (a .0) (a .1 .0) (a .1 .1 .0) (are .0) (are .1 .0) (are .1 .1 .0) C Λ fm known known-text))
 
-tell-meets : {M : Type 1} (𝓤 : URA M) (H : Heap 𝓤) (A : Atoms 𝓤) → Given 𝓤 H A → (mem : Memory → SProp 𝓤) (run : Routine → Fun 𝓤) (𝓣 : Tables 𝓤 H) → Triple 𝓤 (𝓣 .C #replica-table·read) (Engine 𝓤 H A mem run) → Triple 𝓤 (𝓣 .C #check-story·telling·text) (Text 𝓤 H A mem run)
+tell-meets : {M : Type 1} (𝓤 : URA M) (H : Heap 𝓤) (A : Atoms 𝓤) → Given 𝓤 H A → (mem : Memory → SProp 𝓤) (run : Routine → Fun 𝓤) (𝓣 : Tables 𝓤 H) → Triple 𝓤 (𝓣 .C #replica-parts·read) (Engine 𝓤 H A mem run) → Triple 𝓤 (𝓣 .C #check-story·telling·text) (Text 𝓤 H A mem run)
     → Meets 𝓤 H A tell.signature (WpFn 𝓤 H (𝓣 .C) (𝓣 .Λ) code.function) (tell.spec 𝓤 H A mem run)
 tell-meets 𝓤 H A W mem run 𝓣 known known-text =
     walk-meets 𝓤 H A tell.ended stayed W
@@ -154,5 +154,5 @@ tell-spec 𝓤 H 𝓜 𝓖 𝓡 =
     entered 𝓤 H (tripleOf 𝓤 H (𝓖 .A) tell.signature (tell.spec 𝓤 H (𝓖 .A) (𝓜 .mem) (𝓡 .run)))
     (tables 𝓤 H 𝓜 𝓡 code.env .C) (tables 𝓤 H 𝓜 𝓡 code.env .Λ) #check-story·laptop·tell code.function (code.unfolded 𝓤 H 𝓜 𝓡)
     (tell-meets 𝓤 H (𝓖 .A) (givenOf 𝓤 H 𝓜 𝓖) (𝓜 .mem) (𝓡 .run) (tablesOf 𝓤 H 𝓜 (tables 𝓤 H 𝓜 𝓡 code.env))
-    (cited 𝓤 H (Engine 𝓤 H (𝓖 .A) (𝓜 .mem) (𝓡 .run)) 𝓜 𝓡 code.env #replica-table·read engine-def.routine code.calls-replica-table·read (engine-thm.met 𝓤 H 𝓜 𝓖 𝓡))
+    (cited 𝓤 H (Engine 𝓤 H (𝓖 .A) (𝓜 .mem) (𝓡 .run)) 𝓜 𝓡 code.env #replica-parts·read engine-def.routine code.calls-replica-parts·read (engine-thm.met 𝓤 H 𝓜 𝓖 𝓡))
     (cited 𝓤 H (Text 𝓤 H (𝓖 .A) (𝓜 .mem) (𝓡 .run)) 𝓜 𝓡 code.env #check-story·telling·text text-def.routine code.calls-check-story·telling·text (text-thm.met 𝓤 H 𝓜 𝓖 𝓡)))

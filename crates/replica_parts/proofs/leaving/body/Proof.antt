@@ -42,24 +42,24 @@ use Rattle.hermes.specs.declared.message.Outgoing.{Outgoing}
 use Rattle.hermes.proofs.record.Record as R
 use Rattle.hermes.proofs.message.Outgoing as O
 use Rattle.hermes.proofs.message.Outgoing.Laws as O′
-use Rattle.replica_table.proofs.RecordAt.{Table, RecordAt, calls-record-at}
+use Rattle.replica_parts.proofs.RecordAt.{Table, RecordAt, calls-record-at}
 use Rattle.hermes.specs.Event.{leavingBody}
 use Rattle.hermes.specs.Node.{indexOf, recordAt}
-use Rattle.replica_table.proofs.leaving.index_of as index-of
-use Rattle.replica_table.proofs.leaving.index_of.Symbol as index-of-def
-use Rattle.replica_table.proofs.leaving.index_of.Symbol.{name as #replica-table·leaving·index-of}
-use Rattle.replica_table.proofs.leaving.index_of.Met as index-of-thm
-use Rattle.replica_table.proofs.reading.record_at.Symbol as record-at-def
-use Rattle.replica_table.proofs.reading.record_at.Symbol.{name as #replica-table·reading·record-at}
-use Rattle.replica_table.proofs.reading.record_at.Met as record-at-thm
+use Rattle.replica_parts.proofs.leaving.index_of as index-of
+use Rattle.replica_parts.proofs.leaving.index_of.Symbol as index-of-def
+use Rattle.replica_parts.proofs.leaving.index_of.Symbol.{name as #replica-parts·leaving·index-of}
+use Rattle.replica_parts.proofs.leaving.index_of.Met as index-of-thm
+use Rattle.replica_parts.proofs.reading.record_at.Symbol as record-at-def
+use Rattle.replica_parts.proofs.reading.record_at.Symbol.{name as #replica-parts·reading·record-at}
+use Rattle.replica_parts.proofs.reading.record_at.Met as record-at-thm
 use Rattle.replica_outgoing.proofs.body as inner
 use Rattle.replica_outgoing.proofs.body.Symbol as inner-def
 use Rattle.replica_outgoing.proofs.body.Symbol.{name as #replica-outgoing·body}
 use Rattle.replica_outgoing.proofs.body.Met as inner-thm
-use Rattle.replica_table.proofs.leaving.body.Key.{name as #replica-table·leaving·body}
-use Rattle.replica_table.proofs.leaving.body as body
-use Rattle.replica_table.proofs.leaving.body.Statement as stated
-use Rattle.replica_table.proofs.leaving.body.Code as code
+use Rattle.replica_parts.proofs.leaving.body.Key.{name as #replica-parts·leaving·body}
+use Rattle.replica_parts.proofs.leaving.body as body
+use Rattle.replica_parts.proofs.leaving.body.Statement as stated
+use Rattle.replica_parts.proofs.leaving.body.Code as code
 
 abbrev stayed : Stays (body.ended .signature .params) (body.ended .kept)
 stayed = (stay-none (λ _. O.the-row) yes, (stay-none-slice (0 ∷ []) tt (plain (λ _. R.the-row)) yes, (stay-none-slice (1 ∷ []) tt (plain (λ _. u8)) yes, tt)))
@@ -139,7 +139,7 @@ module _ {M : Type 1} (𝓤 : URA M) (H : Heap 𝓤) (A : Atoms 𝓤) (W : Given
       suffices ! _ (ends-at 𝓤 H A body.ended stayed (body.clauses 𝓤 H A mem run) W (((κ₀, (κ₁, tt)), (q₀, (q₁, tt)), tt, a, at), tt) w r (tt, (tt, (tt, tt))) (tt, (tt, (tt, tt)))) $ says ! said $
       move ! (2 ∷ []) $ split ! $ move ! (1 ∷ []) $ drop ! $ move ! (0 ∷ 2 ∷ []) $ join ! $ frame ! $ nothing ! $ move ! (2 ∷ 0 ∷ []) $ fjoin ! $ move ! (2 ∷ 0 ∷ []) $ fjoin ! $ has-outgoing ! out out-is $ fjoin ! $ done !
 
-  module _ (C : Calls 𝓤 H) (Λ : Loops 𝓤 H) (fm : FmC 𝓤 H (W .laws) C) (known-index : Triple 𝓤 (C #replica-table·leaving·index-of) (Index 𝓤 H A mem run)) (known-record : Triple 𝓤 (C #replica-table·reading·record-at) (RecordAt 𝓤 H A mem run)) (known-body : Triple 𝓤 (C #replica-outgoing·body) (Leaving 𝓤 H A mem run)) where
+  module _ (C : Calls 𝓤 H) (Λ : Loops 𝓤 H) (fm : FmC 𝓤 H (W .laws) C) (known-index : Triple 𝓤 (C #replica-parts·leaving·index-of) (Index 𝓤 H A mem run)) (known-record : Triple 𝓤 (C #replica-parts·reading·record-at) (RecordAt 𝓤 H A mem run)) (known-body : Triple 𝓤 (C #replica-outgoing·body) (Leaving 𝓤 H A mem run)) where
     walk : ent 𝓤 (onEntry 𝓤 H A body.signature (κ₀, (κ₁, tt)) (q₀, (q₁, tt)) a at) (WpFn 𝓤 H C Λ code.function (outgoing-val out ∷ v₀ ∷ v₁ ∷ []) Post)
     walk =
         qed W ((‵ (flft κ₀ q₀) ⊛ tok₁) ∷ ‵ (owns (O.the-row ∷ ShrSlice (named 0) κ₀ R.the-row ∷ ShrSlice (named 1) κ₁ u8 ∷ []) a at) ∷ []) ∵
@@ -172,7 +172,7 @@ module _ {M : Type 1} (𝓤 : URA M) (H : Heap 𝓤) (A : Atoms 𝓤) (W : Given
         keep ! (0 ∷ 1 ∷ 2 ∷ 3 ∷ 5 ∷ []) $ by ! (exits p w said))))))))))))))))
 
 module _ {M : Type 1} (𝓤 : URA M) (H : Heap 𝓤) (A : Atoms 𝓤) (W : Given 𝓤 H A) (mem : Memory → SProp 𝓤) (run : Routine → Fun 𝓤) where
-  body-walks : (C : Calls 𝓤 H) (Λ : Loops 𝓤 H) → FmC 𝓤 H (W .laws) C → Triple 𝓤 (C #replica-table·leaving·index-of) (Index 𝓤 H A mem run) → Triple 𝓤 (C #replica-table·reading·record-at) (RecordAt 𝓤 H A mem run) → Triple 𝓤 (C #replica-outgoing·body) (Leaving 𝓤 H A mem run)
+  body-walks : (C : Calls 𝓤 H) (Λ : Loops 𝓤 H) → FmC 𝓤 H (W .laws) C → Triple 𝓤 (C #replica-parts·leaving·index-of) (Index 𝓤 H A mem run) → Triple 𝓤 (C #replica-parts·reading·record-at) (RecordAt 𝓤 H A mem run) → Triple 𝓤 (C #replica-outgoing·body) (Leaving 𝓤 H A mem run)
       → Walks 𝓤 H A body.ended stayed (WpFn 𝓤 H C Λ code.function) (body.clauses 𝓤 H A mem run)
   body-walks C Λ fm known-index known-record known-body = walked 𝓤 H A body.ended stayed (body.clauses 𝓤 H A mem run) (WpFn 𝓤 H C Λ code.function)
       (λ κs. (EL.vals O.the-type O′.the-laws, (slice-vals, (slice-vals, tt))))
@@ -180,7 +180,7 @@ module _ {M : Type 1} (𝓤 : URA M) (H : Heap 𝓤) (A : Atoms 𝓤) (W : Given
       (λ κs qs bounds a g are. via 𝓤 _ (fst∗ 𝓤 _ (emp 𝓤))
       (walk 𝓤 H A W mem run (κs .0) (κs .1 .0) (qs .0) (qs .1 .0) (a .0) (a .1 .0 .ptr) (a .1 .0 .name) (a .1 .0 .now) (a .1 .1 .0 .ptr) (a .1 .1 .0 .name) (a .1 .1 .0 .now) (are .0) (are .1 .0 .0 .1) (are .1 .1 .0 .0 .1) C Λ fm known-index known-record known-body))
 
-body-meets : {M : Type 1} (𝓤 : URA M) (H : Heap 𝓤) (A : Atoms 𝓤) → Given 𝓤 H A → (mem : Memory → SProp 𝓤) (run : Routine → Fun 𝓤) (𝓣 : Tables 𝓤 H) → Triple 𝓤 (𝓣 .C #replica-table·leaving·index-of) (Index 𝓤 H A mem run) → Triple 𝓤 (𝓣 .C #replica-table·reading·record-at) (RecordAt 𝓤 H A mem run) → Triple 𝓤 (𝓣 .C #replica-outgoing·body) (Leaving 𝓤 H A mem run)
+body-meets : {M : Type 1} (𝓤 : URA M) (H : Heap 𝓤) (A : Atoms 𝓤) → Given 𝓤 H A → (mem : Memory → SProp 𝓤) (run : Routine → Fun 𝓤) (𝓣 : Tables 𝓤 H) → Triple 𝓤 (𝓣 .C #replica-parts·leaving·index-of) (Index 𝓤 H A mem run) → Triple 𝓤 (𝓣 .C #replica-parts·reading·record-at) (RecordAt 𝓤 H A mem run) → Triple 𝓤 (𝓣 .C #replica-outgoing·body) (Leaving 𝓤 H A mem run)
     → Meets 𝓤 H A body.signature (WpFn 𝓤 H (𝓣 .C) (𝓣 .Λ) code.function) (body.spec 𝓤 H A mem run)
 body-meets 𝓤 H A W mem run 𝓣 known-index known-record known-body =
     walk-meets 𝓤 H A body.ended stayed W
@@ -192,8 +192,8 @@ pub body-spec : {M : Type 1} → stated.statement M
 unfolding code.routine tablesOf
 body-spec 𝓤 H 𝓜 𝓖 𝓡 =
     entered 𝓤 H (tripleOf 𝓤 H (𝓖 .A) body.signature (body.spec 𝓤 H (𝓖 .A) (𝓜 .mem) (𝓡 .run)))
-    (tables 𝓤 H 𝓜 𝓡 code.env .C) (tables 𝓤 H 𝓜 𝓡 code.env .Λ) #replica-table·leaving·body code.function (code.unfolded 𝓤 H 𝓜 𝓡)
+    (tables 𝓤 H 𝓜 𝓡 code.env .C) (tables 𝓤 H 𝓜 𝓡 code.env .Λ) #replica-parts·leaving·body code.function (code.unfolded 𝓤 H 𝓜 𝓡)
     (body-meets 𝓤 H (𝓖 .A) (givenOf 𝓤 H 𝓜 𝓖) (𝓜 .mem) (𝓡 .run) (tablesOf 𝓤 H 𝓜 (tables 𝓤 H 𝓜 𝓡 code.env))
-    (cited 𝓤 H (Index 𝓤 H (𝓖 .A) (𝓜 .mem) (𝓡 .run)) 𝓜 𝓡 code.env #replica-table·leaving·index-of index-of-def.routine code.calls-replica-table·leaving·index-of (index-of-thm.met 𝓤 H 𝓜 𝓖 𝓡))
-    (cited 𝓤 H (RecordAt 𝓤 H (𝓖 .A) (𝓜 .mem) (𝓡 .run)) 𝓜 𝓡 code.env #replica-table·reading·record-at record-at-def.routine code.calls-replica-table·reading·record-at (record-at-thm.met 𝓤 H 𝓜 𝓖 𝓡))
+    (cited 𝓤 H (Index 𝓤 H (𝓖 .A) (𝓜 .mem) (𝓡 .run)) 𝓜 𝓡 code.env #replica-parts·leaving·index-of index-of-def.routine code.calls-replica-parts·leaving·index-of (index-of-thm.met 𝓤 H 𝓜 𝓖 𝓡))
+    (cited 𝓤 H (RecordAt 𝓤 H (𝓖 .A) (𝓜 .mem) (𝓡 .run)) 𝓜 𝓡 code.env #replica-parts·reading·record-at record-at-def.routine code.calls-replica-parts·reading·record-at (record-at-thm.met 𝓤 H 𝓜 𝓖 𝓡))
     (cited 𝓤 H (Leaving 𝓤 H (𝓖 .A) (𝓜 .mem) (𝓡 .run)) 𝓜 𝓡 code.env #replica-outgoing·body inner-def.routine code.calls-replica-outgoing·body (inner-thm.met 𝓤 H 𝓜 𝓖 𝓡)))

@@ -1,7 +1,7 @@
--- `replica_table::leaving::index_of` meets its contract.
+-- `replica_parts::leaving::index_of` meets its contract.
 use borrow.Author.Needs.{needs}
-use Rattle.replica_table.proofs.leaving.index_of.Statement.{statement}
-use Rattle.replica_table.proofs.leaving.index_of.Tie as tie
+use Rattle.replica_parts.proofs.leaving.index_of.Statement.{statement}
+use Rattle.replica_parts.proofs.leaving.index_of.Tie as tie
 
 enum-known-out : tie.Need-enum-known-out
 enum-known-out c = search needs

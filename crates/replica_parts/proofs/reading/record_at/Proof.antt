@@ -52,10 +52,10 @@ use Rattle.hermes.proofs.record.Record.fresh as fresh
 use Rattle.hermes.proofs.record.Record.fresh.Symbol as fresh-def
 use Rattle.hermes.proofs.record.Record.fresh.Symbol.{name as #hermes·record·Record·fresh}
 use Rattle.hermes.proofs.record.Record.fresh.Met as fresh-thm
-use Rattle.replica_table.proofs.reading.record_at.Key.{name as #replica-table·reading·record-at}
-use Rattle.replica_table.proofs.reading.record_at as record-at
-use Rattle.replica_table.proofs.reading.record_at.Statement as stated
-use Rattle.replica_table.proofs.reading.record_at.Code as code
+use Rattle.replica_parts.proofs.reading.record_at.Key.{name as #replica-parts·reading·record-at}
+use Rattle.replica_parts.proofs.reading.record_at as record-at
+use Rattle.replica_parts.proofs.reading.record_at.Statement as stated
+use Rattle.replica_parts.proofs.reading.record_at.Code as code
 
 abbrev stayed : Stays (record-at.ended .signature .params) (record-at.ended .kept)
 stayed = (stay-none-slice (0 ∷ []) tt (plain (λ _. R.the-row)) yes, (stay-none (λ _. usize) yes, tt))
@@ -162,6 +162,6 @@ pub record-at-spec : {M : Type 1} → stated.statement M
 unfolding code.routine tablesOf
 record-at-spec 𝓤 H 𝓜 𝓖 𝓡 =
     entered 𝓤 H (tripleOf 𝓤 H (𝓖 .A) record-at.signature (record-at.spec 𝓤 H (𝓖 .A) (𝓜 .mem) (𝓡 .run)))
-    (tables 𝓤 H 𝓜 𝓡 code.env .C) (tables 𝓤 H 𝓜 𝓡 code.env .Λ) #replica-table·reading·record-at code.function (code.unfolded 𝓤 H 𝓜 𝓡)
+    (tables 𝓤 H 𝓜 𝓡 code.env .C) (tables 𝓤 H 𝓜 𝓡 code.env .Λ) #replica-parts·reading·record-at code.function (code.unfolded 𝓤 H 𝓜 𝓡)
     (record-at-meets 𝓤 H (𝓖 .A) (givenOf 𝓤 H 𝓜 𝓖) (𝓜 .mem) (𝓡 .run) (tablesOf 𝓤 H 𝓜 (tables 𝓤 H 𝓜 𝓡 code.env))
     (cited 𝓤 H (Fresh 𝓤 H (𝓖 .A) (𝓜 .mem) (𝓡 .run)) 𝓜 𝓡 code.env #hermes·record·Record·fresh fresh-def.routine code.calls-hermes·record·Record·fresh (fresh-thm.met 𝓤 H 𝓜 𝓖 𝓡)))

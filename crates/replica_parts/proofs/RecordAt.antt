@@ -28,8 +28,8 @@ use Rattle.hermes.specs.declared.record.Record.{Record}
 use Rattle.hermes.specs.Node.{recordAt}
 use Rattle.hermes.proofs.record.Record as R
 use Rattle.replica_start.proofs.Walk.{has-number}
-use Rattle.replica_table.proofs.reading.record_at as record-at
-use Rattle.replica_table.proofs.reading.record_at.Symbol.{name as #replica-table·reading·record-at}
+use Rattle.replica_parts.proofs.reading.record_at as record-at
+use Rattle.replica_parts.proofs.reading.record_at.Symbol.{name as #replica-parts·reading·record-at}
 
 -- a lent table, and the record i of it
 abbrev pub Table : Lft → RefT (List Record) → Fml
@@ -52,12 +52,12 @@ module _ {M : Type 1} (𝓤 : URA M) (H : Heap 𝓤) (A : Atoms 𝓤) (mem : Mem
     told-record r = exE 𝓤 _ (λ ws. snd∗ 𝓤 (sem 𝓤 H A (lasts record-at.ended (κ, tt) (x, (i, tt)) ws)) (fact 𝓤 (r ≡ recordAt (now x) i)))
 
 module _ {M : Type 1} {𝓤 : URA M} {H : Heap 𝓤} {A : Atoms 𝓤} {K : Type 0} {W : Given 𝓤 H A} {Γ : List (Item 𝓤)} {E : Env 𝓤 H} {C : Calls 𝓤 H} {Λ : Loops 𝓤 H} {xs : List Operand} {d : Place} {rest : Body} {q : Post 𝓤 H} where
-  pub calls-record-at : K → FmC 𝓤 H (W .laws) C → (mem : Memory → SProp 𝓤) (run : Routine → Fun 𝓤) → Triple 𝓤 (C #replica-table·reading·record-at) (RecordAt 𝓤 H A mem run)
+  pub calls-record-at : K → FmC 𝓤 H (W .laws) C → (mem : Memory → SProp 𝓤) (run : Routine → Fun 𝓤) → Triple 𝓤 (C #replica-parts·reading·record-at) (RecordAt 𝓤 H A mem run)
       → (κ : Lft) (s : Share) (x : RefT (List Record)) (i : ℕ) → i < 2 ^ 64
       → Opds K W (raw (RecordAt 𝓤 H A mem run .pre (to-record 𝓤 H A mem run κ s x i)) ∷ Γ) E xs (RecordAt 𝓤 H A mem run .args (to-record 𝓤 H A mem run κ s x i))
       → ((w : Val) → Is R.the-row (recordAt (now x) i) (w ∷ [])
       → Seq K W (‵ (R.the-row .own (recordAt (now x) i) (w ∷ [])) ∷ (‵ (flft κ s) ⊛ ‵ ftrue) ∷ Γ) (lands C Λ E d w rest q))
-      → Seq K W (‵ (flft κ s) ∷ ‵ (Table κ x) ∷ Γ) (runs C Λ E (seq (call #replica-table·reading·record-at xs d) rest) q)
+      → Seq K W (‵ (flft κ s) ∷ ‵ (Table κ x) ∷ Γ) (runs C Λ E (seq (call #replica-parts·reading·record-at xs d) rest) q)
   calls-record-at t fm mem run known κ s x i fits os k =
       use2 W (raw (RecordAt 𝓤 H A mem run .pre (to-record 𝓤 H A mem run κ s x i))) (asked-record 𝓤 H A mem run κ s x i W fits) $
       calls-at t fm (RecordAt 𝓤 H A mem run) known (to-record 𝓤 H A mem run κ s x i) os (λ w.
