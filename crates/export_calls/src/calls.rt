@@ -12,7 +12,7 @@ use hermes::Record;
 use hermes::Replica;
 use replica_asking::Asked;
 
-// Questions 1 to 4 for a table of so many bytes: without a remainder first, so that the compiler asks after it once.
+// Questions 1 to 4 for a table of so many bytes. The remainder is asked about here alone, so that the count has one value in each call.
 fn beforehand(me: Replica, len: usize, bytes: usize, i: usize, r: Record) -> Asked
     ensures { λ a. ⌜ a ≡ asked (beforehand me (countOf len) bytes i) r ⌝ }
 {
@@ -23,8 +23,8 @@ fn beforehand(me: Replica, len: usize, bytes: usize, i: usize, r: Record) -> Ask
     }
 }
 
-// The beginning of an event on record i, with so many bytes of store: questions 1 to 4, and only then the record out of its bytes. In this
-// order the compiler has one way to each no, and saves no register for it.
+// The beginning of an event on record i, with so many bytes of store: questions 1 to 4, and only then the record out of its bytes: with the
+// record first there are two ways to each of these questions, and every call saves registers for the second.
 pub fn begin(me: Replica, table: &[u8], bytes: usize, i: usize) -> Asked
     ensures { λ a. ⌜ a ≡ begun me (now (table .entry)) bytes i ⌝ }
 {

@@ -98,6 +98,7 @@ pub fn question4(i: usize, count: usize, r: Record) -> Asked
     question(4, i < count, r)
 }
 
+// The acknowledgements by themselves: the compiler then tests the one bit where it stands.
 pub fn question5(me: Replica, r: Record) -> Asked
     ensures { λ a. ⌜ a ≡ asked (question5 me r ∷ []) r ⌝ }
 {

@@ -104,6 +104,7 @@ pub fn question16(me: Replica, r: Record) -> Asked
     question(16, invalid & !present, r)
 }
 
+// Write and replay by themselves: the compiler then goes from here straight to the INV that leaves.
 pub fn question17(me: Replica, r: Record) -> Asked
     ensures { λ a. ⌜ a ≡ asked (question17 me r ∷ []) r ⌝ }
 {
