@@ -1,19 +1,17 @@
--- Sets of replica numbers, as facts about their members; and the tests on sets as code makes them, with `&`, `|`, `count_ones` and
--- `trailing_zeros`. The idea: a set below 2 ^ 16 is its sixteen bits, and each operation is known bit by bit.
+-- Sets of replica numbers, as facts about their members. The idea: a set below 2 ^ 16 is its sixteen bits, and each operation is known bit by bit.
 use Prim.Native.Nat.{ℕ, zero, suc, _+_, _-_, _/_, _%_, _^_, _≤_, _<_, min, max}
 use mathlib.Core.Path.{_≡_, refl, sym, ap, ap₂, _∙_}
-use mathlib.Core.Bool.{Bool, true, false, cond, not, _&&_, _||_}
+use mathlib.Core.Bool.{Bool, true, false, not, _&&_, _||_}
 use mathlib.Core.Logic.{_⊎_, inl, inr, _≢_, _↔_}
 use native.Mathlib.Omega.{arith}
 use native.Mathlib.Decide.{ℕ-discrete, decLt}
-use native.Mathlib.Nat.{mod-lt, mod-eq-of-lt, one-mul, zero-div, div-eq-of-lt, pow-suc}
+use native.Mathlib.Nat.{one-mul, zero-div, div-eq-of-lt, pow-suc}
 use lib.Dec.{ltb, eqb}
-use lib.Bits.{bitAnd, bitOr, and-shr, and-step, and-lt, or-shr, or-step}
-use lib.Pow.{pow-lt, pow-pos, pow-add, shl-shr, shr-shr, mod-pow-add}
-use lib.Count.{ones, ones-cat, under, trailingZeros}
+use lib.Bits.{bitAnd, bitOr, and-shr, and-step, or-shr, or-step}
+use lib.Pow.{pow-lt, pow-add, shl-shr, shr-shr}
 use borrow.Author.Tests.{ltb-true, eqb-true, eq-eqb, ne-eqb, lt-ltb, le-ltb}
-use Rattle.hermes.specs.Members.{has, allBelow, countBelow, size, lowest, lowestFrom, within, othersIn, with, without}
-use Rattle.hermes.proofs.Tests.{both, either, implied, implies, is-false, alike, or-false, or-true, and-false, and-true}
+use Rattle.hermes.specs.Members.{has, allBelow, within, othersIn, with, without}
+use Rattle.hermes.proofs.Tests.{both, either, implied, implies, is-false, or-false, or-true, and-false, and-true}
 
 -- m is in the set s
 abbrev pub Has : ℕ → ℕ → Type 0
@@ -24,7 +22,7 @@ Has s m = has s m ≡ true
 unfoldable pub bit : ℕ → ℕ → ℕ
 bit s m = s / 2 ^ m % 2
 
-bit-small : (s m : ℕ) → bit s m < 2
+pub bit-small : (s m : ℕ) → bit s m < 2
 unfolding bit
 bit-small s m = omega arith
 
@@ -35,7 +33,7 @@ bit-suc s m = ap (λ (x : ℕ). x % 2) (ap (λ (x : ℕ). s / 2 ^ x) e ∙ sym (
     e : suc m ≡ 1 + m
     e = omega arith
 
-and-bit : (a b m : ℕ) → bit (bitAnd a b) m ≡ min (bit a m) (bit b m)
+pub and-bit : (a b m : ℕ) → bit (bitAnd a b) m ≡ min (bit a m) (bit b m)
 unfolding bit
 and-bit a b m = omega (arith, and-shr a b m, and-step (a / 2 ^ m) (b / 2 ^ m))
 
@@ -73,7 +71,7 @@ not-bit (suc k) a (suc m) h l =
     half = omega (arith, pow-suc 2 k)
 
 -- two sets of k bits with the same bits are one
-same-bits : (k a b : ℕ) → a < 2 ^ k → b < 2 ^ k → ((m : ℕ) → m < k → bit a m ≡ bit b m) → a ≡ b
+pub same-bits : (k a b : ℕ) → a < 2 ^ k → b < 2 ^ k → ((m : ℕ) → m < k → bit a m ≡ bit b m) → a ≡ b
 unfolding bit
 same-bits zero a b ha hb h = omega arith
 same-bits (suc k) a b ha hb h = join (same-bits k (a / 2) (b / 2) (omega (arith, pow-suc 2 k)) (omega (arith, pow-suc 2 k)) (λ m l. sym (bit-suc a m) ∙ h (suc m) (omega arith) ∙ bit-suc b m))
@@ -95,10 +93,10 @@ has-large : (s m : ℕ) → 16 ≤ m → has s m ≡ false
 unfolding has
 has-large s m l = rw (le-ltb m 16 l)
 
-member-bit : (s m : ℕ) → Has s m → bit s m ≡ 1
+pub member-bit : (s m : ℕ) → Has s m → bit s m ≡ 1
 member-bit s m h = eqb-true (bit s m) 1 (sym (has-bit s m (has-small s m h)) ∙ h)
 
-bit-member : (s m : ℕ) → m < 16 → bit s m ≡ 1 → Has s m
+pub bit-member : (s m : ℕ) → m < 16 → bit s m ≡ 1 → Has s m
 bit-member s m l e = has-bit s m l ∙ eq-eqb (bit s m) 1 e
 
 pub has-zero : (m : ℕ) → has 0 m ≡ false
@@ -121,7 +119,7 @@ pub all-of : (k : ℕ) (p : ℕ → Bool) → ((m : ℕ) → m < k → p m ≡ t
 all-of zero p h = refl
 all-of (suc k) p h = rw (h k (omega arith), all-of k p (λ m l. h m (omega arith)))
 
-all-same : (k : ℕ) (p q : ℕ → Bool) → ((m : ℕ) → m < k → p m ≡ q m) → allBelow k p ≡ allBelow k q
+pub all-same : (k : ℕ) (p q : ℕ → Bool) → ((m : ℕ) → m < k → p m ≡ q m) → allBelow k p ≡ allBelow k q
 all-same zero p q h = refl
 all-same (suc k) p q h = ap₂ _&&_ (h k (omega arith)) (all-same k p q (λ m l. h m (omega arith)))
 
@@ -219,88 +217,3 @@ has-without s n m = go (decLt n 16) (decLt m 16) (ℕ-discrete m n)
       where
         same : bit (without s n) m ≡ bit s m
         same = rw (cut a) (omega (arith, and-bit s mask m, mask-bit a b, pow-bit-other n m d, bit-small s m))
-
--- ---- the tests as code makes them
-
--- question 15, with one set for the acknowledgements and the own number
-pub others-within : (n view s : ℕ) → othersIn n view s ≡ within view (with s n)
-unfolding othersIn within
-others-within n view s =
-    all-same 16 (λ (m : ℕ). not (has view m) || (eqb m n || has s m)) (λ (m : ℕ). not (has view m) || has (with s n) m)
-    (λ m l. ap (λ (b : Bool). not (has view m) || b) (go m l (ℕ-discrete m n) ∙ sym (has-with s n m)))
-  where
-    go : (m : ℕ) → m < 16 → Dec (m ≡ n) → (eqb m n || has s m) ≡ (has s m || (eqb m n && ltb n 16))
-    go m l (yes e) = rw (eq-eqb m n e, lt-ltb n 16 (omega arith)) (sym (or-true (has s m)))
-    go m l (no d) = rw (ne-eqb m n d) (sym (or-false (has s m)))
-
--- `a & b == a`
-pub and-within : (a b : ℕ) → a < 2 ^ 16 → b < 2 ^ 16 → eqb (bitAnd a b) a ≡ within a b
-and-within a b ha hb = alike (eqb (bitAnd a b) a) (within a b) to from
-  where
-    to : eqb (bitAnd a b) a ≡ true → within a b ≡ true
-    to e = members-within a b (λ m k. bit-member b m (has-small a m k)
-        (omega (arith, member-bit a m k, and-bit a b m, ap (λ (x : ℕ). bit x m) (eqb-true (bitAnd a b) a e), bit-small b m)))
-
-    from : within a b ≡ true → eqb (bitAnd a b) a ≡ true
-    from w = eq-eqb (bitAnd a b) a (same-bits 16 (bitAnd a b) a (and-lt 16 a b ha hb) ha (λ m l. and-bit a b m ∙ at m l (ℕ-discrete (bit a m) 1)))
-      where
-        at : (m : ℕ) → m < 16 → Dec (bit a m ≡ 1) → min (bit a m) (bit b m) ≡ bit a m
-        at m l (yes e) = omega (arith, member-bit b m (within-members a b w m (bit-member a m l e)))
-        at m l (no d) = omega (arith, bit-small a m, d)
-
--- `count_ones`
-count-ones : (k s : ℕ) → k ≤ 16 → countBelow k (has s) ≡ ones (s % 2 ^ k)
-unfolding ones
-count-ones zero s l = ap ones (low (s % 1) (omega arith))
-  where
-    low : (x : ℕ) → x < 1 → 0 ≡ x
-    low x h = omega arith
-count-ones (suc k) s l =
-    ap₂ _+_ (ap (λ (b : Bool). cond b 1 0) here ∙ one (s / 2 ^ k % 2) (omega arith)) (count-ones k s (omega arith))
-    ∙ sym (ones-cat k (s / 2 ^ k % 2) (s % 2 ^ k) (mod-lt s (pow-pos k)))
-    ∙ ap ones (sym (mod-pow-add s 1 k)) ∙ ap (λ (x : ℕ). ones (s % 2 ^ x)) e
-  where
-    e : 1 + k ≡ suc k
-    e = omega arith
-
-    here : has s k ≡ eqb (s / 2 ^ k % 2) 1
-    here = unfold has in rw (lt-ltb k 16 (omega arith))
-
-    one : (d : ℕ) → d < 2 → cond (eqb d 1) 1 0 ≡ ones d
-    one zero h = refl
-    one (suc zero) h = refl
-    one (suc (suc d)) h = absurd (omega arith)
-
-pub size-ones : (s : ℕ) → s < 2 ^ 16 → size s ≡ ones s
-unfolding size
-size-ones s h = count-ones 16 s (omega arith) ∙ ap ones (mod-eq-of-lt h)
-
--- `trailing_zeros`
-lowest-from : (f k s : ℕ) → k + f ≤ 16 → lowestFrom f k s ≡ k + trailingZeros f (s / 2 ^ k)
-unfolding trailingZeros
-lowest-from zero k s l = omega arith
-lowest-from (suc f) k s l = go (s / 2 ^ k % 2) refl (lowest-from f (suc k) s (omega arith))
-  where
-    rest : s / 2 ^ suc k ≡ s / 2 ^ k / 2
-    rest = ap (λ (x : ℕ). s / 2 ^ x) e ∙ sym (shr-shr s k 1)
-      where
-        e : suc k ≡ k + 1
-        e = omega arith
-
-    here : has s k ≡ eqb (s / 2 ^ k % 2) 1
-    here = unfold has in rw (lt-ltb k 16 (omega arith))
-
-    go : (d : ℕ) → s / 2 ^ k % 2 ≡ d → lowestFrom f (suc k) s ≡ suc k + trailingZeros f (s / 2 ^ suc k)
-        → cond (has s k) k (lowestFrom f (suc k) s) ≡ k + under (s / 2 ^ k % 2) (trailingZeros f (s / 2 ^ k / 2))
-    go zero e h = rw (here, e, h, rest) (omega arith)
-    go (suc d) e h = rw (here, e, eq-eqb (suc d) 1 (omega arith)) (omega arith)
-
-pub lowest-zeros : (s : ℕ) → lowest s ≡ trailingZeros 16 s
-unfolding lowest
-lowest-zeros s = lowest-from 16 0 s (omega arith) ∙ first (trailingZeros 16 (s / 1)) ∙ ap (trailingZeros 16) whole
-  where
-    first : (x : ℕ) → 0 + x ≡ x
-    first x = omega arith
-
-    whole : s / 1 ≡ s
-    whole = omega arith

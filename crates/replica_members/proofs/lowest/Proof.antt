@@ -3,7 +3,7 @@ use mathlib.Core.Path.{sym}
 use native.Mathlib.Nat.{lt-of-le-of-lt}
 use lib.Count.{trailing-le}
 use lib.Dec.{lit<}
-use Rattle.hermes.proofs.Members.{lowest-zeros}
+use Rattle.replica_members.proofs.Bits.{lowest-zeros}
 use Rattle.replica_members.proofs.lowest.Statement.{statement}
 use Rattle.replica_members.proofs.lowest.Tie as tie
 

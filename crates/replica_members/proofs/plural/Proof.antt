@@ -2,7 +2,7 @@
 use borrow.Author.Needs.{needs}
 use mathlib.Core.Path.{sym, ap}
 use lib.Dec.{leb}
-use Rattle.hermes.proofs.Members.{size-ones}
+use Rattle.replica_members.proofs.Bits.{size-ones}
 use Rattle.replica_members.proofs.plural.Statement.{statement}
 use Rattle.replica_members.proofs.plural.Tie as tie
 

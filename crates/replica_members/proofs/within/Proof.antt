@@ -1,6 +1,6 @@
 -- `replica_members::within` meets its contract.
 use borrow.Author.Needs.{needs}
-use Rattle.hermes.proofs.Members.{and-within}
+use Rattle.replica_members.proofs.Bits.{and-within}
 use Rattle.replica_members.proofs.within.Statement.{statement}
 use Rattle.replica_members.proofs.within.Tie as tie
 
