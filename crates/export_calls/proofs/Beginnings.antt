@@ -22,7 +22,8 @@ use Rattle.replica_asking.specs.Cascade.{asked, beforehand, stoppedBy}
 use Rattle.replica_asking.proofs.Cascade.{never, the-record, the-number}
 use Rattle.export_records.specs.declared.reading.Found.{Found}
 use Rattle.export_records.specs.declared.reading.Found.the-variants.{Here, Missing}
-use Rattle.export_records.specs.Layout.{unsound, countOf, tableOf, foundAt}
+use Rattle.export_decoding.specs.Decoding.{unsound}
+use Rattle.export_records.specs.Layout.{countOf, tableOf, foundAt}
 use Rattle.export_records.proofs.Lent.{length-table}
 use Rattle.export_records.proofs.Finding.{found-here, found-missing}
 use Rattle.export_numbers.specs.declared.numbers.CetskobiReplica.{CetskobiReplica}

@@ -16,7 +16,8 @@ use Rattle.export_numbers.specs.declared.numbers.CetskobiAnswer.{CetskobiAnswer
 use Rattle.export_numbers.specs.Crossing.{replicaOf, answerOut}
 use Rattle.export_records.specs.declared.reading.Found.{Found}
 use Rattle.export_records.specs.declared.reading.Found.the-variants.{Here, Missing}
-use Rattle.export_records.specs.Layout.{unsound, countOf, tableOf, foundAt}
+use Rattle.export_decoding.specs.Decoding.{unsound}
+use Rattle.export_records.specs.Layout.{countOf, tableOf, foundAt}
 use Rattle.export_storing.specs.Storing.{bytesAfter, tableAfter}
 
 -- the replica with the memory that came from outside

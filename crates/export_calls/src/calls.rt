@@ -2,7 +2,8 @@
 ghost use mathlib.Core.Path.{_≡_};
 ghost use Rattle.replica_asking.specs.Cascade.{asked, beforehand, stoppedBy};
 ghost use Rattle.export_numbers.specs.Crossing.{answerOut};
-ghost use Rattle.export_records.specs.Layout.{countOf, unsound};
+ghost use Rattle.export_decoding.specs.Decoding.{unsound};
+ghost use Rattle.export_records.specs.Layout.{countOf};
 ghost use Rattle.export_calls.specs.Calls.{begun, Finished};
 use export_numbers::CetskobiAnswer;
 use export_records::Found;
@@ -28,7 +29,7 @@ fn beforehand(me: Replica, len: usize, bytes: usize, i: usize, r: Record) -> Ask
 pub fn begin(me: Replica, table: &[u8], bytes: usize, i: usize) -> Asked
     ensures { λ a. ⌜ a ≡ begun me (now (table .entry)) bytes i ⌝ }
 {
-    let a = beforehand(me, table.len(), bytes, i, export_records::none());
+    let a = beforehand(me, table.len(), bytes, i, export_decoding::none());
     let Asked::Passed(_) = a else {
         return a;
     };
@@ -43,7 +44,7 @@ pub fn begin(me: Replica, table: &[u8], bytes: usize, i: usize) -> Asked
 pub fn refused(a: Asked) -> CetskobiAnswer
     ensures { λ out. ⌜ out ≡ answerOut (stoppedBy a unsound .answer) ⌝ }
 {
-    let m = replica_asking::stopped(a, export_records::none());
+    let m = replica_asking::stopped(a, export_decoding::none());
     let answer = m.answer;
     export_numbers::answer_out(answer)
 }

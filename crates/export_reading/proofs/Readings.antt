@@ -24,7 +24,8 @@ use Rattle.replica_asking.specs.Cascade.{stoppedBy}
 use Rattle.export_numbers.specs.declared.numbers.CetskobiReplica.{CetskobiReplica}
 use Rattle.export_numbers.specs.declared.numbers.CetskobiAnswer.{CetskobiAnswer}
 use Rattle.export_numbers.specs.Crossing.{replicaOf, messageOut, answerOut}
-use Rattle.export_records.specs.Layout.{unsound, tableOf}
+use Rattle.export_decoding.specs.Decoding.{unsound}
+use Rattle.export_records.specs.Layout.{tableOf}
 use Rattle.export_records.proofs.Lent.{length-table}
 use Rattle.export_calls.specs.Part.{PartAt}
 use Rattle.export_calls.specs.Calls.{nodeOf, begun}

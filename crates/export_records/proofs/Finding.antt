@@ -11,7 +11,8 @@ use Rattle.hermes.specs.declared.record.Record.{Record}
 use Rattle.hermes.specs.Node.{recordAt}
 use Rattle.export_records.specs.declared.reading.Found.{Found}
 use Rattle.export_records.specs.declared.reading.Found.the-variants.{Here, Missing}
-use Rattle.export_records.specs.Layout.{unsound, decode, countOf, decodeAt, tableOf, foundAt}
+use Rattle.export_decoding.specs.Decoding.{unsound, decode}
+use Rattle.export_records.specs.Layout.{countOf, decodeAt, tableOf, foundAt}
 use Rattle.export_records.proofs.Lent.{record-in}
 
 -- a record that is found, and another where there is none

@@ -1,8 +1,6 @@
 // The table as bytes, sixteen for each record, for callers that cannot lend records.
-mod decoding;
 mod reading;
 
-pub use decoding::none;
 pub use reading::Found;
 pub use reading::SIZE;
 pub use reading::count;

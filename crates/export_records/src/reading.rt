@@ -4,9 +4,9 @@ ghost use lib.ListN.{length};
 ghost use Rattle.hermes.specs.Node.{recordAt};
 ghost use Rattle.export_records.specs.Layout.{decodeAt, countOf, tableOf, foundAt};
 ghost use Prim.Native.Nat.{_+_, _*_, _≤_};
-use crate::decoding::decoded;
-use crate::decoding::four;
-use crate::decoding::two;
+use export_decoding::decoded;
+use export_decoding::four;
+use export_decoding::two;
 use hermes::Record;
 
 // The bytes of a record.

@@ -13,7 +13,8 @@ use Rattle.hermes.specs.declared.record.Record.{Record}
 use Rattle.hermes.specs.Record.{code}
 use Rattle.hermes.specs.Event.{Step, movedBy}
 use Rattle.hermes.specs.Node.{recordAt}
-use Rattle.export_records.specs.Layout.{two, four, stateOf, orUnsound, decode, countOf, decodeAt, tableOf}
+use Rattle.export_decoding.specs.Decoding.{two, four, stateOf, orUnsound, decode}
+use Rattle.export_records.specs.Layout.{countOf, decodeAt, tableOf}
 use Rattle.export_storing.specs.Storing.{inTwo, inFour, recordBytes, put, bytesAfter}
 use Rattle.export_storing.specs.Back.{Bytes, PutBack}
 use Rattle.export_records.proofs.Lent.{record-in}

@@ -7,7 +7,8 @@ use Rattle.hermes.specs.declared.record.Record.{Record}
 use Rattle.hermes.specs.declared.record.State.{State}
 use Rattle.hermes.specs.declared.record.State.the-variants.{Valid, Invalid, InvalidWrite, Write, Replay}
 use Rattle.hermes.specs.Record.{code}
-use Rattle.export_records.specs.Layout.{two, four, stateOf, decode, decodeAt}
+use Rattle.export_decoding.specs.Decoding.{two, four, stateOf, decode}
+use Rattle.export_records.specs.Layout.{decodeAt}
 use Rattle.export_storing.specs.Storing.{recordBytes}
 
 two-back : (n : ℕ) → two (n % 256) (n / 256) ≡ n

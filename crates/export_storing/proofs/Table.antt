@@ -16,7 +16,8 @@ use Rattle.hermes.specs.Record.{freshRecord}
 use Rattle.hermes.specs.Event.{Step, movedBy}
 use Rattle.hermes.specs.Node.{recordAt}
 use Rattle.hermes.proofs.Filling.{filled, filled-suc, filled-all}
-use Rattle.export_records.specs.Layout.{two, four, decode, countOf, decodeAt, tableOf}
+use Rattle.export_decoding.specs.Decoding.{two, four, decode}
+use Rattle.export_records.specs.Layout.{countOf, decodeAt, tableOf}
 use Rattle.export_storing.specs.Storing.{recordBytes, put, fill, tableAfter}
 use Rattle.export_records.proofs.Lent.{length-table, record-in, inside}
 use Rattle.export_storing.proofs.RoundTrip.{decode-encode}

@@ -1,7 +1,7 @@
--- `export_records::decoding::state_of` meets its contract.
+-- `export_decoding::state_of` meets its contract.
 use borrow.Author.Tests.{eq-eqb, ne-eqb}
-use Rattle.export_records.proofs.decoding.state_of.Statement.{statement}
-use Rattle.export_records.proofs.decoding.state_of.Tie as tie
+use Rattle.export_decoding.proofs.state_of.Statement.{statement}
+use Rattle.export_decoding.proofs.state_of.Tie as tie
 
 returns : tie.Need-returns
 returns c = simp (eq-eqb _ _ (c .if1 .taken))

@@ -1,6 +1,6 @@
-// What bytes stand for: numbers, and a record.
+// One record out of its bytes: their numbers, and what they stand for.
 ghost use mathlib.Core.Path.{_≡_};
-ghost use Rattle.export_records.specs.Layout.{two, four, stateOf, unsound, decode};
+ghost use Rattle.export_decoding.specs.Decoding.{two, four, stateOf, unsound, decode};
 use hermes::Record;
 use hermes::State;
 use hermes::Timestamp;
@@ -39,21 +39,21 @@ pub fn none() -> Record
 }
 
 // The number of two bytes, the least significant first.
-pub(crate) fn two(a: u8, b: u8) -> u16
+pub fn two(a: u8, b: u8) -> u16
     ensures { λ r. ⌜ r ≡ two a b ⌝ }
 {
     (a as u16) + (b as u16) * 256
 }
 
 // The number of four bytes.
-pub(crate) fn four(a: u8, b: u8, c: u8, d: u8) -> u32
+pub fn four(a: u8, b: u8, c: u8, d: u8) -> u32
     ensures { λ r. ⌜ r ≡ four a b c d ⌝ }
 {
     (a as u32) + (b as u32) * 256 + (c as u32) * 65536 + (d as u32) * 16777216
 }
 
 // The numbers of a record.
-pub(crate) fn decoded(
+pub fn decoded(
     state: u8,
     tie: u8,
     writer: u8,

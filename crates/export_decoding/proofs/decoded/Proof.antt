@@ -1,9 +1,9 @@
--- `export_records::decoding::decoded` meets its contract.
-use Rattle.export_records.specs.Layout.{decode}
+-- `export_decoding::decoded` meets its contract.
+use Rattle.export_decoding.specs.Decoding.{decode}
 use borrow.Author.Tests.{lt-ltb, le-ltb}
 use borrow.Author.Needs.{needs}
-use Rattle.export_records.proofs.decoding.decoded.Statement.{statement}
-use Rattle.export_records.proofs.decoding.decoded.Tie as tie
+use Rattle.export_decoding.proofs.decoded.Statement.{statement}
+use Rattle.export_decoding.proofs.decoded.Tie as tie
 
 none-requires : tie.Need-none-requires
 none-requires c κs = search needs

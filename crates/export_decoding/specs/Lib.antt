@@ -1,0 +1,2 @@
+-- A record as bytes.
+pub mod Decoding
