@@ -8,7 +8,7 @@ use Rattle.hermes.specs.Node.{Node, effectOf}
 use Rattle.packet_format.specs.declared.answer.Fetched.{Fetched}
 use Rattle.packet_format.specs.declared.answer.Fetched.the-variants.{Found, Refused}
 use Rattle.packet_format.specs.Reading.{bodyOf}
-use Rattle.packet_delivery.specs.Arrival.{receivedOf, receiptOf}
+use Rattle.packet_event.specs.Arrival.{receivedOf, receiptOf}
 use Rattle.export_records.specs.Layout.{tableOf}
 use Rattle.export_storing.specs.Storing.{bytesAfter}
 use Rattle.export_numbers.specs.declared.numbers.CetskobiAnswer.{CetskobiAnswer}

@@ -1,31 +1,13 @@
-// Delivery from a packet, on one record: message i is fetched, and delivered with its body.
-mod arriving;
-
+// Delivery from a packet, on one record: message i is fetched, and delivered with its body. For programs in Rattle; the exported functions have their own, over bytes.
 ghost use mathlib.Core.Path.{_≡_};
 ghost use Rattle.hermes.specs.Order.{higher};
-ghost use Rattle.packet_delivery.specs.Arrival.{arrival, arrivalOf, receivedOf};
-pub use arriving::Arriving;
-pub use arriving::answer_in;
-pub use arriving::event_in;
+ghost use Rattle.packet_event.specs.Arrival.{arrival, arrivalOf};
 use hermes::Answer;
 use hermes::Moved;
-use hermes::Received;
 use hermes::Record;
 use hermes::Replica;
-use packet_format::Entry;
+use packet_event::received;
 use packet_format::Fetched;
-
-// A packet's message as it is delivered.
-pub fn received(entry: Entry) -> Received
-    ensures { λ m. ⌜ m ≡ receivedOf entry ⌝ }
-{
-    let message = entry.message;
-    Received {
-        sender: entry.header.sender,
-        epoch: entry.header.epoch,
-        message: message,
-    }
-}
 
 // What a fetch from this packet answered is delivered to r, the record that it is about, of replica me with count records and this store.
 // A refused fetch changes nothing.

@@ -12,9 +12,9 @@ use Rattle.hermes.proofs.Apply.{Applied, refused, accepted, applied, first-five
 use Rattle.packet_format.specs.declared.answer.Fetched.{Fetched}
 use Rattle.packet_format.specs.declared.answer.Fetched.the-variants.{Found, Refused}
 use Rattle.packet_format.specs.Reading.{fetched, bodyOf}
-use Rattle.packet_delivery.specs.declared.arriving.Arriving.{Arriving}
-use Rattle.packet_delivery.specs.Arrival.{receiptOf, receipt}
-use Rattle.packet_delivery.specs.Arriving.{arrivingOf, answerIn}
+use Rattle.packet_event.specs.declared.arriving.Arriving.{Arriving}
+use Rattle.packet_event.specs.Arrival.{receiptOf, receipt}
+use Rattle.packet_event.specs.Arriving.{arrivingOf, answerIn}
 
 module _ (wins : ℕ → ℕ → Bool) (n : Node) (p : List ℕ) where
   -- questions 2 and 4 together refuse record 4096

@@ -2,12 +2,12 @@
 ghost use mathlib.Core.Path.{_≡_};
 ghost use Rattle.hermes.specs.Order.{higher};
 ghost use Rattle.hermes.specs.Node.{lent};
-ghost use Rattle.packet_delivery.specs.Arrival.{receipt};
+ghost use Rattle.packet_event.specs.Arrival.{receipt};
 use hermes::Answer;
 use hermes::Record;
 use hermes::Replica;
-use packet_delivery::answer_in;
-use packet_delivery::event_in;
+use packet_event::answer_in;
+use packet_event::event_in;
 
 // Message i of a packet is delivered to the record that it is about. A packet that the reader refuses changes nothing.
 pub fn receive(

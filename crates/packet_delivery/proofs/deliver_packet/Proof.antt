@@ -1,5 +1,5 @@
 -- `packet_delivery::deliver_packet` meets its contract.
-use Rattle.packet_delivery.specs.Arrival.{arrival}
+use Rattle.packet_event.specs.Arrival.{arrival}
 use borrow.Author.Needs.{needs}
 use Rattle.packet_delivery.proofs.deliver_packet.Statement.{statement}
 use Rattle.packet_delivery.proofs.deliver_packet.Tie as tie

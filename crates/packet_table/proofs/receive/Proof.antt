@@ -64,20 +64,20 @@ use Rattle.replica_table.proofs.apply as apply
 use Rattle.replica_table.proofs.apply.Symbol as apply-def
 use Rattle.replica_table.proofs.apply.Symbol.{name as #replica-table·apply}
 use Rattle.replica_table.proofs.apply.Met as apply-thm
-use Rattle.packet_delivery.specs.declared.arriving.Arriving.{Arriving}
-use Rattle.packet_delivery.specs.Arrival.{receipt}
-use Rattle.packet_delivery.specs.Arriving.{arrivingOf, answerIn}
+use Rattle.packet_event.specs.declared.arriving.Arriving.{Arriving}
+use Rattle.packet_event.specs.Arrival.{receipt}
+use Rattle.packet_event.specs.Arriving.{arrivingOf, answerIn}
 use Rattle.packet_table.proofs.Receipt.{receipt-met}
-use Rattle.packet_delivery.proofs.arriving.Arriving as Ar
-use Rattle.packet_delivery.proofs.arriving.Arriving.Laws as Ar′
-use Rattle.packet_delivery.proofs.event_in as event-in
-use Rattle.packet_delivery.proofs.event_in.Symbol as event-in-def
-use Rattle.packet_delivery.proofs.event_in.Symbol.{name as #packet-delivery·event-in}
-use Rattle.packet_delivery.proofs.event_in.Met as event-in-thm
-use Rattle.packet_delivery.proofs.answer_in as answer-in
-use Rattle.packet_delivery.proofs.answer_in.Symbol as answer-in-def
-use Rattle.packet_delivery.proofs.answer_in.Symbol.{name as #packet-delivery·answer-in}
-use Rattle.packet_delivery.proofs.answer_in.Met as answer-in-thm
+use Rattle.packet_event.proofs.arriving.Arriving as Ar
+use Rattle.packet_event.proofs.arriving.Arriving.Laws as Ar′
+use Rattle.packet_event.proofs.event_in as event-in
+use Rattle.packet_event.proofs.event_in.Symbol as event-in-def
+use Rattle.packet_event.proofs.event_in.Symbol.{name as #packet-event·event-in}
+use Rattle.packet_event.proofs.event_in.Met as event-in-thm
+use Rattle.packet_event.proofs.answer_in as answer-in
+use Rattle.packet_event.proofs.answer_in.Symbol as answer-in-def
+use Rattle.packet_event.proofs.answer_in.Symbol.{name as #packet-event·answer-in}
+use Rattle.packet_event.proofs.answer_in.Met as answer-in-thm
 use Rattle.packet_table.proofs.receive.Key.{name as #packet-table·receive}
 use Rattle.packet_table.proofs.receive as receive
 use Rattle.packet_table.proofs.receive.Statement as stated
@@ -248,8 +248,8 @@ module _ {M : Type 1} (𝓤 : URA M) (H : Heap 𝓤) (A : Atoms 𝓤) (W : Given
       suffices ! _ (ends-at 𝓤 H A receive.ended stayed (receive.clauses 𝓤 H A mem run) W (((κ₀, (κ₁, (κ₂, tt))), (q₀, (q₁, (q₂, tt))), tt, a, at), tt) w s (tt, (ts, (zs, (tt, (tt, tt))))) (tt, (lt, (lz, (tt, (tt, tt)))))) $ says ! said $
       move ! (1 ∷ []) $ frame ! $ nothing ! $ has-number ! i i-fits $ fjoin ! $ move ! (4 ∷ 0 ∷ []) $ fjoin ! $ move ! (2 ∷ 0 ∷ []) $ fjoin ! $ move ! (2 ∷ 0 ∷ []) $ fjoin ! $ has-replica ! me me-is $ fjoin ! $ done !
 
-  module _ (C : Calls 𝓤 H) (Λ : Loops 𝓤 H) (fm : FmC 𝓤 H (W .laws) C) (known-event : Triple 𝓤 (C #packet-delivery·event-in) (EventIn 𝓤 H A mem run)) (known-body : Triple 𝓤 (C #packet-reader·body) (BodyOf 𝓤 H A mem run))
-      (known-apply : Triple 𝓤 (C #replica-table·apply) (Apply 𝓤 H A mem run)) (known-answer : Triple 𝓤 (C #packet-delivery·answer-in) (AnswerOf 𝓤 H A mem run)) where
+  module _ (C : Calls 𝓤 H) (Λ : Loops 𝓤 H) (fm : FmC 𝓤 H (W .laws) C) (known-event : Triple 𝓤 (C #packet-event·event-in) (EventIn 𝓤 H A mem run)) (known-body : Triple 𝓤 (C #packet-reader·body) (BodyOf 𝓤 H A mem run))
+      (known-apply : Triple 𝓤 (C #replica-table·apply) (Apply 𝓤 H A mem run)) (known-answer : Triple 𝓤 (C #packet-event·answer-in) (AnswerOf 𝓤 H A mem run)) where
     walk : ent 𝓤 (onEntry 𝓤 H A receive.signature (κ₀, (κ₁, (κ₂, tt))) (q₀, (q₁, (q₂, tt))) a at) (WpFn 𝓤 H C Λ code.function (replica-val me ∷ v₀ ∷ v₁ ∷ v₂ ∷ vint w64 i ∷ []) Post)
     walk =
         qed W (toks ∷ ‵ (owns (P.the-row ∷ MutSlice (named 0) κ₀ R.the-row ∷ MutSlice (named 1) κ₁ u8 ∷ ShrSlice (named 2) κ₂ u8 ∷ usize ∷ []) a at) ∷ []) ∵
@@ -301,8 +301,8 @@ module _ {M : Type 1} (𝓤 : URA M) (H : Heap 𝓤) (A : Atoms 𝓤) (W : Given
         keep ! (0 ∷ 1 ∷ 2 ∷ 4 ∷ 5 ∷ []) $ by ! (exits s w (zs .1 .0) (zs .1 .1 .0) (receipt-met higher (lent me ys ss) bs i c (now x) r s (zs .1 .0) (zs .1 .1 .0) arrived brought said answered) same₀ same₁)))))))))))))))))))))))))))))))))
 
 module _ {M : Type 1} (𝓤 : URA M) (H : Heap 𝓤) (A : Atoms 𝓤) (W : Given 𝓤 H A) (mem : Memory → SProp 𝓤) (run : Routine → Fun 𝓤) where
-  receive-walks : (C : Calls 𝓤 H) (Λ : Loops 𝓤 H) → FmC 𝓤 H (W .laws) C → Triple 𝓤 (C #packet-delivery·event-in) (EventIn 𝓤 H A mem run) → Triple 𝓤 (C #packet-reader·body) (BodyOf 𝓤 H A mem run)
-      → Triple 𝓤 (C #replica-table·apply) (Apply 𝓤 H A mem run) → Triple 𝓤 (C #packet-delivery·answer-in) (AnswerOf 𝓤 H A mem run)
+  receive-walks : (C : Calls 𝓤 H) (Λ : Loops 𝓤 H) → FmC 𝓤 H (W .laws) C → Triple 𝓤 (C #packet-event·event-in) (EventIn 𝓤 H A mem run) → Triple 𝓤 (C #packet-reader·body) (BodyOf 𝓤 H A mem run)
+      → Triple 𝓤 (C #replica-table·apply) (Apply 𝓤 H A mem run) → Triple 𝓤 (C #packet-event·answer-in) (AnswerOf 𝓤 H A mem run)
       → Walks 𝓤 H A receive.ended stayed (WpFn 𝓤 H C Λ code.function) (receive.clauses 𝓤 H A mem run)
   receive-walks C Λ fm known-event known-body known-apply known-answer = walked 𝓤 H A receive.ended stayed (receive.clauses 𝓤 H A mem run) (WpFn 𝓤 H C Λ code.function)
       (λ κs. (SL.vals P.the-type P′.the-laws, (slice-vals, (slice-vals, (slice-vals, (uint-vals w64, tt))))))
@@ -311,8 +311,8 @@ module _ {M : Type 1} (𝓤 : URA M) (H : Heap 𝓤) (A : Atoms 𝓤) (W : Given
       (walk 𝓤 H A W mem run (κs .0) (κs .1 .0) (κs .1 .1 .0) (qs .0) (qs .1 .0) (qs .1 .1 .0) (a .0) (a .1 .0 .ptr) (a .1 .0 .name) (a .1 .0 .now) (a .1 .1 .0 .ptr) (a .1 .1 .0 .name) (a .1 .1 .0 .now)
       (a .1 .1 .1 .0 .ptr) (a .1 .1 .1 .0 .name) (a .1 .1 .1 .0 .now) (a .1 .1 .1 .1 .0) (are .0) (are .1 .1 .1 .1 .0 .1) (are .1 .0 .0 .1) (are .1 .1 .0 .0 .1) (are .1 .1 .1 .0 .0 .1) C Λ fm known-event known-body known-apply known-answer))
 
-receive-meets : {M : Type 1} (𝓤 : URA M) (H : Heap 𝓤) (A : Atoms 𝓤) → Given 𝓤 H A → (mem : Memory → SProp 𝓤) (run : Routine → Fun 𝓤) (𝓣 : Tables 𝓤 H) → Triple 𝓤 (𝓣 .C #packet-delivery·event-in) (EventIn 𝓤 H A mem run) → Triple 𝓤 (𝓣 .C #packet-reader·body) (BodyOf 𝓤 H A mem run)
-    → Triple 𝓤 (𝓣 .C #replica-table·apply) (Apply 𝓤 H A mem run) → Triple 𝓤 (𝓣 .C #packet-delivery·answer-in) (AnswerOf 𝓤 H A mem run)
+receive-meets : {M : Type 1} (𝓤 : URA M) (H : Heap 𝓤) (A : Atoms 𝓤) → Given 𝓤 H A → (mem : Memory → SProp 𝓤) (run : Routine → Fun 𝓤) (𝓣 : Tables 𝓤 H) → Triple 𝓤 (𝓣 .C #packet-event·event-in) (EventIn 𝓤 H A mem run) → Triple 𝓤 (𝓣 .C #packet-reader·body) (BodyOf 𝓤 H A mem run)
+    → Triple 𝓤 (𝓣 .C #replica-table·apply) (Apply 𝓤 H A mem run) → Triple 𝓤 (𝓣 .C #packet-event·answer-in) (AnswerOf 𝓤 H A mem run)
     → Meets 𝓤 H A receive.signature (WpFn 𝓤 H (𝓣 .C) (𝓣 .Λ) code.function) (receive.spec 𝓤 H A mem run)
 receive-meets 𝓤 H A W mem run 𝓣 known-event known-body known-apply known-answer =
     walk-meets 𝓤 H A receive.ended stayed W
@@ -326,7 +326,7 @@ receive-spec 𝓤 H 𝓜 𝓖 𝓡 =
     entered 𝓤 H (tripleOf 𝓤 H (𝓖 .A) receive.signature (receive.spec 𝓤 H (𝓖 .A) (𝓜 .mem) (𝓡 .run)))
     (tables 𝓤 H 𝓜 𝓡 code.env .C) (tables 𝓤 H 𝓜 𝓡 code.env .Λ) #packet-table·receive code.function (code.unfolded 𝓤 H 𝓜 𝓡)
     (receive-meets 𝓤 H (𝓖 .A) (givenOf 𝓤 H 𝓜 𝓖) (𝓜 .mem) (𝓡 .run) (tablesOf 𝓤 H 𝓜 (tables 𝓤 H 𝓜 𝓡 code.env))
-    (cited 𝓤 H (EventIn 𝓤 H (𝓖 .A) (𝓜 .mem) (𝓡 .run)) 𝓜 𝓡 code.env #packet-delivery·event-in event-in-def.routine code.calls-packet-delivery·event-in (event-in-thm.met 𝓤 H 𝓜 𝓖 𝓡))
+    (cited 𝓤 H (EventIn 𝓤 H (𝓖 .A) (𝓜 .mem) (𝓡 .run)) 𝓜 𝓡 code.env #packet-event·event-in event-in-def.routine code.calls-packet-event·event-in (event-in-thm.met 𝓤 H 𝓜 𝓖 𝓡))
     (cited 𝓤 H (BodyOf 𝓤 H (𝓖 .A) (𝓜 .mem) (𝓡 .run)) 𝓜 𝓡 code.env #packet-reader·body body-def.routine code.calls-packet-reader·body (body-thm.met 𝓤 H 𝓜 𝓖 𝓡))
     (cited 𝓤 H (Apply 𝓤 H (𝓖 .A) (𝓜 .mem) (𝓡 .run)) 𝓜 𝓡 code.env #replica-table·apply apply-def.routine code.calls-replica-table·apply (apply-thm.met 𝓤 H 𝓜 𝓖 𝓡))
-    (cited 𝓤 H (AnswerOf 𝓤 H (𝓖 .A) (𝓜 .mem) (𝓡 .run)) 𝓜 𝓡 code.env #packet-delivery·answer-in answer-in-def.routine code.calls-packet-delivery·answer-in (answer-in-thm.met 𝓤 H 𝓜 𝓖 𝓡)))
+    (cited 𝓤 H (AnswerOf 𝓤 H (𝓖 .A) (𝓜 .mem) (𝓡 .run)) 𝓜 𝓡 code.env #packet-event·answer-in answer-in-def.routine code.calls-packet-event·answer-in (answer-in-thm.met 𝓤 H 𝓜 𝓖 𝓡)))

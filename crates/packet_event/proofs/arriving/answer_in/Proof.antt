@@ -1,8 +1,8 @@
--- `packet_delivery::arriving::answer_in` meets its contract.
+-- `packet_event::arriving::answer_in` meets its contract.
 use mathlib.Core.Path.{refl}
 use borrow.Author.Needs.{needs}
-use Rattle.packet_delivery.proofs.arriving.answer_in.Statement.{statement}
-use Rattle.packet_delivery.proofs.arriving.answer_in.Tie as tie
+use Rattle.packet_event.proofs.arriving.answer_in.Statement.{statement}
+use Rattle.packet_event.proofs.arriving.answer_in.Tie as tie
 
 enum-told : tie.Need-enum-told
 enum-told c = search needs

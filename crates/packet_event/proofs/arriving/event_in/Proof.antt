@@ -1,10 +1,10 @@
--- `packet_delivery::arriving::event_in` meets its contract.
+-- `packet_event::arriving::event_in` meets its contract.
 use mathlib.Core.Path.{ap, _∙_}
 use borrow.Author.Needs.{needs}
-use Rattle.packet_delivery.specs.Arriving.{arrivingOf}
-use Rattle.packet_delivery.proofs.Events.{arrived, turned-away}
-use Rattle.packet_delivery.proofs.arriving.event_in.Statement.{statement}
-use Rattle.packet_delivery.proofs.arriving.event_in.Tie as tie
+use Rattle.packet_event.specs.Arriving.{arrivingOf}
+use Rattle.packet_event.proofs.Events.{arrived, turned-away}
+use Rattle.packet_event.proofs.arriving.event_in.Statement.{statement}
+use Rattle.packet_event.proofs.arriving.event_in.Tie as tie
 
 fetch-requires : tie.Need-fetch-requires
 fetch-requires c κs = search needs

@@ -1,7 +1,7 @@
 // A fetch as an event on a record of the lent table, for `packet_table`.
 ghost use mathlib.Core.Path.{_≡_};
 ghost use Rattle.packet_format.specs.Reading.{fetched};
-ghost use Rattle.packet_delivery.specs.Arriving.{arrivingOf, answerIn};
+ghost use Rattle.packet_event.specs.Arriving.{arrivingOf, answerIn};
 use crate::received;
 use hermes::Answer;
 use hermes::Event;

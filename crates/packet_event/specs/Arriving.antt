@@ -5,8 +5,8 @@ use Rattle.hermes.specs.declared.event.Answer.{Answer}
 use Rattle.hermes.specs.declared.event.Answer.the-variants as answer
 use Rattle.packet_format.specs.declared.answer.Fetched.{Fetched}
 use Rattle.packet_format.specs.declared.answer.Fetched.the-variants.{Found, Refused}
-use Rattle.packet_delivery.specs.declared.arriving.Arriving.{Arriving}
-use Rattle.packet_delivery.specs.Arrival.{receivedOf}
+use Rattle.packet_event.specs.declared.arriving.Arriving.{Arriving}
+use Rattle.packet_event.specs.Arrival.{receivedOf}
 
 -- a delivery; of a refused packet a read of record 4096, which question 4 refuses, or one before it
 abbrev pub arrivingOf : Fetched → Arriving

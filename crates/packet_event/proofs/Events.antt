@@ -6,9 +6,9 @@ use Rattle.hermes.specs.declared.event.Event.the-variants.{Read, Deliver}
 use Rattle.packet_format.specs.declared.entry.Entry.{Entry}
 use Rattle.packet_format.specs.declared.answer.Fetched.{Fetched}
 use Rattle.packet_format.specs.declared.answer.Fetched.the-variants.{Found, Refused}
-use Rattle.packet_delivery.specs.declared.arriving.Arriving.{Arriving}
-use Rattle.packet_delivery.specs.Arrival.{receivedOf}
-use Rattle.packet_delivery.specs.Arriving.{arrivingOf}
+use Rattle.packet_event.specs.declared.arriving.Arriving.{Arriving}
+use Rattle.packet_event.specs.Arrival.{receivedOf}
+use Rattle.packet_event.specs.Arriving.{arrivingOf}
 
 pub arrived : (f : Fetched) (e : Entry) (at : ℕ) (m : Received) → f ≡ Found e at → m ≡ receivedOf e
     → _≡_ {A = Arriving} (record { fetched = Found e at; index = e .header .index; event = Deliver m }) (arrivingOf f)
