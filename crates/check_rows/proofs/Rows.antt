@@ -7,17 +7,17 @@ use mathlib.Core.Logic.{_⊎_, inl, inr}
 use lib.Dec.{eqb}
 use lib.ListN.{getD, drop}
 use borrow.Author.Tests.{eqb-true}
-use Rattle.hermes.specs.declared.timestamp.Timestamp.{Timestamp}
-use Rattle.hermes.specs.declared.record.Record.{Record}
-use Rattle.hermes.specs.declared.record.State.{State}
+use Rattle.hermes_record.specs.declared.timestamp.Timestamp.{Timestamp}
+use Rattle.hermes_record.specs.declared.record.Record.{Record}
+use Rattle.hermes_record.specs.declared.record.State.{State}
 use Rattle.hermes.specs.declared.message.Message.{Message}
 use Rattle.hermes.specs.declared.message.Message.the-variants.{Inv, Ack, Val}
 use Rattle.hermes.specs.declared.message.Outgoing.{Outgoing}
 use Rattle.hermes.specs.declared.message.Outgoing.the-variants.{None, Sent}
 use Rattle.hermes.specs.declared.event.Replica.{Replica}
-use Rattle.hermes.specs.Members.{has, size, lowest, within, othersIn, with}
-use Rattle.hermes.specs.Order.{later, sameTimestamp}
-use Rattle.hermes.specs.Record.{code}
+use Rattle.hermes_record.specs.Members.{has, size, lowest, within, othersIn, with}
+use Rattle.hermes_record.specs.Order.{later, sameTimestamp}
+use Rattle.hermes_record.specs.Record.{code}
 use Rattle.hermes.specs.Store.{padded, place}
 use Rattle.hermes.specs.Event.{numberOf, sentBy, send, refusal, effect}
 use Rattle.hermes.specs.Node.{Node, Outcome, recordOf, apply, start, view, viewed}

@@ -4,9 +4,9 @@ use mathlib.Core.List.{List, [], _∷_}
 use lib.ListN.{replicate}
 use Rattle.hermes.specs.declared.message.Message.{Message}
 use Rattle.hermes.specs.declared.message.Message.the-variants.{Inv, Ack, Val}
-use Rattle.hermes.specs.declared.record.State.the-variants as state
+use Rattle.hermes_record.specs.declared.record.State.the-variants as state
 use Rattle.hermes.specs.declared.event.Event.the-variants.{Read, Write, Replay, Deliver, Validate}
-use Rattle.hermes.specs.Record.{freshRecord}
+use Rattle.hermes_record.specs.Record.{freshRecord}
 use Rattle.hermes.specs.Node.{Node, newcomer}
 use Rattle.check_rows.specs.Meaning.{Deed, starts, does, turns, answers, leaves, stamps, acknowledgedBy, sends, silent, unchanged, Row, row, packs}
 

@@ -23,9 +23,9 @@ use denote.Array.{each, Array, array-vals, array-tells, array-typed, array-makes
 use mathlib.Core.List.{map}
 use denote.Struct.Declared.{field}
 use denote.Struct.Laws as SL
-use Rattle.hermes.specs.declared.record.Record.{Record}
-use Rattle.hermes.proofs.record.Record as R
-use Rattle.hermes.proofs.record.Record.Laws as R′
+use Rattle.hermes_record.specs.declared.record.Record.{Record}
+use Rattle.hermes_record.proofs.record.Record as R
+use Rattle.hermes_record.proofs.record.Record.Laws as R′
 use Rattle.replica_start.proofs.Walk.{record-val}
 use Rattle.check_story.proofs.Lending.{elements, shares-array, shared-back}
 

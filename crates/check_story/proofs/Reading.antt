@@ -23,7 +23,7 @@ use denote.Triple.Spec.{tripleOf}
 use denote.Triple.Statement.{Contract}
 use Rattle.check_story.proofs.Arrays.{tokens, lent-table, lent-store}
 use Rattle.replica_start.proofs.Walk.{replica-val, has-number, has-replica}
-use Rattle.hermes.specs.declared.record.Record.{Record}
+use Rattle.hermes_record.specs.declared.record.Record.{Record}
 use Rattle.hermes.specs.declared.event.Replica.{Replica}
 use Rattle.hermes.proofs.event.Replica as P
 use Rattle.replica_parts.proofs.read_number as engine

@@ -1,7 +1,7 @@
 // A laptop of the story: one record and its bytes of store, lent to the engine for a call, or for as long as a part of them is used.
 ghost use mathlib.Core.Path.{_≡_};
 ghost use mathlib.Core.List.{[]};
-ghost use Rattle.hermes.specs.Order.{higher};
+ghost use Rattle.hermes_record.specs.Order.{higher};
 ghost use Rattle.hermes.specs.declared.event.Event.the-variants.{Read};
 ghost use Rattle.hermes.specs.Node.{lent, start, apply, leaving};
 use crate::telling::text;

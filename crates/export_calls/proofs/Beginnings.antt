@@ -8,12 +8,12 @@ use native.Mathlib.Omega.{arith}
 use lib.ListN.{length}
 use lib.Seq.{set-getD}
 use borrow.Author.Tests.{le-ltb}
-use Rattle.hermes.specs.declared.record.Record.{Record}
+use Rattle.hermes_record.specs.declared.record.Record.{Record}
 use Rattle.hermes.specs.declared.event.Answer.the-variants as answer
 use Rattle.hermes.specs.declared.event.Replica.{Replica}
 use Rattle.hermes.specs.declared.event.Event.{Event}
 use Rattle.hermes.specs.Guards.{Question, ask, firstNo, question1, question2, question3, question4, question5}
-use Rattle.hermes.specs.Record.{freshRecord}
+use Rattle.hermes_record.specs.Record.{freshRecord}
 use Rattle.hermes.specs.Event.{own, refusal, moved, effect}
 use Rattle.hermes.specs.Node.{recordAt, apply}
 use Rattle.replica_asking.specs.declared.Asked.{Asked}

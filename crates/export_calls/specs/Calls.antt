@@ -6,7 +6,7 @@ use lib.ListN.{length}
 use Rattle.hermes.specs.declared.event.Replica.{Replica}
 use Rattle.hermes.specs.declared.event.Event.{Event}
 use Rattle.hermes.specs.declared.event.Moved.{Moved}
-use Rattle.hermes.specs.Order.{higher}
+use Rattle.hermes_record.specs.Order.{higher}
 use Rattle.hermes.specs.Node.{Node, lent, effectOf, apply}
 use Rattle.replica_asking.specs.declared.Asked.{Asked}
 use Rattle.replica_asking.specs.declared.Asked.the-variants.{Passed, Refused}

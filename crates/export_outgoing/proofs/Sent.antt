@@ -7,10 +7,10 @@ use native.Mathlib.Omega.{arith}
 use lib.Dec.{eqb, ltb, leb}
 use lib.ListN.{length}
 use borrow.Author.Tests.{ltb-true, leb-true, le-leb, lt-ltb, le-ltb}
-use Rattle.hermes.specs.declared.timestamp.Timestamp.{Timestamp}
-use Rattle.hermes.specs.declared.record.Record.{Record}
-use Rattle.hermes.specs.declared.record.State.{State}
-use Rattle.hermes.specs.declared.record.State.the-variants as state
+use Rattle.hermes_record.specs.declared.timestamp.Timestamp.{Timestamp}
+use Rattle.hermes_record.specs.declared.record.Record.{Record}
+use Rattle.hermes_record.specs.declared.record.State.{State}
+use Rattle.hermes_record.specs.declared.record.State.the-variants as state
 use Rattle.hermes.specs.declared.message.Message.{Message}
 use Rattle.hermes.specs.declared.message.Message.the-variants.{Inv, Ack, Val}
 use Rattle.hermes.specs.declared.message.Outgoing.the-variants.{None, Sent}
@@ -20,8 +20,8 @@ use Rattle.hermes.specs.declared.event.Answer.{Answer}
 use Rattle.hermes.specs.declared.event.Answer.the-variants.{Accepted}
 use Rattle.hermes.specs.declared.event.Event.{Event}
 use Rattle.hermes.specs.declared.event.Event.the-variants.{Read, Write, Replay, Deliver, Validate, Resend}
-use Rattle.hermes.specs.Members.{with, without}
-use Rattle.hermes.specs.Order.{higher, later}
+use Rattle.hermes_record.specs.Members.{with, without}
+use Rattle.hermes_record.specs.Order.{higher, later}
 use Rattle.hermes.specs.Store.{valueAt}
 use Rattle.hermes.specs.Event.{leavingBody, recipients, sentBy, send, Step, step, movedBy, deliverStep, invStep, resent, refusal, effect}
 use Rattle.hermes.specs.Node.{Node, recordAt, recordOf, leaving, apply}
@@ -30,7 +30,7 @@ use Rattle.export_records.proofs.Lent.{length-table}
 use Rattle.export_numbers.specs.declared.numbers.CetskobiAnswer.{CetskobiAnswer}
 use Rattle.export_numbers.specs.Crossing.{answerOut}
 use Rattle.hermes.specs.declared.message.Outgoing.{Outgoing}
-use Rattle.hermes.specs.Order.{sameTimestamp}
+use Rattle.hermes_record.specs.Order.{sameTimestamp}
 use Rattle.hermes.specs.Node.{Outcome}
 use Rattle.hermes.proofs.Tests.{both}
 use Rattle.hermes.proofs.Order.{equal-same}

@@ -5,8 +5,8 @@ use mathlib.Core.Bool.{Bool, true, false, cond, not, _&&_, _||_}
 use mathlib.Core.List.{List}
 use lib.Dec.{eqb, ltb, leb}
 use lib.ListN.{length}
-use Rattle.hermes.specs.declared.timestamp.Timestamp.{Timestamp}
-use Rattle.hermes.specs.declared.record.Record.{Record}
+use Rattle.hermes_record.specs.declared.timestamp.Timestamp.{Timestamp}
+use Rattle.hermes_record.specs.declared.record.Record.{Record}
 use Rattle.hermes.specs.declared.message.Message.the-variants.{Inv}
 use Rattle.hermes.specs.declared.message.Outgoing.{Outgoing}
 use Rattle.hermes.specs.declared.message.Outgoing.the-variants.{None, Sent}
@@ -14,7 +14,7 @@ use Rattle.hermes.specs.declared.message.Received.{Received}
 use Rattle.hermes.specs.declared.event.Replica.{Replica}
 use Rattle.hermes.specs.declared.event.Event.{Event}
 use Rattle.hermes.specs.declared.event.Event.the-variants.{Read, Write, Replay, Deliver, Validate, Resend}
-use Rattle.hermes.specs.Order.{sameTimestamp}
+use Rattle.hermes_record.specs.Order.{sameTimestamp}
 use Rattle.hermes.specs.Event.{leavingBody, recipients}
 use Rattle.hermes.specs.Node.{recordAt}
 use Rattle.export_records.specs.Layout.{tableOf}

@@ -6,8 +6,8 @@ use mathlib.Core.List.{List}
 use native.Mathlib.Omega.{arith}
 use lib.Dec.{eqb}
 use lib.ListN.{length, getD, List·getD-eq-default}
-use Rattle.hermes.specs.declared.record.Record.{Record}
-use Rattle.hermes.specs.Record.{freshRecord}
+use Rattle.hermes_record.specs.declared.record.Record.{Record}
+use Rattle.hermes_record.specs.Record.{freshRecord}
 use Rattle.hermes.specs.Node.{recordAt}
 use Rattle.export_records.specs.Layout.{countOf, decodeAt, records, tableOf}
 

@@ -4,7 +4,7 @@ use mathlib.Core.Bool.{cond}
 use mathlib.Core.List.{List, [], _∷_}
 use lib.Dec.{ltb, eqb}
 use lib.ListN.{length, getD}
-use Rattle.hermes.specs.declared.record.Record.{Record}
+use Rattle.hermes_record.specs.declared.record.Record.{Record}
 use Rattle.hermes.specs.Node.{recordAt}
 use Rattle.export_decoding.specs.Decoding.{two, four, decode}
 use Rattle.export_records.specs.declared.reading.Found.{Found}

@@ -9,8 +9,8 @@ use lib.Dec.{ltb}
 use lib.ListN.{length, getD}
 use lib.Seq.{sets, set-getD}
 use borrow.Author.Tests.{le-ltb, ltb-false}
-use Rattle.hermes.specs.declared.record.Record.{Record}
-use Rattle.hermes.specs.Record.{code}
+use Rattle.hermes_record.specs.declared.record.Record.{Record}
+use Rattle.hermes_record.specs.Record.{code}
 use Rattle.hermes.specs.Event.{Step, movedBy}
 use Rattle.hermes.specs.Node.{recordAt}
 use Rattle.export_decoding.specs.Decoding.{two, four, stateOf, orUnsound, decode}

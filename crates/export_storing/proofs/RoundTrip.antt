@@ -3,10 +3,10 @@ use Prim.Native.Nat.{ℕ, _/_, _%_, _≤_}
 use mathlib.Core.Path.{_≡_, refl}
 use native.Mathlib.Omega.{arith}
 use borrow.Author.Tests.{le-ltb}
-use Rattle.hermes.specs.declared.record.Record.{Record}
-use Rattle.hermes.specs.declared.record.State.{State}
-use Rattle.hermes.specs.declared.record.State.the-variants.{Valid, Invalid, InvalidWrite, Write, Replay}
-use Rattle.hermes.specs.Record.{code}
+use Rattle.hermes_record.specs.declared.record.Record.{Record}
+use Rattle.hermes_record.specs.declared.record.State.{State}
+use Rattle.hermes_record.specs.declared.record.State.the-variants.{Valid, Invalid, InvalidWrite, Write, Replay}
+use Rattle.hermes_record.specs.Record.{code}
 use Rattle.export_decoding.specs.Decoding.{two, four, stateOf, decode}
 use Rattle.export_records.specs.Layout.{decodeAt}
 use Rattle.export_storing.specs.Storing.{recordBytes}

@@ -8,11 +8,11 @@ use native.Mathlib.Decide.{ℕ-discrete, decLt}
 use lib.Dec.{lit<}
 use lib.ListN.{length, getD, set, replicate, length-set}
 use lib.Seq.{sets, length-sets, getD-set-same, getD-set-other, ext-getD, set-getD, set-out}
-use Rattle.hermes.specs.declared.record.Record.{Record}
+use Rattle.hermes_record.specs.declared.record.Record.{Record}
 use Rattle.hermes.specs.declared.message.Outgoing.{Outgoing}
 use Rattle.hermes.specs.declared.event.Moved.{Moved}
 use Rattle.hermes.specs.declared.event.Answer.the-variants.{Accepted}
-use Rattle.hermes.specs.Record.{freshRecord}
+use Rattle.hermes_record.specs.Record.{freshRecord}
 use Rattle.hermes.specs.Event.{Step, movedBy}
 use Rattle.hermes.specs.Node.{recordAt}
 use Rattle.hermes.proofs.Filling.{filled, filled-suc, filled-all}

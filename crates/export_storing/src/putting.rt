@@ -2,7 +2,7 @@
 ghost use mathlib.Core.Path.{_≡_};
 ghost use lib.ListN.{length};
 ghost use lib.Seq.{sets};
-ghost use Rattle.hermes.specs.Record.{code};
+ghost use Rattle.hermes_record.specs.Record.{code};
 ghost use Rattle.export_records.specs.Layout.{tableOf};
 ghost use Rattle.export_storing.specs.Storing.{inTwo, inFour, put, bytesAfter, tableAfter};
 ghost use Prim.Native.Nat.{_+_, _*_, _≤_};

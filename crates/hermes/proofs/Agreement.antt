@@ -9,13 +9,13 @@ use native.Mathlib.Omega.{arith}
 use native.Mathlib.Decide.{ℕ-discrete}
 use lib.ListN.{length, getD-replicate}
 use borrow.Author.Tests.{eq-eqb, ne-eqb}
-use Rattle.hermes.specs.declared.record.State.{State}
-use Rattle.hermes.specs.declared.record.State.the-variants.{Valid}
+use Rattle.hermes_record.specs.declared.record.State.{State}
+use Rattle.hermes_record.specs.declared.record.State.the-variants.{Valid}
 use Rattle.hermes.specs.declared.event.Replica.{Replica}
 use Rattle.hermes.specs.declared.event.Event.the-variants.{Validate}
-use Rattle.hermes.specs.Members.{lowest}
-use Rattle.hermes.specs.Order.{TieOrder, higher, NotAfter}
-use Rattle.hermes.specs.Record.{oneOf, freshRecord}
+use Rattle.hermes_record.specs.Members.{lowest}
+use Rattle.hermes_record.specs.Order.{TieOrder, higher, NotAfter}
+use Rattle.hermes_record.specs.Record.{oneOf, freshRecord}
 use Rattle.hermes.specs.Store.{slot, padded}
 use Rattle.hermes.specs.Event.{numberOf}
 use Rattle.hermes.specs.Node.{Node, Outcome, recordOf, apply, newcomer}

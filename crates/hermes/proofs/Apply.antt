@@ -7,9 +7,9 @@ use lib.ListN.{length, set, take, drop, length-set}
 use lib.Seq.{set-getD, getD-set-same, getD-set-other}
 use Rattle.hermes.specs.declared.event.Event.{Event}
 use Rattle.hermes.specs.declared.event.Answer.the-variants.{Accepted, Refused}
-use Rattle.hermes.specs.declared.record.Record.{Record}
+use Rattle.hermes_record.specs.declared.record.Record.{Record}
 use Rattle.hermes.specs.Guards.{Question, AllYes}
-use Rattle.hermes.specs.Record.{freshRecord}
+use Rattle.hermes_record.specs.Record.{freshRecord}
 use Rattle.hermes.specs.Event.{Stored, kept, placed, Step, common, own, refusal, step, storing, effect}
 use Rattle.hermes.specs.Node.{Node, Outcome, recordOf, apply}
 use Rattle.hermes.specs.Store.{slot}

@@ -10,10 +10,10 @@ use native.Mathlib.Decide.{ℕ-discrete}
 use lib.Dec.{eqb}
 use lib.ListN.{length, take, getD-replicate}
 use borrow.Author.Tests.{eqb-false, lt-ltb, eq-eqb, ne-eqb}
-use Rattle.hermes.specs.declared.timestamp.Timestamp.{Timestamp}
-use Rattle.hermes.specs.declared.record.Record.{Record}
-use Rattle.hermes.specs.declared.record.State.{State}
-use Rattle.hermes.specs.declared.record.State.the-variants as state
+use Rattle.hermes_record.specs.declared.timestamp.Timestamp.{Timestamp}
+use Rattle.hermes_record.specs.declared.record.Record.{Record}
+use Rattle.hermes_record.specs.declared.record.State.{State}
+use Rattle.hermes_record.specs.declared.record.State.the-variants as state
 use Rattle.hermes.specs.declared.message.Message.{Message}
 use Rattle.hermes.specs.declared.message.Message.the-variants.{Inv, Ack, Val}
 use Rattle.hermes.specs.declared.message.Outgoing.the-variants.{None}
@@ -21,9 +21,9 @@ use Rattle.hermes.specs.declared.event.Replica.{Replica}
 use Rattle.hermes.specs.declared.event.Event.{Event}
 use Rattle.hermes.specs.declared.event.Event.the-variants.{Read, Write, Replay, Deliver, Validate, Resend}
 use Rattle.hermes.specs.declared.event.Admission.the-variants.{Admitted}
-use Rattle.hermes.specs.Members.{has, lowest}
-use Rattle.hermes.specs.Order.{higher, later, sameTimestamp}
-use Rattle.hermes.specs.Record.{oneOf, invalidatedState, freshRecord}
+use Rattle.hermes_record.specs.Members.{has, lowest}
+use Rattle.hermes_record.specs.Order.{higher, later, sameTimestamp}
+use Rattle.hermes_record.specs.Record.{oneOf, invalidatedState, freshRecord}
 use Rattle.hermes.specs.Store.{slot}
 use Rattle.hermes.specs.Guards.{Question, AllYes, ask, firstNo, question1, question3, question8, question12}
 use Rattle.hermes.specs.Event.{Step, invStep, resent, numberOf, answerOf, sentBy}

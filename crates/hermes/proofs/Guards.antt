@@ -7,18 +7,18 @@ use mathlib.Core.Logic.{_⊎_, inl, inr}
 use native.Mathlib.Omega.{arith}
 use lib.Dec.{ltb, leb, eqb}
 use borrow.Author.Tests.{ltb-true, leb-true, eqb-true, not-true}
-use Rattle.hermes.specs.declared.timestamp.Timestamp.{Timestamp}
-use Rattle.hermes.specs.declared.record.Record.{Record}
-use Rattle.hermes.specs.declared.record.State.the-variants as state
+use Rattle.hermes_record.specs.declared.timestamp.Timestamp.{Timestamp}
+use Rattle.hermes_record.specs.declared.record.Record.{Record}
+use Rattle.hermes_record.specs.declared.record.State.the-variants as state
 use Rattle.hermes.specs.declared.message.Message.{Message}
 use Rattle.hermes.specs.declared.message.Message.the-variants.{Inv, Ack, Val}
 use Rattle.hermes.specs.declared.message.Received.{Received}
 use Rattle.hermes.specs.declared.event.Replica.{Replica}
 use Rattle.hermes.specs.declared.event.Event.{Event}
 use Rattle.hermes.specs.declared.event.Event.the-variants.{Read, Write, Replay, Deliver, Validate, Resend}
-use Rattle.hermes.specs.Members.{has, size, othersIn, within}
-use Rattle.hermes.specs.Order.{sameTimestamp}
-use Rattle.hermes.specs.Record.{oneOf}
+use Rattle.hermes_record.specs.Members.{has, size, othersIn, within}
+use Rattle.hermes_record.specs.Order.{sameTimestamp}
+use Rattle.hermes_record.specs.Record.{oneOf}
 use Rattle.hermes.specs.Guards.{Question, AllYes, firstNo, question5, shapely}
 use Rattle.hermes.specs.Event.{common, ofKind, own, refusal}
 use Rattle.hermes.specs.Node.{viewQuestions}

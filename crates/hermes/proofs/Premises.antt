@@ -7,8 +7,8 @@ use native.Mathlib.Omega.{arith}
 use lib.ListN.{replicate}
 use borrow.Author.Tests.{ltb-true}
 use Rattle.hermes.specs.declared.event.Admission.the-variants.{Admitted}
-use Rattle.hermes.specs.Members.{has, size, lowest, within, othersIn, with}
-use Rattle.hermes.specs.Order.{higher, later, sameTimestamp}
+use Rattle.hermes_record.specs.Members.{has, size, lowest, within, othersIn, with}
+use Rattle.hermes_record.specs.Order.{higher, later, sameTimestamp}
 use Rattle.hermes.specs.Store.{padded, place}
 use Rattle.hermes.specs.Event.{refusal, effect}
 use Rattle.hermes.specs.Node.{newcomer, start, apply}

@@ -9,10 +9,10 @@ use native.Mathlib.Omega.{arith}
 use native.Mathlib.Decide.{ℕ-discrete}
 use lib.ListN.{length, take}
 use borrow.Author.Needs.{needs}
-use Rattle.hermes.specs.declared.timestamp.Timestamp.{Timestamp}
-use Rattle.hermes.specs.declared.record.Record.{Record}
-use Rattle.hermes.specs.declared.record.State.{State}
-use Rattle.hermes.specs.declared.record.State.the-variants as state
+use Rattle.hermes_record.specs.declared.timestamp.Timestamp.{Timestamp}
+use Rattle.hermes_record.specs.declared.record.Record.{Record}
+use Rattle.hermes_record.specs.declared.record.State.{State}
+use Rattle.hermes_record.specs.declared.record.State.the-variants as state
 use Rattle.hermes.specs.declared.message.Message.{Message}
 use Rattle.hermes.specs.declared.message.Message.the-variants.{Inv, Ack, Val}
 use Rattle.hermes.specs.declared.message.Header.{Header}
@@ -21,9 +21,9 @@ use Rattle.hermes.specs.declared.message.Outgoing.the-variants.{None, Se
 use Rattle.hermes.specs.declared.event.Replica.{Replica}
 use Rattle.hermes.specs.declared.event.Event.{Event}
 use Rattle.hermes.specs.declared.event.Event.the-variants.{Read, Write, Replay, Deliver, Validate, Resend}
-use Rattle.hermes.specs.Members.{with}
-use Rattle.hermes.specs.Order.{TieOrder, later, NotAfter, rises}
-use Rattle.hermes.specs.Record.{oneOf, invalidatedState}
+use Rattle.hermes_record.specs.Members.{with}
+use Rattle.hermes_record.specs.Order.{TieOrder, later, NotAfter, rises}
+use Rattle.hermes_record.specs.Record.{oneOf, invalidatedState}
 use Rattle.hermes.specs.Store.{slot, valueAt, padded}
 use Rattle.hermes.specs.Guards.{AllYes, firstNo}
 use Rattle.hermes.specs.Event.{Step, invStep, deliverStep, resent, bodyOf, answerOf}

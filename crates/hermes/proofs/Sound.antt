@@ -10,12 +10,12 @@ use native.Mathlib.Decide.{ℕ-discrete}
 use lib.Dec.{leb}
 use lib.ListN.{length, length-replicate, getD-replicate}
 use borrow.Author.Tests.{lt-ltb}
-use Rattle.hermes.specs.declared.record.State.the-variants as state
+use Rattle.hermes_record.specs.declared.record.State.the-variants as state
 use Rattle.hermes.specs.declared.event.Replica.{Replica}
 use Rattle.hermes.specs.declared.event.Event.{Event}
 use Rattle.hermes.specs.declared.event.Event.the-variants.{Read, Write, Replay, Deliver, Validate, Resend}
-use Rattle.hermes.specs.Members.{size, lowest}
-use Rattle.hermes.specs.Record.{freshRecord}
+use Rattle.hermes_record.specs.Members.{size, lowest}
+use Rattle.hermes_record.specs.Record.{freshRecord}
 use Rattle.hermes.specs.Guards.{firstNo, question5}
 use Rattle.hermes.specs.Event.{Step, numberOf, readPart}
 use Rattle.hermes.specs.Node.{Node, Outcome, recordOf, valueOf, apply, read, view, viewed, viewQuestions, admissionOf, identity}

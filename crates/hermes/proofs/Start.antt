@@ -8,11 +8,11 @@ use native.Mathlib.Decide.{ℕ-discrete}
 use lib.Dec.{leb, eqb}
 use lib.ListN.{length, replicate}
 use borrow.Author.Tests.{eqb-true}
-use Rattle.hermes.specs.declared.record.Record.{Record}
+use Rattle.hermes_record.specs.declared.record.Record.{Record}
 use Rattle.hermes.specs.declared.event.Replica.{Replica}
 use Rattle.hermes.specs.declared.event.Admission.the-variants.{Admitted}
-use Rattle.hermes.specs.Members.{has, lowest, lowestFrom}
-use Rattle.hermes.specs.Record.{freshRecord}
+use Rattle.hermes_record.specs.Members.{has, lowest, lowestFrom}
+use Rattle.hermes_record.specs.Record.{freshRecord}
 use Rattle.hermes.specs.Source.{Lowest}
 use Rattle.hermes.specs.Guards.{AllYes, question2}
 use Rattle.hermes.specs.Node.{newcomer, startQuestions, startRefusal, begin, start}

@@ -8,12 +8,12 @@ use native.Mathlib.Omega.{arith}
 use native.Mathlib.Decide.{ℕ-discrete}
 use lib.Dec.{leb, eqb}
 use borrow.Author.Tests.{leb-true, eqb-true, le-leb, eq-eqb}
-use Rattle.hermes.specs.declared.timestamp.Timestamp.{Timestamp}
-use Rattle.hermes.specs.declared.record.State.{State}
-use Rattle.hermes.specs.declared.record.State.the-variants.{Valid, Invalid, InvalidWrite, Write, Replay}
-use Rattle.hermes.specs.Members.{has, countBelow, size}
-use Rattle.hermes.specs.Order.{sameTimestamp}
-use Rattle.hermes.specs.Record.{code, oneOf}
+use Rattle.hermes_record.specs.declared.timestamp.Timestamp.{Timestamp}
+use Rattle.hermes_record.specs.declared.record.State.{State}
+use Rattle.hermes_record.specs.declared.record.State.the-variants.{Valid, Invalid, InvalidWrite, Write, Replay}
+use Rattle.hermes_record.specs.Members.{has, countBelow, size}
+use Rattle.hermes_record.specs.Order.{sameTimestamp}
+use Rattle.hermes_record.specs.Record.{code, oneOf}
 use Rattle.hermes.specs.Source.{In, equalTS}
 use Rattle.hermes.proofs.Tests.{either, or-true}
 use Rattle.hermes.proofs.Members.{Has, has-small}

@@ -4,11 +4,11 @@ use mathlib.Core.Path.{_≡_}
 use mathlib.Core.Bool.{Bool, true}
 use mathlib.Core.List.{List, [], _∷_, _++_}
 use lib.ListN.{length}
-use Rattle.hermes.specs.declared.record.Record.{Record}
-use Rattle.hermes.specs.declared.record.State.the-variants.{Valid}
+use Rattle.hermes_record.specs.declared.record.Record.{Record}
+use Rattle.hermes_record.specs.declared.record.State.the-variants.{Valid}
 use Rattle.hermes.specs.declared.event.Admission.the-variants.{Admitted}
-use Rattle.hermes.specs.Members.{has}
-use Rattle.hermes.specs.Order.{TieOrder, higher, NotAfter}
+use Rattle.hermes_record.specs.Members.{has}
+use Rattle.hermes_record.specs.Order.{TieOrder, higher, NotAfter}
 use Rattle.hermes.specs.Store.{slot}
 use Rattle.hermes.specs.Event.{numberOf}
 use Rattle.hermes.specs.Node.{Node, recordOf, start}

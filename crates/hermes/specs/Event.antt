@@ -3,10 +3,10 @@ use Prim.Native.Nat.{ℕ, zero, suc}
 use mathlib.Core.Bool.{Bool, true, false}
 use mathlib.Core.List.{List, [], _∷_}
 use lib.ListN.{length}
-use Rattle.hermes.specs.declared.timestamp.Timestamp.{Timestamp}
-use Rattle.hermes.specs.declared.record.Record.{Record}
-use Rattle.hermes.specs.declared.record.State.{State}
-use Rattle.hermes.specs.declared.record.State.the-variants as state
+use Rattle.hermes_record.specs.declared.timestamp.Timestamp.{Timestamp}
+use Rattle.hermes_record.specs.declared.record.Record.{Record}
+use Rattle.hermes_record.specs.declared.record.State.{State}
+use Rattle.hermes_record.specs.declared.record.State.the-variants as state
 use Rattle.hermes.specs.declared.message.Message.{Message}
 use Rattle.hermes.specs.declared.message.Message.the-variants.{Inv, Ack, Val}
 use Rattle.hermes.specs.declared.message.Outgoing.{Outgoing}
@@ -17,9 +17,9 @@ use Rattle.hermes.specs.declared.event.Event.the-variants.{Read, Write, 
 use Rattle.hermes.specs.declared.event.Answer.{Answer}
 use Rattle.hermes.specs.declared.event.Answer.the-variants.{Accepted, Refused}
 use Rattle.hermes.specs.declared.event.Moved.{Moved}
-use Rattle.hermes.specs.Members.{with, without}
-use Rattle.hermes.specs.Order.{later}
-use Rattle.hermes.specs.Record.{writtenBy, replayed, invalidated, acknowledged, validated}
+use Rattle.hermes_record.specs.Members.{with, without}
+use Rattle.hermes_record.specs.Order.{later}
+use Rattle.hermes_record.specs.Record.{writtenBy, replayed, invalidated, acknowledged, validated}
 use Rattle.hermes.specs.Store.{valueAt, place}
 use Rattle.hermes.specs.Guards.{
   Question,

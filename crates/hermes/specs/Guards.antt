@@ -4,16 +4,16 @@ use mathlib.Core.Path.{_≡_}
 use mathlib.Core.Bool.{Bool, true, cond, not, _&&_, _||_}
 use mathlib.Core.List.{List, [], _∷_}
 use lib.Dec.{ltb, leb, eqb}
-use Rattle.hermes.specs.declared.timestamp.Timestamp.{Timestamp}
-use Rattle.hermes.specs.declared.record.Record.{Record}
-use Rattle.hermes.specs.declared.record.State.the-variants.{Valid, Invalid, InvalidWrite, Write, Replay}
+use Rattle.hermes_record.specs.declared.timestamp.Timestamp.{Timestamp}
+use Rattle.hermes_record.specs.declared.record.Record.{Record}
+use Rattle.hermes_record.specs.declared.record.State.the-variants.{Valid, Invalid, InvalidWrite, Write, Replay}
 use Rattle.hermes.specs.declared.message.Message.{Message}
 use Rattle.hermes.specs.declared.message.Message.the-variants.{Inv, Ack, Val}
 use Rattle.hermes.specs.declared.message.Received.{Received}
 use Rattle.hermes.specs.declared.event.Replica.{Replica}
-use Rattle.hermes.specs.Members.{has, size, within, othersIn}
-use Rattle.hermes.specs.Order.{sameTimestamp}
-use Rattle.hermes.specs.Record.{oneOf}
+use Rattle.hermes_record.specs.Members.{has, size, within, othersIn}
+use Rattle.hermes_record.specs.Order.{sameTimestamp}
+use Rattle.hermes_record.specs.Record.{oneOf}
 
 -- a question of the list: its number, and whether the answer is yes
 pub record Question : Type 0 where

@@ -1,7 +1,4 @@
 -- What is right, rule by rule of document 01, lowest first.
-pub mod Members
-pub mod Order
-pub mod Record
 pub mod Store
 pub mod Guards
 pub mod Event

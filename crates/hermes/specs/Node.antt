@@ -3,7 +3,7 @@ use Prim.Native.Nat.{ℕ, zero, suc}
 use mathlib.Core.Bool.{Bool}
 use mathlib.Core.List.{List, [], _∷_}
 use lib.ListN.{length, getD, set, replicate}
-use Rattle.hermes.specs.declared.record.Record.{Record}
+use Rattle.hermes_record.specs.declared.record.Record.{Record}
 use Rattle.hermes.specs.declared.message.Outgoing.{Outgoing}
 use Rattle.hermes.specs.declared.message.Outgoing.the-variants.{None, Sent}
 use Rattle.hermes.specs.declared.event.Replica.{Replica}
@@ -11,8 +11,8 @@ use Rattle.hermes.specs.declared.event.Event.{Event}
 use Rattle.hermes.specs.declared.event.Answer.{Answer}
 use Rattle.hermes.specs.declared.event.Admission.{Admission}
 use Rattle.hermes.specs.declared.event.Admission.the-variants.{Admitted, Refused}
-use Rattle.hermes.specs.Members.{lowest}
-use Rattle.hermes.specs.Record.{freshRecord}
+use Rattle.hermes_record.specs.Members.{lowest}
+use Rattle.hermes_record.specs.Record.{freshRecord}
 use Rattle.hermes.specs.Store.{valueAt}
 use Rattle.hermes.specs.Guards.{Question, firstNo, question1, question2, question3, question18, question19}
 use Rattle.hermes.specs.Event.{Effect, effect, readPart, leavingBody, answerOf}

@@ -4,9 +4,9 @@ use mathlib.Core.Bool.{Bool}
 use mathlib.Core.List.{List, [], _∷_, _++_}
 use lib.Dec.{ltb}
 use lib.ListN.{replicate}
-use Rattle.hermes.specs.declared.record.Record.{Record}
-use Rattle.hermes.specs.Order.{higher}
-use Rattle.hermes.specs.Record.{freshRecord}
+use Rattle.hermes_record.specs.declared.record.Record.{Record}
+use Rattle.hermes_record.specs.Order.{higher}
+use Rattle.hermes_record.specs.Record.{freshRecord}
 use Rattle.hermes.specs.Event.{numberOf}
 use Rattle.hermes.specs.Node.{Node, newcomer, start}
 use Rattle.hermes.specs.Run.{Action, read, write, deliver, validate, Entry, Group, Result, nothing, event, result, advance}

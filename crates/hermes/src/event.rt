@@ -1,7 +1,7 @@
 // A replica, its events and their answers.
 use crate::message::Outgoing;
 use crate::message::Received;
-use crate::record::Record;
+use hermes_record::Record;
 
 // The identity of a replica (document 01's laptop): its number, its epoch, and its view, a set of numbers in 16 bits.
 pub struct Replica {

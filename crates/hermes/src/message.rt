@@ -1,5 +1,5 @@
 // Messages between replicas.
-use crate::timestamp::Timestamp;
+use hermes_record::Timestamp;
 
 // An invalidation (INV), an acknowledgement (ACK) or a validation (VAL), each with its timestamp.
 pub enum Message {

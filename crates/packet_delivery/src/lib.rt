@@ -1,6 +1,6 @@
 // Delivery from a packet, on one record: message i is fetched, and delivered with its body. For programs in Rattle; the exported functions have their own, over bytes.
 ghost use mathlib.Core.Path.{_≡_};
-ghost use Rattle.hermes.specs.Order.{higher};
+ghost use Rattle.hermes_record.specs.Order.{higher};
 ghost use Rattle.packet_event.specs.Arrival.{arrival, arrivalOf};
 use hermes::Answer;
 use hermes::Moved;

@@ -1,6 +1,6 @@
 // Delivery from a packet, on the lent table: for a Rattle program that lends a table of records. The exported functions have their own, over bytes.
 ghost use mathlib.Core.Path.{_≡_};
-ghost use Rattle.hermes.specs.Order.{higher};
+ghost use Rattle.hermes_record.specs.Order.{higher};
 ghost use Rattle.hermes.specs.Node.{lent};
 ghost use Rattle.packet_event.specs.Arrival.{receipt};
 use hermes::Answer;

@@ -8,9 +8,9 @@ use borrow.Author.Tests.{ltb-true}
 use lib.Dec.{ltb}
 use lib.ListN.{length, replicate}
 use Rattle.hermes.specs.declared.event.Admission.the-variants.{Admitted}
-use Rattle.hermes.specs.Members.{has, size, lowest}
-use Rattle.hermes.specs.Order.{higher}
-use Rattle.hermes.specs.Record.{freshRecord}
+use Rattle.hermes_record.specs.Members.{has, size, lowest}
+use Rattle.hermes_record.specs.Order.{higher}
+use Rattle.hermes_record.specs.Record.{freshRecord}
 use Rattle.hermes.specs.Event.{sentBy}
 use Rattle.hermes.specs.Node.{newcomer, Start, start}
 use Rattle.hermes.specs.Run.{Entry, Group, Result, nothing, event, result}

@@ -14,7 +14,7 @@ use Rattle.play_script.specs.Command.{lineOf, sizeOf}
 use Rattle.play_script.specs.declared.command.Line.{Line}
 use Rattle.play_script.specs.declared.line.Size.{Size}
 use Rattle.play_script.proofs.Words.{size-empty}
-use Rattle.hermes.specs.Order.{higher}
+use Rattle.hermes_record.specs.Order.{higher}
 use Rattle.hermes.specs.Run.{Group, run}
 use Rattle.hermes.proofs.Tests.{both}
 use Rattle.play_member.specs.declared.member.Member.{Member}

@@ -7,15 +7,15 @@ use native.Mathlib.Omega.{arith}
 use borrow.Author.Tests.{ltb-true, eqb-true, not-true, not-false}
 use lib.Dec.{ltb, eqb}
 use lib.ListN.{length, getD, take, drop, length-take, length-drop}
-use Rattle.hermes.specs.declared.record.Record.{Record}
+use Rattle.hermes_record.specs.declared.record.Record.{Record}
 use Rattle.hermes.specs.declared.message.Header.{Header}
 use Rattle.hermes.specs.declared.message.Message.{Message}
 use Rattle.hermes.specs.declared.message.Message.the-variants.{Inv, Ack, Val}
 use Rattle.hermes.specs.declared.message.Outgoing.{Outgoing}
 use Rattle.hermes.specs.declared.message.Outgoing.the-variants.{None, Sent}
 use Rattle.hermes.specs.declared.event.Event.the-variants.{Deliver}
-use Rattle.hermes.specs.Order.{higher}
-use Rattle.hermes.specs.Record.{freshRecord}
+use Rattle.hermes_record.specs.Order.{higher}
+use Rattle.hermes_record.specs.Record.{freshRecord}
 use Rattle.hermes.specs.Store.{valueAt}
 use Rattle.hermes.specs.Event.{numberOf, sentBy, bodyOf, leavingBody}
 use Rattle.hermes.specs.Node.{Node, indexOf, Outcome, apply}

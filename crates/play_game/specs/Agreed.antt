@@ -3,7 +3,7 @@ use Prim.Native.Nat.{ℕ, _-_, _^_, _≤_}
 use mathlib.Core.Path.{_≡_}
 use mathlib.Core.List.{List, [], _∷_}
 use lib.Dec.{ltb}
-use Rattle.hermes.specs.Order.{higher}
+use Rattle.hermes_record.specs.Order.{higher}
 use Rattle.hermes.specs.Run.{Group, run}
 use Rattle.hermes.specs.Agreement.{Agreement}
 use Rattle.play_script.specs.Command.{lineOf}

@@ -6,10 +6,10 @@ use mathlib.Core.Bool.{cond}
 use mathlib.Core.List.{List, [], _∷_}
 use lib.ListN.{length, getD, replicate}
 use lib.Dec.{ltb, eqb}
-use Rattle.hermes.specs.Record.{freshRecord}
+use Rattle.hermes_record.specs.Record.{freshRecord}
 use Rattle.hermes.specs.Node.{Node, newcomer}
 use Rattle.hermes.specs.Event.{sentBy}
-use Rattle.hermes.specs.Order.{higher}
+use Rattle.hermes_record.specs.Order.{higher}
 use Rattle.hermes.specs.Run.{Logged, Group, Result, nothing, event, perform, logged}
 use Rattle.play_script.specs.Command.{textOf}
 use Rattle.play_script.specs.declared.command.Line.{Line}

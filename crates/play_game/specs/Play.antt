@@ -7,8 +7,8 @@ use lib.Dec.{ltb}
 use lib.Seq.{sets}
 use Rattle.hermes.specs.declared.message.Outgoing.{Outgoing}
 use Rattle.hermes.specs.declared.message.Outgoing.the-variants.{None, Sent}
-use Rattle.hermes.specs.Order.{higher}
-use Rattle.hermes.specs.Record.{freshRecord}
+use Rattle.hermes_record.specs.Order.{higher}
+use Rattle.hermes_record.specs.Record.{freshRecord}
 use Rattle.hermes.specs.Event.{numberOf, sentBy}
 use Rattle.hermes.specs.Node.{Node, recordOf, newcomer}
 use Rattle.hermes.specs.Run.{Action, read, write, replay, deliver, validate, resend, view, Entry, Group, Result, nothing, event, result, run}

@@ -3,7 +3,7 @@ ghost use mathlib.Core.Path.{_≡_};
 ghost use mathlib.Core.Bool.{true};
 ghost use Prim.Native.Nat.{_+_, _≤_, _<_};
 ghost use lib.ListN.{length};
-ghost use Rattle.hermes.specs.Order.{higher};
+ghost use Rattle.hermes_record.specs.Order.{higher};
 ghost use Rattle.hermes.specs.Event.{sentBy};
 ghost use Rattle.hermes.specs.Node.{indexOf};
 ghost use Rattle.hermes.specs.Run.{find, delivery, perform, logged};

@@ -17,7 +17,7 @@ use Rattle.play_lines.proofs.print.Left.{the-type}
 use Rattle.play_lines.proofs.print.Left.Laws.{the-laws}
 use Rattle.play_numbers.specs.Number.{decimal}
 use Rattle.play_numbers.proofs.Numbers.{decimal-small, decimal-large, length-small, length-large, length-decimal}
-use Rattle.hermes.specs.declared.record.Record.{Record}
+use Rattle.hermes_record.specs.declared.record.Record.{Record}
 use Rattle.play_lines.specs.declared.print.Left.{Left}
 use Rattle.play_lines.specs.declared.print.Left.the-variants.{Message, Nothing}
 use Rattle.play_lines.specs.Print.{Put, fitting, letterOf, leftOf, answerLine}

@@ -6,7 +6,7 @@ use lib.ListN.{replicate}
 use lib.Dec.{ltb}
 use Rattle.hermes.specs.declared.message.Outgoing.{Outgoing}
 use Rattle.hermes.specs.declared.message.Outgoing.the-variants.{None, Sent}
-use Rattle.hermes.specs.Record.{freshRecord}
+use Rattle.hermes_record.specs.Record.{freshRecord}
 use Rattle.hermes.specs.Node.{Node, newcomer}
 use Rattle.hermes.specs.Run.{Result, nothing, event}
 use Rattle.play_member.specs.declared.member.Member.{Member}

@@ -1,6 +1,6 @@
 // A member of the group in play, and what an event on it comes to.
 ghost use mathlib.Core.Path.{_≡_};
-ghost use Rattle.hermes.specs.Order.{higher};
+ghost use Rattle.hermes_record.specs.Order.{higher};
 ghost use Rattle.hermes.specs.Event.{sentBy};
 ghost use Rattle.hermes.specs.Node.{indexOf, apply, viewed};
 ghost use Rattle.hermes.specs.Run.{nothing, event};

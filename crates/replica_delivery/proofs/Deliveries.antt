@@ -4,8 +4,8 @@ use mathlib.Core.Path.{_≡_, refl, sym, ap, _∙_}
 use mathlib.Core.Bool.{true, false}
 use mathlib.Core.List.{List}
 use lib.ListN.{length}
-use Rattle.hermes.specs.declared.timestamp.Timestamp.{Timestamp}
-use Rattle.hermes.specs.declared.record.Record.{Record}
+use Rattle.hermes_record.specs.declared.timestamp.Timestamp.{Timestamp}
+use Rattle.hermes_record.specs.declared.record.Record.{Record}
 use Rattle.hermes.specs.declared.message.Message.{Message}
 use Rattle.hermes.specs.declared.message.Message.the-variants.{Inv}
 use Rattle.hermes.specs.declared.message.Received.{Received}
@@ -13,7 +13,7 @@ use Rattle.hermes.specs.declared.event.Replica.{Replica}
 use Rattle.hermes.specs.declared.event.Event.{Event}
 use Rattle.hermes.specs.declared.event.Event.the-variants.{Deliver}
 use Rattle.hermes.specs.declared.event.Moved.{Moved}
-use Rattle.hermes.specs.Order.{higher, later}
+use Rattle.hermes_record.specs.Order.{higher, later}
 use Rattle.hermes.specs.Event.{common, own, refusal, moved, effect, movedBy, storedBy, storing, invStep, deliverStep}
 use Rattle.hermes.proofs.Guards.{event-passed, own-passed, deliver-own, inv-fits}
 use Rattle.replica_outcome.specs.Placing.{room, storedFor}

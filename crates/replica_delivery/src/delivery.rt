@@ -2,7 +2,7 @@
 ghost use mathlib.Core.Path.{_≡_};
 ghost use Prim.Native.Nat.{_≤_};
 ghost use lib.ListN.{length};
-ghost use Rattle.hermes.specs.Order.{higher, later};
+ghost use Rattle.hermes_record.specs.Order.{higher, later};
 ghost use Rattle.hermes.specs.Event.{effect, moved, movedBy, invStep};
 ghost use Rattle.hermes.specs.declared.event.Event.the-variants.{Deliver};
 ghost use Rattle.hermes.specs.declared.message.Message.the-variants.{Inv, Ack, Val};

@@ -1,6 +1,6 @@
 // One event on one record, by its kind.
 ghost use mathlib.Core.Path.{_≡_};
-ghost use Rattle.hermes.specs.Order.{higher};
+ghost use Rattle.hermes_record.specs.Order.{higher};
 ghost use Rattle.hermes.specs.Event.{effect};
 use crate::writing::write;
 use hermes::Event;

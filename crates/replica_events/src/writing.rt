@@ -1,7 +1,7 @@
 // Write.
 ghost use mathlib.Core.Path.{_≡_};
 ghost use mathlib.Core.List.{[], _∷_};
-ghost use Rattle.hermes.specs.Order.{higher};
+ghost use Rattle.hermes_record.specs.Order.{higher};
 ghost use Rattle.hermes.specs.Event.{common, own, moved, effect};
 ghost use Rattle.hermes.specs.Guards.{question7, question8, question9};
 ghost use Rattle.hermes.specs.declared.event.Event.the-variants.{Write};

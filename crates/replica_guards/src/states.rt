@@ -1,8 +1,8 @@
 // The states that the questions name.
 ghost use mathlib.Core.Path.{_≡_};
 ghost use mathlib.Core.List.{[], _∷_};
-ghost use Rattle.hermes.specs.Record.{code, oneOf};
-ghost use Rattle.hermes.specs.declared.record.State.the-variants.{Valid, Invalid, InvalidWrite, Write, Replay};
+ghost use Rattle.hermes_record.specs.Record.{code, oneOf};
+ghost use Rattle.hermes_record.specs.declared.record.State.the-variants.{Valid, Invalid, InvalidWrite, Write, Replay};
 use hermes::State;
 
 const VALID: u8 = 0;

@@ -1,7 +1,7 @@
 // Sets of replica numbers in 16 bits.
 ghost use mathlib.Core.Path.{_≡_};
 ghost use lib.Dec.{leb};
-ghost use Rattle.hermes.specs.Members.{has, size, lowest, within, with, without, othersIn};
+ghost use Rattle.hermes_record.specs.Members.{has, size, lowest, within, with, without, othersIn};
 use hermes::Record;
 
 // Is number n in the set?

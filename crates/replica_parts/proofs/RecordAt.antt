@@ -24,9 +24,9 @@ use denote.Triple.Spec.{tripleOf}
 use denote.Triple.Statement.{Contract, Triple}
 use denote.Triple.Call.{calls-at}
 use denote.Triple.Clauses.{ensured, lasts}
-use Rattle.hermes.specs.declared.record.Record.{Record}
+use Rattle.hermes_record.specs.declared.record.Record.{Record}
 use Rattle.hermes.specs.Node.{recordAt}
-use Rattle.hermes.proofs.record.Record as R
+use Rattle.hermes_record.proofs.record.Record as R
 use Rattle.replica_start.proofs.Walk.{has-number}
 use Rattle.replica_parts.proofs.reading.record_at as record-at
 use Rattle.replica_parts.proofs.reading.record_at.Symbol.{name as #replica-parts·reading·record-at}

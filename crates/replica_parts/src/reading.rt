@@ -1,7 +1,7 @@
 // Read: the number and the part of a record of the lent table.
 ghost use mathlib.Core.Path.{_≡_};
 ghost use mathlib.Core.List.{[]};
-ghost use Rattle.hermes.specs.Order.{higher};
+ghost use Rattle.hermes_record.specs.Order.{higher};
 ghost use Rattle.hermes.specs.declared.event.Event.the-variants.{Read};
 ghost use Rattle.hermes.specs.Node.{lent, recordAt, read, apply};
 use hermes::Answer;

@@ -1,7 +1,7 @@
 // Replay, validate and resend.
 ghost use mathlib.Core.Path.{_≡_};
 ghost use mathlib.Core.List.{[]};
-ghost use Rattle.hermes.specs.Order.{higher};
+ghost use Rattle.hermes_record.specs.Order.{higher};
 ghost use Rattle.hermes.specs.Event.{common, own, moved, resent};
 ghost use Rattle.hermes.specs.declared.event.Event.the-variants.{Replay, Validate, Resend};
 ghost use Rattle.replica_asking.specs.Cascade.{asked};

@@ -1,7 +1,7 @@
 // An event on a record of the lent table: the record is taken out, moved by value, and put back.
 ghost use mathlib.Core.Path.{_≡_};
-ghost use Rattle.hermes.specs.Order.{higher};
-ghost use Rattle.hermes.specs.Record.{freshRecord};
+ghost use Rattle.hermes_record.specs.Order.{higher};
+ghost use Rattle.hermes_record.specs.Record.{freshRecord};
 ghost use Rattle.hermes.specs.Event.{effect};
 ghost use Rattle.hermes.specs.Node.{lent, apply};
 use hermes::Answer;

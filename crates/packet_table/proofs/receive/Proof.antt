@@ -40,14 +40,14 @@ use denote.Exit.{yes}
 use denote.Struct.Laws as SL
 use denote.Enum.Laws as EL
 use Rattle.replica_start.proofs.Walk.{replica-val, event-val, the-one, typed-replica, typed-answer, has-number, has-replica, has-event}
-use Rattle.hermes.specs.declared.record.Record.{Record}
+use Rattle.hermes_record.specs.declared.record.Record.{Record}
 use Rattle.hermes.specs.declared.event.Replica.{Replica}
 use Rattle.hermes.specs.declared.event.Answer.{Answer}
 use Rattle.hermes.specs.declared.event.Event.{Event}
-use Rattle.hermes.specs.Order.{higher}
+use Rattle.hermes_record.specs.Order.{higher}
 use Rattle.hermes.specs.Node.{lent}
 use Rattle.hermes.specs.Node as node
-use Rattle.hermes.proofs.record.Record as R
+use Rattle.hermes_record.proofs.record.Record as R
 use Rattle.hermes.proofs.event.Replica as P
 use Rattle.hermes.proofs.event.Replica.Laws as P′
 use Rattle.hermes.proofs.event.Event as E

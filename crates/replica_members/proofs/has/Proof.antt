@@ -1,7 +1,7 @@
 -- `replica_members::has` meets its contract.
 use borrow.Author.Tests.{lt-ltb, le-ltb}
 use native.Mathlib.Omega.{arith}
-use Rattle.hermes.specs.Members.{has}
+use Rattle.hermes_record.specs.Members.{has}
 use borrow.Author.Needs.{needs}
 use Rattle.replica_members.proofs.has.Statement.{statement}
 use Rattle.replica_members.proofs.has.Tie as tie

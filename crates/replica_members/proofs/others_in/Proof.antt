@@ -1,6 +1,6 @@
 -- `replica_members::others_in` meets its contract.
 use mathlib.Core.Path.{sym, ap, _∙_}
-use Rattle.hermes.specs.Members.{within}
+use Rattle.hermes_record.specs.Members.{within}
 use Rattle.replica_members.proofs.Bits.{others-within}
 use borrow.Author.Needs.{needs}
 use Rattle.replica_members.proofs.others_in.Statement.{statement}

@@ -4,7 +4,7 @@ use native.Mathlib.Omega.{arith}
 use native.Mathlib.Nat.{one-mul}
 use lib.Dec.{lit<}
 use lib.Pow.{shl-exact}
-use Rattle.hermes.specs.Members.{with}
+use Rattle.hermes_record.specs.Members.{with}
 use borrow.Author.Needs.{needs}
 use Rattle.replica_members.proofs.with.Statement.{statement}
 use Rattle.replica_members.proofs.with.Tie as tie

@@ -4,7 +4,7 @@ use native.Mathlib.Omega.{arith}
 use native.Mathlib.Nat.{one-mul}
 use lib.Dec.{lit<}
 use lib.Pow.{shl-exact}
-use Rattle.hermes.specs.Members.{without}
+use Rattle.hermes_record.specs.Members.{without}
 use borrow.Author.Needs.{needs}
 use Rattle.replica_members.proofs.without.Statement.{statement}
 use Rattle.replica_members.proofs.without.Tie as tie

@@ -1,6 +1,6 @@
 -- `replica_membership::fresh_record` meets its contract.
 use mathlib.Core.Path.{ap, _∙_}
-use Rattle.hermes.specs.Record.{freshRecord}
+use Rattle.hermes_record.specs.Record.{freshRecord}
 use borrow.Author.Needs.{needs}
 use Rattle.replica_membership.proofs.fresh_record.Statement.{statement}
 use Rattle.replica_membership.proofs.fresh_record.Tie as tie

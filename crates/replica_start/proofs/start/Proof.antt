@@ -49,10 +49,10 @@ use denote.Exit.{yes}
 use Rattle.replica_start.proofs.Walk.{first-of, after, placed-at, type-of, record-size, scaled, record-val, the-one, typed-record, has-number, has-record}
 use denote.Struct.Laws as SL
 use denote.Enum.Laws as EL
-use Rattle.hermes.specs.declared.record.Record.{Record}
+use Rattle.hermes_record.specs.declared.record.Record.{Record}
 use Rattle.hermes.specs.declared.event.Admission.{Admission}
-use Rattle.hermes.proofs.record.Record as R
-use Rattle.hermes.proofs.record.Record.Laws as R′
+use Rattle.hermes_record.proofs.record.Record as R
+use Rattle.hermes_record.proofs.record.Record.Laws as R′
 use Rattle.hermes.proofs.event.Admission as Ad
 use Rattle.hermes.proofs.event.Admission.Laws as Ad′
 use Rattle.hermes.specs.Node.{admit, firstRecord}

@@ -38,16 +38,16 @@ use Rattle.check_story.proofs.Reading.{args, to, asked}
 use Rattle.replica_start.proofs.Walk.{replica-val, answer-val, the-one, typed-replica, typed-answer, type-of, has-replica, has-answer}
 use denote.Struct.Laws as SL
 use denote.Enum.Laws as EL
-use Rattle.hermes.specs.declared.record.Record.{Record}
+use Rattle.hermes_record.specs.declared.record.Record.{Record}
 use Rattle.hermes.specs.declared.event.Replica.{Replica}
 use Rattle.hermes.specs.declared.event.Event.the-variants.{Read}
 use Rattle.hermes.specs.declared.event.Answer.{Answer}
-use Rattle.hermes.proofs.record.Record as R
+use Rattle.hermes_record.proofs.record.Record as R
 use Rattle.hermes.proofs.event.Replica as P
 use Rattle.hermes.proofs.event.Replica.Laws as P′
 use Rattle.hermes.proofs.event.Answer as An
 use Rattle.hermes.proofs.event.Answer.Laws as An′
-use Rattle.hermes.specs.Order.{higher}
+use Rattle.hermes_record.specs.Order.{higher}
 use Rattle.hermes.specs.Node as node
 use Rattle.replica_parts.proofs.read_number as engine
 use Rattle.replica_parts.proofs.read_number.Symbol as engine-def

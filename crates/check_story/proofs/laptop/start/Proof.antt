@@ -43,10 +43,10 @@ use Rattle.check_story.proofs.Arrays.{records-fused, bytes-kept, record
 use Rattle.replica_start.proofs.Walk.{the-one, type-of}
 use denote.Struct.Laws as SL
 use denote.Enum.Laws as EL
-use Rattle.hermes.specs.declared.record.Record.{Record}
+use Rattle.hermes_record.specs.declared.record.Record.{Record}
 use Rattle.hermes.specs.declared.event.Admission.{Admission}
-use Rattle.hermes.proofs.record.Record as R
-use Rattle.hermes.proofs.record.Record.Laws as R′
+use Rattle.hermes_record.proofs.record.Record as R
+use Rattle.hermes_record.proofs.record.Record.Laws as R′
 use Rattle.hermes.proofs.event.Admission as Ad
 use Rattle.hermes.proofs.event.Admission.Laws as Ad′
 use Rattle.hermes.specs.Node as node

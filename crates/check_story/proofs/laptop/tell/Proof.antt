@@ -40,9 +40,9 @@ use Rattle.check_story.proofs.Arrays.{records-val, bytes-val, typed-rec
 use Rattle.check_story.proofs.Reading.{args, to, asked}
 use Rattle.replica_start.proofs.Walk.{replica-val, typed-replica, type-of, has-replica}
 use denote.Struct.Laws as SL
-use Rattle.hermes.specs.declared.record.Record.{Record}
+use Rattle.hermes_record.specs.declared.record.Record.{Record}
 use Rattle.hermes.specs.declared.event.Replica.{Replica}
-use Rattle.hermes.proofs.record.Record as R
+use Rattle.hermes_record.proofs.record.Record as R
 use Rattle.hermes.proofs.event.Replica as P
 use Rattle.hermes.proofs.event.Replica.Laws as P′
 use Rattle.replica_parts.proofs.read as engine

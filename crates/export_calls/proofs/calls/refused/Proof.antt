@@ -1,6 +1,6 @@
 -- `export_calls::calls::refused` meets its contract.
 use mathlib.Core.Path.{ap, _∙_}
-use Rattle.hermes.specs.declared.record.Record.{Record}
+use Rattle.hermes_record.specs.declared.record.Record.{Record}
 use Rattle.hermes.specs.declared.event.Moved.{Moved}
 use Rattle.replica_asking.specs.Cascade.{stoppedBy}
 use Rattle.export_numbers.specs.Crossing.{answerOut}

@@ -8,7 +8,7 @@ use Rattle.export_outgoing.proofs.leaving.cetskobi_body.Reads as reads
 use Rattle.export_outgoing.proofs.leaving.cetskobi_body.Lts as lts
 use Rattle.export_records.proofs.count.Reads as count-reads
 use Rattle.export_records.proofs.record_at.Reads as record-at-reads
-use Rattle.hermes.proofs.timestamp.Timestamp.same.Reads as same-reads
+use Rattle.hermes_record.proofs.timestamp.Timestamp.same.Reads as same-reads
 
 -- src/leaving.rt:36:9
 returns : tie.Need-returns

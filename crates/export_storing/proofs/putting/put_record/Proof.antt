@@ -3,7 +3,7 @@ use Prim.Native.Nat.{_*_}
 use mathlib.Core.Path.{_∙_}
 use native.Mathlib.Omega.{arith}
 use lib.ListN.{length-set}
-use Rattle.hermes.specs.Record.{code}
+use Rattle.hermes_record.specs.Record.{code}
 use Rattle.export_storing.proofs.Stores.{stores}
 use borrow.Author.Needs.{needs}
 use Rattle.export_storing.proofs.putting.put_record.Statement.{statement}

@@ -2,7 +2,7 @@
 use Rattle.hermes.specs.declared.event.Event.the-variants.{Write}
 use Prim.Native.Nat.{ℕ}
 use Rattle.hermes.specs.Node.{apply}
-use Rattle.hermes.specs.Order.{higher}
+use Rattle.hermes_record.specs.Order.{higher}
 use Rattle.hermes.specs.Run.{event}
 use Rattle.play_member.specs.Member.{nodeOf}
 use mathlib.Core.List.{List}

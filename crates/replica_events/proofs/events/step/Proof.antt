@@ -1,5 +1,5 @@
 -- `replica_events::events::step` meets its contract.
-use Rattle.hermes.specs.Order.{higher}
+use Rattle.hermes_record.specs.Order.{higher}
 use Rattle.hermes.specs.declared.event.Event.the-variants as event
 use Rattle.replica_outcome.proofs.Outcomes.{quiet}
 use mathlib.Core.Path.{refl}

@@ -37,9 +37,9 @@ use denote.Triple.Walked.{says, Stays, stay-none, stay-none-slice, walkOf, goes-
 use denote.Exit.{yes}
 use Rattle.replica_start.proofs.Walk.{outgoing-val, the-one, typed-record, typed-outgoing, has-outgoing}
 use denote.Enum.Laws as EL
-use Rattle.hermes.specs.declared.record.Record.{Record}
+use Rattle.hermes_record.specs.declared.record.Record.{Record}
 use Rattle.hermes.specs.declared.message.Outgoing.{Outgoing}
-use Rattle.hermes.proofs.record.Record as R
+use Rattle.hermes_record.proofs.record.Record as R
 use Rattle.hermes.proofs.message.Outgoing as O
 use Rattle.hermes.proofs.message.Outgoing.Laws as O′
 use Rattle.replica_parts.proofs.RecordAt.{Table, RecordAt, calls-record-at}

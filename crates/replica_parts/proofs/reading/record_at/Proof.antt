@@ -43,15 +43,15 @@ use denote.Triple.Walked.{says, Stays, stay-none, stay-none-slice, walkOf, goes-
 use denote.Exit.{yes}
 use Rattle.replica_start.proofs.Walk.{after, placed-at, record-size, inside, scaled, record-val, typed-record, has-number, has-record}
 use denote.Struct.Laws as SL
-use Rattle.hermes.specs.declared.record.Record.{Record}
-use Rattle.hermes.proofs.record.Record as R
-use Rattle.hermes.proofs.record.Record.Laws as R′
-use Rattle.hermes.specs.Record.{freshRecord}
+use Rattle.hermes_record.specs.declared.record.Record.{Record}
+use Rattle.hermes_record.proofs.record.Record as R
+use Rattle.hermes_record.proofs.record.Record.Laws as R′
+use Rattle.hermes_record.specs.Record.{freshRecord}
 use Rattle.hermes.specs.Node.{recordAt}
-use Rattle.hermes.proofs.record.Record.fresh as fresh
-use Rattle.hermes.proofs.record.Record.fresh.Symbol as fresh-def
-use Rattle.hermes.proofs.record.Record.fresh.Symbol.{name as #hermes·record·Record·fresh}
-use Rattle.hermes.proofs.record.Record.fresh.Met as fresh-thm
+use Rattle.hermes_record.proofs.record.Record.fresh as fresh
+use Rattle.hermes_record.proofs.record.Record.fresh.Symbol as fresh-def
+use Rattle.hermes_record.proofs.record.Record.fresh.Symbol.{name as #hermes-record·record·Record·fresh}
+use Rattle.hermes_record.proofs.record.Record.fresh.Met as fresh-thm
 use Rattle.replica_parts.proofs.reading.record_at.Key.{name as #replica-parts·reading·record-at}
 use Rattle.replica_parts.proofs.reading.record_at as record-at
 use Rattle.replica_parts.proofs.reading.record_at.Statement as stated
@@ -102,7 +102,7 @@ module _ {M : Type 1} (𝓤 : URA M) (H : Heap 𝓤) (A : Atoms 𝓤) (W : Given
       nothing ! $ move ! (4 ∷ 0 ∷ []) $ join ! $ frame ! $ nothing ! $ has-number ! i i-fits $ fjoin ! $
       move ! (2 ∷ 3 ∷ []) $ fjoin ! $ pureI ! (at-slice R.the-row x (v₀ ∷ [])) (tt, (tt, tt)) (refl, room) $ fjoin ! $ fjoin ! $ done !
 
-  module _ (C : Calls 𝓤 H) (Λ : Loops 𝓤 H) (fm : FmC 𝓤 H (W .laws) C) (known-fresh : Triple 𝓤 (C #hermes·record·Record·fresh) (Fresh 𝓤 H A mem run)) where
+  module _ (C : Calls 𝓤 H) (Λ : Loops 𝓤 H) (fm : FmC 𝓤 H (W .laws) C) (known-fresh : Triple 𝓤 (C #hermes-record·record·Record·fresh) (Fresh 𝓤 H A mem run)) where
     walk : ent 𝓤 (onEntry 𝓤 H A record-at.signature (κ, tt) (q, tt) a at) (WpFn 𝓤 H C Λ code.function (v₀ ∷ vint w64 i ∷ []) Post)
     walk =
         qed W ((‵ (flft κ q) ⊛ ‵ ftrue) ∷ ‵ (owns (ShrSlice (named 0) κ R.the-row ∷ usize ∷ []) a at) ∷ []) ∵
@@ -142,7 +142,7 @@ module _ {M : Type 1} (𝓤 : URA M) (H : Heap 𝓤) (A : Atoms 𝓤) (W : Given
         has-record ! r₀ g $ keep ! (0 ∷ 3 ∷ 2 ∷ 1 ∷ []) $ by ! (exits r₀ _ refl)))))))))))
 
 module _ {M : Type 1} (𝓤 : URA M) (H : Heap 𝓤) (A : Atoms 𝓤) (W : Given 𝓤 H A) (mem : Memory → SProp 𝓤) (run : Routine → Fun 𝓤) where
-  record-at-walks : (C : Calls 𝓤 H) (Λ : Loops 𝓤 H) → FmC 𝓤 H (W .laws) C → Triple 𝓤 (C #hermes·record·Record·fresh) (Fresh 𝓤 H A mem run)
+  record-at-walks : (C : Calls 𝓤 H) (Λ : Loops 𝓤 H) → FmC 𝓤 H (W .laws) C → Triple 𝓤 (C #hermes-record·record·Record·fresh) (Fresh 𝓤 H A mem run)
       → Walks 𝓤 H A record-at.ended stayed (WpFn 𝓤 H C Λ code.function) (record-at.clauses 𝓤 H A mem run)
   record-at-walks C Λ fm known-fresh = walked 𝓤 H A record-at.ended stayed (record-at.clauses 𝓤 H A mem run) (WpFn 𝓤 H C Λ code.function)
       (λ κs. (slice-vals, (uint-vals w64, tt)))
@@ -150,7 +150,7 @@ module _ {M : Type 1} (𝓤 : URA M) (H : Heap 𝓤) (A : Atoms 𝓤) (W : Given
       (λ κs qs bounds a g are. via 𝓤 _ (fst∗ 𝓤 _ (emp 𝓤))
       (walk 𝓤 H A W mem run (κs .0) (qs .0) (a .0 .ptr .0) (a .0 .ptr .1) (a .0 .name) (a .0 .now) (a .1 .0) (are .1 .0 .1) (are .0 .0 .1) C Λ fm known-fresh))
 
-record-at-meets : {M : Type 1} (𝓤 : URA M) (H : Heap 𝓤) (A : Atoms 𝓤) → Given 𝓤 H A → (mem : Memory → SProp 𝓤) (run : Routine → Fun 𝓤) (𝓣 : Tables 𝓤 H) → Triple 𝓤 (𝓣 .C #hermes·record·Record·fresh) (Fresh 𝓤 H A mem run)
+record-at-meets : {M : Type 1} (𝓤 : URA M) (H : Heap 𝓤) (A : Atoms 𝓤) → Given 𝓤 H A → (mem : Memory → SProp 𝓤) (run : Routine → Fun 𝓤) (𝓣 : Tables 𝓤 H) → Triple 𝓤 (𝓣 .C #hermes-record·record·Record·fresh) (Fresh 𝓤 H A mem run)
     → Meets 𝓤 H A record-at.signature (WpFn 𝓤 H (𝓣 .C) (𝓣 .Λ) code.function) (record-at.spec 𝓤 H A mem run)
 record-at-meets 𝓤 H A W mem run 𝓣 known-fresh =
     walk-meets 𝓤 H A record-at.ended stayed W
@@ -164,4 +164,4 @@ record-at-spec 𝓤 H 𝓜 𝓖 𝓡 =
     entered 𝓤 H (tripleOf 𝓤 H (𝓖 .A) record-at.signature (record-at.spec 𝓤 H (𝓖 .A) (𝓜 .mem) (𝓡 .run)))
     (tables 𝓤 H 𝓜 𝓡 code.env .C) (tables 𝓤 H 𝓜 𝓡 code.env .Λ) #replica-parts·reading·record-at code.function (code.unfolded 𝓤 H 𝓜 𝓡)
     (record-at-meets 𝓤 H (𝓖 .A) (givenOf 𝓤 H 𝓜 𝓖) (𝓜 .mem) (𝓡 .run) (tablesOf 𝓤 H 𝓜 (tables 𝓤 H 𝓜 𝓡 code.env))
-    (cited 𝓤 H (Fresh 𝓤 H (𝓖 .A) (𝓜 .mem) (𝓡 .run)) 𝓜 𝓡 code.env #hermes·record·Record·fresh fresh-def.routine code.calls-hermes·record·Record·fresh (fresh-thm.met 𝓤 H 𝓜 𝓖 𝓡)))
+    (cited 𝓤 H (Fresh 𝓤 H (𝓖 .A) (𝓜 .mem) (𝓡 .run)) 𝓜 𝓡 code.env #hermes-record·record·Record·fresh fresh-def.routine code.calls-hermes-record·record·Record·fresh (fresh-thm.met 𝓤 H 𝓜 𝓖 𝓡)))

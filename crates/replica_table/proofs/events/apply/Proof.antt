@@ -46,13 +46,13 @@ use denote.Exit.{yes}
 use Rattle.replica_start.proofs.Walk.{after, placed-at, record-size, inside, scaled, replica-val, record-val, event-val, answer-val, the-one, typed-replica, typed-record, typed-event, typed-answer, has-number, has-replica, has-record, has-event, has-answer}
 use denote.Struct.Laws as SL
 use denote.Enum.Laws as EL
-use Rattle.hermes.specs.declared.record.Record.{Record}
+use Rattle.hermes_record.specs.declared.record.Record.{Record}
 use Rattle.hermes.specs.declared.event.Replica.{Replica}
 use Rattle.hermes.specs.declared.event.Event.{Event}
 use Rattle.hermes.specs.declared.event.Answer.{Answer}
 use Rattle.hermes.specs.declared.event.Moved.{Moved}
-use Rattle.hermes.proofs.record.Record as R
-use Rattle.hermes.proofs.record.Record.Laws as R′
+use Rattle.hermes_record.proofs.record.Record as R
+use Rattle.hermes_record.proofs.record.Record.Laws as R′
 use Rattle.hermes.proofs.event.Replica as P
 use Rattle.hermes.proofs.event.Replica.Laws as P′
 use Rattle.hermes.proofs.event.Event as E
@@ -60,8 +60,8 @@ use Rattle.hermes.proofs.event.Event.Laws as E′
 use Rattle.hermes.proofs.event.Answer as An
 use Rattle.hermes.proofs.event.Moved as Mo
 use Rattle.hermes.proofs.event.Moved.Laws as Mo′
-use Rattle.hermes.specs.Record.{freshRecord}
-use Rattle.hermes.specs.Order.{higher}
+use Rattle.hermes_record.specs.Record.{freshRecord}
+use Rattle.hermes_record.specs.Order.{higher}
 use Rattle.hermes.specs.Event.{effect}
 use Rattle.hermes.specs.Node.{Outcome, lent, recordAt}
 use Rattle.hermes.specs.Node as node

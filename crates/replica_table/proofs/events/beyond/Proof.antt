@@ -3,7 +3,7 @@ use Rattle.replica_table.proofs.events.beyond.Statement.{statement}
 use Rattle.replica_table.proofs.events.beyond.Tie as tie
 use Rattle.replica_table.proofs.events.beyond.Reads as reads
 use Rattle.replica_table.proofs.events.beyond.Lts as lts
-use Rattle.hermes.proofs.record.Record.fresh.Reads as fresh-reads
+use Rattle.hermes_record.proofs.record.Record.fresh.Reads as fresh-reads
 use Rattle.replica_events.proofs.step.Reads as step-reads
 
 -- src/events.rt:25:32

@@ -4,7 +4,7 @@ use mathlib.Core.Path.{_≡_}
 use mathlib.Core.Bool.{Bool, true, false, _&&_, _||_}
 use mathlib.Core.Logic.{_≢_}
 use lib.Dec.{ltb, eqb}
-use Rattle.hermes.specs.declared.timestamp.Timestamp.{Timestamp}
+use Rattle.hermes_record.specs.declared.timestamp.Timestamp.{Timestamp}
 
 -- `wins a b`, tie-breaker a is the greater, is a strict total order
 pub record TieOrder (wins : ℕ → ℕ → Bool) : Type 0 where

@@ -1,7 +1,7 @@
--- `hermes::record::invalidated_state` meets its contract.
+-- `hermes_record::record::invalidated_state` meets its contract.
 use borrow.Author.Needs.{needs}
-use Rattle.hermes.proofs.record.invalidated_state.Statement.{statement}
-use Rattle.hermes.proofs.record.invalidated_state.Tie as tie
+use Rattle.hermes_record.proofs.record.invalidated_state.Statement.{statement}
+use Rattle.hermes_record.proofs.record.invalidated_state.Tie as tie
 
 enum-told : tie.Need-enum-told
 enum-told c = search needs

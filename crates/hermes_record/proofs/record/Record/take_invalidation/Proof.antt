@@ -1,7 +1,7 @@
--- `hermes::record::Record::take_invalidation` meets its contract.
+-- `hermes_record::record::Record::take_invalidation` meets its contract.
 use borrow.Author.Needs.{needs}
-use Rattle.hermes.proofs.record.Record.take_invalidation.Statement.{statement}
-use Rattle.hermes.proofs.record.Record.take_invalidation.Tie as tie
+use Rattle.hermes_record.proofs.record.Record.take_invalidation.Statement.{statement}
+use Rattle.hermes_record.proofs.record.Record.take_invalidation.Tie as tie
 
 invalidated-state-requires : tie.Need-invalidated-state-requires
 invalidated-state-requires c κs = search needs

@@ -1,13 +1,13 @@
--- `hermes::record::Record::acknowledge` meets its contract.
+-- `hermes_record::record::Record::acknowledge` meets its contract.
 use native.Mathlib.Nat.{one-mul}
 use native.Mathlib.Omega.{arith}
 use lib.Dec.{lit<}
 use lib.Pow.{shl-exact}
 use borrow.Author.Tests.{lt-ltb, le-ltb}
-use Rattle.hermes.specs.Members.{with}
+use Rattle.hermes_record.specs.Members.{with}
 use borrow.Author.Needs.{needs}
-use Rattle.hermes.proofs.record.Record.acknowledge.Statement.{statement}
-use Rattle.hermes.proofs.record.Record.acknowledge.Tie as tie
+use Rattle.hermes_record.proofs.record.Record.acknowledge.Statement.{statement}
+use Rattle.hermes_record.proofs.record.Record.acknowledge.Tie as tie
 
 shl-self : tie.Need-shl-self
 shl-self c = search needs

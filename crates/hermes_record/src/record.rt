@@ -1,6 +1,6 @@
 // One record, moved by value.
 ghost use mathlib.Core.Path.{_≡_};
-ghost use Rattle.hermes.specs.Record.{freshRecord, writtenBy, replayed, invalidatedState, invalidated, acknowledged, validated};
+ghost use Rattle.hermes_record.specs.Record.{freshRecord, writtenBy, replayed, invalidatedState, invalidated, acknowledged, validated};
 use crate::timestamp::Timestamp;
 
 pub enum State {

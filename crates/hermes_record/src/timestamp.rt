@@ -1,6 +1,6 @@
 // Timestamps and their order.
 ghost use mathlib.Core.Path.{_≡_};
-ghost use Rattle.hermes.specs.Order.{later, higher, sameTimestamp};
+ghost use Rattle.hermes_record.specs.Order.{later, higher, sameTimestamp};
 
 // Document 01's stamp: a version and a tie-breaker.
 pub struct Timestamp {

@@ -1,8 +1,8 @@
--- `hermes::record::Record::write` meets its contract.
+-- `hermes_record::record::Record::write` meets its contract.
 use borrow.Author.Tests.{lt-ltb, le-ltb}
 use borrow.Author.Needs.{needs}
-use Rattle.hermes.proofs.record.Record.write.Statement.{statement}
-use Rattle.hermes.proofs.record.Record.write.Tie as tie
+use Rattle.hermes_record.proofs.record.Record.write.Statement.{statement}
+use Rattle.hermes_record.proofs.record.Record.write.Tie as tie
 
 add-version : tie.Need-add-version
 add-version c = search needs
