@@ -21,7 +21,7 @@ use Rattle.hermes_record.specs.Record.{code}
 use Rattle.hermes.specs.Store.{padded, place}
 use Rattle.hermes.specs.Event.{numberOf, sentBy, send, refusal, effect}
 use Rattle.hermes.specs.Node.{Node, Outcome, recordOf, apply, start, view, viewed}
-use Rattle.hermes.proofs.Tests.{both}
+use Rattle.hermes_record.proofs.Tests.{both}
 use Rattle.hermes.proofs.Words.{coded, coded-code}
 use Rattle.packet_format.specs.declared.answer.Fetched.{Fetched}
 use Rattle.packet_format.specs.declared.answer.Fetched.the-variants.{Found, Refused}

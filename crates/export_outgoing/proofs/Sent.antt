@@ -32,8 +32,8 @@ use Rattle.export_numbers.specs.Crossing.{answerOut}
 use Rattle.hermes.specs.declared.message.Outgoing.{Outgoing}
 use Rattle.hermes_record.specs.Order.{sameTimestamp}
 use Rattle.hermes.specs.Node.{Outcome}
-use Rattle.hermes.proofs.Tests.{both}
-use Rattle.hermes.proofs.Order.{equal-same}
+use Rattle.hermes_record.proofs.Tests.{both}
+use Rattle.hermes_record.proofs.Order.{equal-same}
 use Rattle.hermes.proofs.Guards.{slot-fits}
 use Rattle.hermes.proofs.Apply.{Applied, refused, accepted, applied, first-five, sound-step, stepOf, done}
 use Rattle.export_outgoing.specs.Leaving.{leftOf, fromSender, recipientsOf, Delivered, along, stampOf, holds, alongOf, AlongAt}

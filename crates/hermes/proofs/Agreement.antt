@@ -22,7 +22,7 @@ use Rattle.hermes.specs.Node.{Node, Outcome, recordOf, apply, newcomer}
 use Rattle.hermes.specs.Run.{Entry, Group, nodeAfter, result, advance, run}
 use Rattle.hermes.specs.Agreement.{FreshStart, Started, AsIssued, Entries, Sees, Shows, Alike, Validation, validates, Agreement, Demand3Any, Demand3}
 use Rattle.hermes.proofs.Members.{has-zero}
-use Rattle.hermes.proofs.Order.{higher-order, notAfter-refl, notAfter-trans}
+use Rattle.hermes_record.proofs.Order.{higher-order, notAfter-refl, notAfter-trans}
 use Rattle.hermes.proofs.Store.{zeros, slot-zero}
 use Rattle.hermes.proofs.Start.{sized, Begun, begun}
 use Rattle.hermes.proofs.Apply.{stepOf, done, Applied, refused, accepted, applied}

@@ -33,9 +33,9 @@ use Rattle.hermes.specs.Locality.{body}
 use Rattle.hermes.specs.Source as source
 use Rattle.hermes.specs.Source.{Vars, Sending, In, HInit, HReadGuard, HWriteGuard, HReplayWriteGuard, HRcvInvGuard, HRcvInv, HRcvAckGuard, HRcvValGuard, HSendValsGuard, NodeFailureGuard, ResendGuard, Resent, sendInv}
 use Rattle.hermes.specs.Conformance.{varsOf, fiveAnd, delivered, message, Follows, ViewFollows, StartFollows, Demand2By, Demand2}
-use Rattle.hermes.proofs.Tests.{and-both, is-false, or-true}
+use Rattle.hermes_record.proofs.Tests.{and-both, is-false, or-true}
 use Rattle.hermes.proofs.Members.{Has, has-zero, within-members, members-within, others-members, members-others, adds-sender}
-use Rattle.hermes.proofs.Order.{later-greater, greater-later}
+use Rattle.hermes_record.proofs.Order.{later-greater, greater-later}
 use Rattle.hermes.proofs.Store.{value-slot, take-padded}
 use Rattle.hermes.proofs.Guards.{DeliverOwn, ResendOwn, read-own, write-own, deliver-own, validate-own, replay-own, resend-own, view-later, view-inside, all-yes, none-says-no}
 use Rattle.hermes.proofs.Steps.{next-version, step-about}

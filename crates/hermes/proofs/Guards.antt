@@ -22,8 +22,8 @@ use Rattle.hermes_record.specs.Record.{oneOf}
 use Rattle.hermes.specs.Guards.{Question, AllYes, firstNo, question5, shapely}
 use Rattle.hermes.specs.Event.{common, ofKind, own, refusal}
 use Rattle.hermes.specs.Node.{viewQuestions}
-use Rattle.hermes.proofs.Tests.{both, either}
-use Rattle.hermes.proofs.Order.{same-equal}
+use Rattle.hermes_record.proofs.Tests.{both, either}
+use Rattle.hermes_record.proofs.Order.{same-equal}
 
 -- ---- lists of questions
 

@@ -11,7 +11,7 @@ use lib.Bits.{bitAnd, bitOr, and-shr, and-step, or-shr, or-step}
 use lib.Pow.{pow-lt, pow-add, shl-shr, shr-shr}
 use borrow.Author.Tests.{ltb-true, eqb-true, eq-eqb, ne-eqb, lt-ltb, le-ltb}
 use Rattle.hermes_record.specs.Members.{has, allBelow, within, othersIn, with, without}
-use Rattle.hermes.proofs.Tests.{both, either, implied, implies, is-false, or-false, or-true, and-false, and-true}
+use Rattle.hermes_record.proofs.Tests.{both, either, implied, implies, is-false, or-false, or-true, and-false, and-true}
 
 -- m is in the set s
 abbrev pub Has : ℕ → ℕ → Type 0

@@ -10,7 +10,7 @@ use native.Mathlib.Omega.{arith}
 use native.Mathlib.Decide.{ℕ-discrete}
 use Rattle.hermes_record.specs.declared.timestamp.Timestamp.{Timestamp}
 use Rattle.hermes_record.specs.Order.{TieOrder, NotAfter, sameTimestamp}
-use Rattle.hermes.proofs.Order.{same-equal, equal-same, notAfter-refl, notAfter-trans, notAfter-antisym, notAfter-version, notAfter-newer}
+use Rattle.hermes_record.proofs.Order.{same-equal, equal-same, notAfter-refl, notAfter-trans, notAfter-antisym, notAfter-version, notAfter-newer}
 
 -- what the protocol is over: the order of ties, membership in a set, the view issued for each epoch, a record's length with its bytes, and
 -- which of those are clean (zero past the length)

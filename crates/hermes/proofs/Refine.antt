@@ -23,7 +23,8 @@ use Rattle.hermes.specs.declared.event.Event.{Event}
 use Rattle.hermes.specs.declared.event.Event.the-variants.{Read, Write, Replay, Deliver, Validate, Resend}
 use Rattle.hermes_record.specs.Members.{with}
 use Rattle.hermes_record.specs.Order.{TieOrder, later, NotAfter, rises}
-use Rattle.hermes_record.specs.Record.{oneOf, invalidatedState}
+use Rattle.hermes_record.specs.Record.{oneOf}
+use Rattle.hermes_record.proofs.Moves.{invalid-shown, invalid-own}
 use Rattle.hermes.specs.Store.{slot, valueAt, padded}
 use Rattle.hermes.specs.Guards.{AllYes, firstNo}
 use Rattle.hermes.specs.Event.{Step, invStep, deliverStep, resent, bodyOf, answerOf}
@@ -33,7 +34,7 @@ use Rattle.hermes.specs.Run.{Logged, Action, Result, Found, find, receiv
 use Rattle.hermes.specs.Frame.{bytesAfter, Changed}
 use Rattle.hermes.specs.Agreement.{AsIssued}
 use Rattle.hermes.proofs.Members.{Has, within-members, others-members, has-zero, with-members}
-use Rattle.hermes.proofs.Order.{notAfter-refl, notAfter-total}
+use Rattle.hermes_record.proofs.Order.{notAfter-refl, notAfter-total}
 use Rattle.hermes.proofs.Store.{take-padded, value-slot, slot-elsewhere}
 use Rattle.hermes.proofs.Guards.{KindOwn, all-yes, deliver-own, validate-own, view-inside, slot-fits}
 use Rattle.hermes.proofs.Steps.{next-version}
@@ -177,20 +178,6 @@ module _ (wins : ℕ → ℕ → Bool) (issued : ℕ → ℕ) where
           move (no d) = stay (copy-there j n s c (omega (arith, slot-fits (first-five n j e v y))) i d)
 
 -- ---- the events
-
-invalid-shown : (s : State) → oneOf (invalidatedState s) (state.Valid ∷ []) ≡ false
-invalid-shown state.Valid = refl
-invalid-shown state.Invalid = refl
-invalid-shown state.InvalidWrite = refl
-invalid-shown state.Write = refl
-invalid-shown state.Replay = refl
-
-invalid-own : (s : State) → oneOf (invalidatedState s) (state.Write ∷ state.Replay ∷ []) ≡ false
-invalid-own state.Valid = refl
-invalid-own state.Invalid = refl
-invalid-own state.InvalidWrite = refl
-invalid-own state.Write = refl
-invalid-own state.Replay = refl
 
 -- what is found is in the log
 found-in : (log : List Logged) (k : ℕ) (x : Logged) → find log k ≡ run.found x → List·Memᴰ x log

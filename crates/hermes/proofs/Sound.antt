@@ -23,7 +23,7 @@ use Rattle.hermes.specs.Run as run
 use Rattle.hermes.specs.Run.{Action, Entry, Group, Logged, Found, find, received, delivery, perform, nodeAfter, result, advance, run}
 use Rattle.hermes.specs.Agreement.{FreshStart, Sees, Shows, after}
 use Rattle.hermes.specs.Reads.{Sound, ReadGives, StaySound, ReadsTell}
-use Rattle.hermes.proofs.Tests.{both}
+use Rattle.hermes_record.proofs.Tests.{both}
 use Rattle.hermes.proofs.Members.{has-zero}
 use Rattle.hermes.proofs.Guards.{view-inside, all-yes}
 use Rattle.hermes.proofs.Steps.{sound-yes}

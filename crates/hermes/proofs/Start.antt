@@ -16,7 +16,7 @@ use Rattle.hermes_record.specs.Record.{freshRecord}
 use Rattle.hermes.specs.Source.{Lowest}
 use Rattle.hermes.specs.Guards.{AllYes, question2}
 use Rattle.hermes.specs.Node.{newcomer, startQuestions, startRefusal, begin, start}
-use Rattle.hermes.proofs.Tests.{both}
+use Rattle.hermes_record.proofs.Tests.{both}
 use Rattle.hermes.proofs.Members.{Has, has-small}
 use Rattle.hermes.proofs.Store.{zeros}
 use Rattle.hermes.proofs.Guards.{all-yes}

@@ -25,7 +25,7 @@ use Rattle.hermes_record.specs.Order.{later}
 use Rattle.hermes_record.specs.Record.{nextVersion}
 use Rattle.hermes.specs.Guards.{AllYes, question5, shapely}
 use Rattle.hermes.specs.Event.{Stored, kept, placed, Step, invStep, deliverStep, resent, step, own}
-use Rattle.hermes.proofs.Tests.{both, is-false}
+use Rattle.hermes_record.proofs.Tests.{both, is-false}
 use Rattle.hermes.proofs.Guards.{Sound}
 use Rattle.hermes.proofs.Members.{Has, has-small, has-zero, with-members}
 

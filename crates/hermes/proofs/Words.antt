@@ -15,9 +15,9 @@ use Rattle.hermes_record.specs.Members.{has, countBelow, size}
 use Rattle.hermes_record.specs.Order.{sameTimestamp}
 use Rattle.hermes_record.specs.Record.{code, oneOf}
 use Rattle.hermes.specs.Source.{In, equalTS}
-use Rattle.hermes.proofs.Tests.{either, or-true}
+use Rattle.hermes_record.proofs.Tests.{either, or-true}
 use Rattle.hermes.proofs.Members.{Has, has-small}
-use Rattle.hermes.proofs.Order.{timestamp-path, equal-same}
+use Rattle.hermes_record.proofs.Order.{timestamp-path, equal-same}
 
 -- ---- states
 

@@ -9,7 +9,7 @@ use borrow.Author.Tests.{le-leb, lt-leb, ltb-true, ltb-false}
 use lib.Dec.{leb, ltb}
 use lib.ListN.{length, getD, set}
 use lib.Seq.{sets, length-sets}
-use Rattle.hermes.proofs.Tests.{either, neither, and-false}
+use Rattle.hermes_record.proofs.Tests.{either, neither, and-false}
 use Rattle.packet_format.specs.Bytes.{be}
 use Rattle.packet_format.specs.Entry.{entryBytes}
 use Rattle.packet_format.specs.Reading.{entryPlace}

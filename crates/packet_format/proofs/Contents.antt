@@ -15,7 +15,7 @@ use Rattle.packet_format.specs.Bytes.{Bytes}
 use Rattle.packet_format.specs.Entry.{fieldsOf, entryBytes, entryOf, fieldsFor, entriesOf, good, noEntry, AllFit}
 use Rattle.packet_format.specs.Reading.{walk}
 use Rattle.packet_format.specs.Writing.{summed, contents, allGood}
-use Rattle.hermes.proofs.Tests.{both}
+use Rattle.hermes_record.proofs.Tests.{both}
 use Rattle.packet_format.proofs.Entries.{fields-back, drop-entry, length-entry, bytes-back, good-parts, good-offset, message-back, fits-read, sized}
 
 pub length-contents : (es : List Entry) (at : ℕ) → length (contents at es) ≡ 16 * length es

@@ -14,7 +14,7 @@ use Rattle.packet_format.specs.declared.entry.Entry.{Entry}
 use Rattle.packet_format.specs.declared.entry.Fields.{Fields}
 use Rattle.packet_format.specs.Bytes.{window, Bytes}
 use Rattle.packet_format.specs.Entry.{fieldsOf, entryBytes, kindOf, timestampOf, messageOf, entryOf, fieldsFor, bodied, good, Fits}
-use Rattle.hermes.proofs.Tests.{both, is-false}
+use Rattle.hermes_record.proofs.Tests.{both, is-false}
 use Rattle.packet_format.proofs.Width.{num-be, window-drop, be-window, window-lt}
 
 -- the fields fit their widths

@@ -15,7 +15,7 @@ use Rattle.packet_format.specs.declared.answer.Fetched.the-variants.{Fou
 use Rattle.packet_format.specs.Bytes.{num, window}
 use Rattle.packet_format.specs.Entry.{fieldsOf, entryOf, good}
 use Rattle.packet_format.specs.Reading.{countOf, entryPlace, question20, question22, walk, fetchRefusal, fetchedAs, fetched, fetchedNumber}
-use Rattle.hermes.proofs.Tests.{both}
+use Rattle.hermes_record.proofs.Tests.{both}
 
 -- a part to the end is what is left after the start
 pub part-to-end : (p : List ℕ) (a : ℕ) → take (length p - a) (drop a p) ≡ drop a p

@@ -10,7 +10,7 @@ use lib.ListN.{length, take}
 use Rattle.packet_format.specs.declared.entry.Entry.{Entry}
 use Rattle.packet_format.specs.declared.answer.Written.the-variants.{Total}
 use Rattle.packet_format.specs.Writing.{summed, totalOf, allGood, question24, question25, writeRefusal, writtenAs, packetWritten, writtenNumber}
-use Rattle.hermes.proofs.Tests.{both}
+use Rattle.hermes_record.proofs.Tests.{both}
 
 -- the parts of questions 24 and 25
 pub record Accepts (ms : List Entry) (count : ℕ) (bodies : List ℕ) (room : ℕ) : Type 0 where

@@ -12,7 +12,7 @@ use Rattle.packet_format.specs.declared.entry.Entry.{Entry}
 use Rattle.packet_format.specs.declared.entry.Fields.{Fields}
 use Rattle.packet_format.specs.Entry.{fieldsFor, good, noEntry}
 use Rattle.packet_format.specs.Writing.{summed, allGood}
-use Rattle.hermes.proofs.Tests.{both}
+use Rattle.hermes_record.proofs.Tests.{both}
 use Rattle.packet_format.proofs.Entries.{good-parts}
 use Rattle.packet_words.specs.Words.{fieldsAt, entriesFrom}
 use Rattle.packet_words.proofs.Places.{length-entries}

@@ -13,7 +13,7 @@ use Rattle.packet_format.specs.Bytes.{be}
 use Rattle.packet_format.specs.Entry.{fieldsFor, entryBytes, good}
 use Rattle.packet_format.specs.Reading.{entryPlace}
 use Rattle.packet_format.specs.Writing.{summed, contents, totalOf, packetBytes, allGood, question25}
-use Rattle.hermes.proofs.Tests.{both}
+use Rattle.hermes_record.proofs.Tests.{both}
 use Rattle.packet_format.proofs.Entries.{good-parts}
 use Rattle.packet_format.proofs.Contents.{length-contents}
 use Rattle.packet_format.proofs.RoundTrip.{length-encode}

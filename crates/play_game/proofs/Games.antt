@@ -16,7 +16,7 @@ use Rattle.play_script.specs.declared.line.Size.{Size}
 use Rattle.play_script.proofs.Words.{size-empty}
 use Rattle.hermes_record.specs.Order.{higher}
 use Rattle.hermes.specs.Run.{Group, run}
-use Rattle.hermes.proofs.Tests.{both}
+use Rattle.hermes_record.proofs.Tests.{both}
 use Rattle.play_member.specs.declared.member.Member.{Member}
 use Rattle.play_game.specs.declared.cluster.Cluster.{Cluster}
 use Rattle.play_game.specs.declared.turn.Done.{Done}

@@ -8,7 +8,7 @@ use lib.Dec.{ltb}
 use borrow.Author.Tests.{ltb-true}
 use Rattle.hermes_record.specs.declared.record.Record.{Record}
 use Rattle.hermes.specs.Guards.{Question, ask, firstNo}
-use Rattle.hermes.proofs.Tests.{both}
+use Rattle.hermes_record.proofs.Tests.{both}
 use Rattle.hermes.proofs.Guards.{positive}
 use Rattle.replica_asking.specs.declared.Asked.the-variants.{Passed, Refused}
 use Rattle.replica_asking.specs.Cascade.{asked, next}

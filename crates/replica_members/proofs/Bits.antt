@@ -11,7 +11,7 @@ use lib.Pow.{pow-pos, shr-shr, mod-pow-add}
 use lib.Count.{ones, ones-cat, under, trailingZeros}
 use borrow.Author.Tests.{eqb-true, eq-eqb, ne-eqb, lt-ltb}
 use Rattle.hermes_record.specs.Members.{has, countBelow, size, lowest, lowestFrom, within, othersIn, with}
-use Rattle.hermes.proofs.Tests.{alike, or-false, or-true}
+use Rattle.hermes_record.proofs.Tests.{alike, or-false, or-true}
 use Rattle.hermes.proofs.Members.{bit, bit-small, and-bit, same-bits, has-small, member-bit, bit-member, all-same, within-members, members-within, has-with}
 
 -- question 15, with one set for the acknowledgements and the own number

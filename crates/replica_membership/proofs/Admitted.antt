@@ -11,7 +11,7 @@ use Rattle.hermes.specs.declared.event.Admission.the-variants as admission
 use Rattle.hermes.specs.declared.event.Replica.{Replica}
 use Rattle.hermes.specs.Guards.{Question, firstNo}
 use Rattle.hermes.specs.Node.{admissionOf}
-use Rattle.hermes.proofs.Tests.{both}
+use Rattle.hermes_record.proofs.Tests.{both}
 use Rattle.hermes.proofs.Guards.{positive}
 use Rattle.replica_asking.specs.Cascade.{asked, next}
 use Rattle.replica_membership.specs.Admitted.{admissionBy}

@@ -12,7 +12,7 @@ use Rattle.hermes.specs.Store.{padded, place}
 use Rattle.hermes_record.specs.declared.record.Record.{Record}
 use Rattle.hermes.specs.declared.event.Replica.{Replica}
 use Rattle.hermes.proofs.Guards.{Common}
-use Rattle.hermes.proofs.Tests.{both}
+use Rattle.hermes_record.proofs.Tests.{both}
 use Rattle.hermes.specs.Event.{Step, movedBy, storedBy}
 use Rattle.hermes.specs.Event as event
 use Rattle.replica_outcome.specs.Placing.{room, storedFor}

@@ -1,5 +1,5 @@
 -- `replica_asking::question2` meets its contract.
-use Rattle.hermes.proofs.Tests.{and-true, and-false}
+use Rattle.hermes_record.proofs.Tests.{and-true, and-false}
 use borrow.Author.Tests.{le-leb, lt-leb}
 use borrow.Author.Needs.{needs}
 use Rattle.replica_asking.proofs.question2.Statement.{statement}

@@ -1,6 +1,6 @@
 -- `replica_asking::question5` meets its contract.
 use mathlib.Core.Path.{sym, _∙_}
-use Rattle.hermes.proofs.Tests.{and-true, and-false}
+use Rattle.hermes_record.proofs.Tests.{and-true, and-false}
 use borrow.Author.Needs.{needs}
 use Rattle.replica_asking.proofs.question5.Statement.{statement}
 use Rattle.replica_asking.proofs.question5.Tie as tie

@@ -7,7 +7,7 @@ use borrow.Author.Tests.{eq-eqb, ne-eqb, le-leb}
 use lib.Dec.{leb, eqb}
 use Rattle.packet_format.specs.declared.entry.Fields.{Fields}
 use Rattle.packet_format.specs.Entry.{good}
-use Rattle.hermes.proofs.Tests.{and-true}
+use Rattle.hermes_record.proofs.Tests.{and-true}
 use Rattle.packet_format.proofs.Entries.{not-good}
 use Rattle.packet_words.specs.Words.{fieldsAt}
 use borrow.Author.Needs.{needs}

@@ -1,5 +1,5 @@
 -- `replica_guards::states::is_invalid` meets its contract.
-use Rattle.hermes.proofs.Tests.{or-false}
+use Rattle.hermes_record.proofs.Tests.{or-false}
 use borrow.Author.Needs.{needs}
 use Rattle.replica_guards.proofs.states.is_invalid.Statement.{statement}
 use Rattle.replica_guards.proofs.states.is_invalid.Tie as tie

@@ -7,9 +7,9 @@ use mathlib.Core.Logic.{_⊎_, inl, inr}
 use native.Mathlib.Omega.{arith}
 use lib.Dec.{ltb, eqb}
 use borrow.Author.Tests.{ltb-true, ltb-false, eqb-true, eqb-false, lt-ltb, le-ltb, eq-eqb}
 use Rattle.hermes_record.specs.declared.timestamp.Timestamp.{Timestamp}
 use Rattle.hermes_record.specs.Order.{TieOrder, higher, later, sameTimestamp, NotAfter, equal, rises}
-use Rattle.hermes.proofs.Tests.{both, and-both, or-right, either, is-false}
+use Rattle.hermes_record.proofs.Tests.{both, and-both, or-right, either, is-false}
 
 pub timestamp-path : {s t : Timestamp} → s .version ≡ t .version → s .tie ≡ t .tie → s ≡ t
 timestamp-path p q = λ i. record { version = p i; tie = q i }
