@@ -224,7 +224,7 @@ fn fields(name: &str) -> Vec<(String, String)> {
 /// tests/c has the place of each field.
 #[test]
 fn a_record_has_the_fields_of_its_bytes() {
-    let layout = specs("export_records/specs/Layout");
+    let layout = specs("export_decoding/specs/Decoding");
     let line = layout.lines().find(|line| line.starts_with("decode "));
     let line = line.and_then(|line| line.strip_suffix(" ="));
     let names = line.expect("the definition").split(' ').skip(1);
