@@ -29,18 +29,18 @@ use Rattle.export_records.proofs.Finding.{found-here, found-missing}
 use Rattle.export_numbers.specs.declared.numbers.CetskobiReplica.{CetskobiReplica}
 use Rattle.export_numbers.specs.declared.numbers.CetskobiAnswer.{CetskobiAnswer}
 use Rattle.export_numbers.specs.Crossing.{replicaOf, answerOut}
-use Rattle.export_calls.specs.Calls.{nodeOf, withRecord, begun, Done}
+use Rattle.export_calls.specs.Calls.{nodeOf, withRecord, beginning, Done}
 
 -- the beginning, by what its parts gave: a no of questions 1 to 4, or what was found
 module _ (me : Replica) (bytes : List ℕ) (n i : ℕ) (u : Record) (a : Asked) (none : u ≡ unsound) (asks : a ≡ asked (beforehand me (countOf (length bytes)) n i) u) where
-  pub begun-refuses : (k : ℕ) → a ≡ Refused k → Refused k ≡ begun me bytes n i
+  pub begun-refuses : (k : ℕ) → a ≡ Refused k → Refused k ≡ beginning me bytes n i
   begun-refuses k e = ap (λ (x : Asked). withRecord x (foundAt bytes i)) (sym e ∙ asks ∙ ap (asked (beforehand me (countOf (length bytes)) n i)) none)
 
-  pub begun-takes : (x : Record) (f g : Found) → a ≡ Passed x → f ≡ foundAt bytes i → f ≡ g → withRecord (Passed x) g ≡ begun me bytes n i
+  pub begun-takes : (x : Record) (f g : Found) → a ≡ Passed x → f ≡ foundAt bytes i → f ≡ g → withRecord (Passed x) g ≡ beginning me bytes n i
   begun-takes x f g e finds is =
       ap (withRecord (Passed x)) (sym is ∙ finds) ∙ ap (λ (y : Asked). withRecord y (foundAt bytes i)) (sym e ∙ asks ∙ ap (asked (beforehand me (countOf (length bytes)) n i)) none)
 
-pub begun-passed : (me : Replica) (bytes : List ℕ) (n i : ℕ) (r : Record) → begun me bytes n i ≡ Passed r → r ≡ recordAt (tableOf bytes) i
+pub begun-passed : (me : Replica) (bytes : List ℕ) (n i : ℕ) (r : Record) → beginning me bytes n i ≡ Passed r → r ≡ recordAt (tableOf bytes) i
 begun-passed me bytes n i r e = go (asked (beforehand me (countOf (length bytes)) n i) unsound) (foundAt bytes i) refl e
   where
     go : (a : Asked) (f : Found) → foundAt bytes i ≡ f → withRecord a f ≡ Passed r → r ≡ recordAt (tableOf bytes) i
@@ -58,7 +58,7 @@ five true true true false e u f rest k h g = (the-number h, omega (arith, the-nu
 five true true true true e u (Here s) rest k h g = absurd (never h)
 five true true true true e u Missing rest k h g = rw (g refl refl) (the-number h, omega (arith, the-number h))
 
-module _ (me : CetskobiReplica) (bytes store : List ℕ) (i k : ℕ) (who : Replica) (a : Asked) (identity : who ≡ replicaOf me) (begins : a ≡ begun who bytes (length store) i) (no : a ≡ Refused k) where
+module _ (me : CetskobiReplica) (bytes store : List ℕ) (i k : ℕ) (who : Replica) (a : Asked) (identity : who ≡ replicaOf me) (begins : a ≡ beginning who bytes (length store) i) (no : a ≡ Refused k) where
   -- where no record stands question 5 says no
   unstated : foundAt bytes i ≡ Missing → question4 i (countOf (length bytes)) .yes ≡ true → question5 (replicaOf me) (recordAt (tableOf bytes) i) .yes ≡ false
   unstated none inside = go (found-missing bytes i none)
@@ -67,8 +67,8 @@ module _ (me : CetskobiReplica) (bytes store : List ℕ) (i k : ℕ) (who : Repl
       go (inl l) = absurd (false≢true (sym (le-ltb i (countOf (length bytes)) l) ∙ inside))
       go (inr u) = rw u
 
-  begun-no : begun (replicaOf me) bytes (length store) i ≡ Refused k
-  begun-no = ap (λ (x : Replica). begun x bytes (length store) i) (sym identity) ∙ sym begins ∙ no
+  begun-no : beginning (replicaOf me) bytes (length store) i ≡ Refused k
+  begun-no = ap (λ (x : Replica). beginning x bytes (length store) i) (sym identity) ∙ sym begins ∙ no
 
   -- whatever the event
   pub refused-by : (e : Event) (n : ℕ) → (refusal (replicaOf me) (length (tableOf bytes)) (length store) i (recordAt (tableOf bytes) i) e n ≡ k) × (0 < k)

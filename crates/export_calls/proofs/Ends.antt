@@ -19,7 +19,7 @@ use Rattle.export_records.specs.Layout.{countOf, tableOf}
 use Rattle.export_records.proofs.Lent.{length-table}
 use Rattle.export_storing.specs.Storing.{bytesAfter, tableAfter}
 use Rattle.export_storing.proofs.Table.{settled-step}
-use Rattle.export_calls.specs.Calls.{nodeOf, begun, Finished, Done}
+use Rattle.export_calls.specs.Calls.{nodeOf, beginning, Finished, Done}
 use Rattle.export_calls.proofs.Beginnings.{begun-passed}
 
 -- what the code takes out of the bytes and hands to the engine
@@ -30,7 +30,7 @@ pub record Taken (me : CetskobiReplica) (bytes : List ℕ) (i : ℕ) (who : Repl
 
 -- the same where the event began with that record
 pub taken-here : (me : CetskobiReplica) (bytes : List ℕ) (n i : ℕ) (who : Replica) (count : ℕ) (a : Asked) (r : Record) → who ≡ replicaOf me → count ≡ countOf (length bytes)
-    → a ≡ begun who bytes n i → a ≡ Passed r → Taken me bytes i who count r
+    → a ≡ beginning who bytes n i → a ≡ Passed r → Taken me bytes i who count r
 taken-here me bytes n i who count a r hw hc begins passed = record { identity = hw; counted = hc; found = begun-passed who bytes n i r (sym begins ∙ passed) }
 
 module _ (me : CetskobiReplica) (bytes : List ℕ) (i : ℕ) (who : Replica) (count : ℕ) (r : Record) (t : Taken me bytes i who count r) where

@@ -31,8 +31,8 @@ withRecord (Passed r) (Here s) = Passed s
 withRecord (Passed r) Missing = Refused 5
 
 -- the beginning of an event on number i, with a store of n bytes: questions 1 to 4, and then the record that the bytes hold there
-abbrev pub begun : Replica → List ℕ → ℕ → ℕ → Asked
-begun me bytes n i = withRecord (asked (beforehand me (countOf (length bytes)) n i) unsound) (foundAt bytes i)
+abbrev pub beginning : Replica → List ℕ → ℕ → ℕ → Asked
+beginning me bytes n i = withRecord (asked (beforehand me (countOf (length bytes)) n i) unsound) (foundAt bytes i)
 
 -- the answer, the bytes and the table that they hold, after an event that moved record i so
 pub record Finished (before : List ℕ) (i : ℕ) (m : Moved) (a : CetskobiAnswer) (bytes′ : List ℕ) : Type 0 where

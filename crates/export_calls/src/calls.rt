@@ -4,7 +4,7 @@ ghost use Rattle.replica_asking.specs.Cascade.{asked, beforehand, stoppedBy};
 ghost use Rattle.export_numbers.specs.Crossing.{answerOut};
 ghost use Rattle.export_decoding.specs.Decoding.{unsound};
 ghost use Rattle.export_records.specs.Layout.{countOf};
-ghost use Rattle.export_calls.specs.Calls.{begun, Finished};
+ghost use Rattle.export_calls.specs.Calls.{beginning, Finished};
 use export_numbers::CetskobiAnswer;
 use export_records::Found;
 use export_records::SIZE;
@@ -13,7 +13,7 @@ use hermes::Record;
 use hermes::Replica;
 use replica_asking::Asked;
 
-// Questions 1 to 4 for a table of so many bytes. The remainder is asked about here alone, so that the count has one value in each call.
+// Questions 1 to 4 for a table of so many bytes: two calls, so that the count is one value in each, and no choice of two.
 fn beforehand(me: Replica, len: usize, bytes: usize, i: usize, r: Record) -> Asked
     ensures { λ a. ⌜ a ≡ asked (beforehand me (countOf len) bytes i) r ⌝ }
 {
@@ -27,7 +27,7 @@ fn beforehand(me: Replica, len: usize, bytes: usize, i: usize, r: Record) -> Ask
 // The beginning of an event on record i, with so many bytes of store: questions 1 to 4, and only then the record out of its bytes: with the
 // record first there are two ways to each of these questions, and every call saves registers for the second.
 pub fn begin(me: Replica, table: &[u8], bytes: usize, i: usize) -> Asked
-    ensures { λ a. ⌜ a ≡ begun me (now (table .entry)) bytes i ⌝ }
+    ensures { λ a. ⌜ a ≡ beginning me (now (table .entry)) bytes i ⌝ }
 {
     let a = beforehand(me, table.len(), bytes, i, export_decoding::none());
     let Asked::Passed(_) = a else {

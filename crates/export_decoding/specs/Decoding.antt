@@ -9,14 +9,17 @@ use Rattle.hermes_record.specs.declared.record.State.the-variants.{Valid, Inval
 
 -- ---- numbers, the least significant byte first
 
+-- of two bytes
 abbrev pub two : ℕ → ℕ → ℕ
 two a b = a + b * 256
 
+-- of four bytes
 abbrev pub four : ℕ → ℕ → ℕ → ℕ → ℕ
 four a b c d = a + b * 256 + c * 65536 + d * 16777216
 
 -- ---- one record
 
+-- the first state where the test says yes, else the second
 abbrev pub pickState : Bool → State → State → State
 pickState true a b = a
 pickState false a b = b
@@ -29,6 +32,7 @@ stateOf k = pickState (eqb k 0) Valid (pickState (eqb k 1) Invalid (pickState (e
 abbrev pub unsound : Record
 unsound = record { state = Valid; timestamp = record { version = 0; tie = 0 }; writer = 0; written = record { version = 0; tie = 0 }; acks = 0; len = 255 }
 
+-- a record, unless its bytes have no state
 abbrev pub orUnsound : Bool → Record → Record
 orUnsound true r = unsound
 orUnsound false r = r

@@ -1,6 +1,5 @@
 // Delivery of a message about record i, with the bytes that came with it. The kind is asked first, and each kind has its own way from the
 // bytes of the table to its answer: then the compiler keeps the record in registers.
-ghost use mathlib.Core.Path.{_≡_};
 ghost use Rattle.hermes.specs.declared.event.Event.the-variants.{Deliver};
 ghost use Rattle.hermes.specs.declared.message.Message.the-variants.{Inv, Ack, Val};
 ghost use Rattle.replica_delivery.specs.Kinds.{cameFrom};

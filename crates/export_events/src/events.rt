@@ -1,5 +1,4 @@
 // The events on one record but read and delivery, for C and Rust. Each takes the identity, the table as bytes, sixteen for each record, and the store.
-ghost use mathlib.Core.Path.{_≡_};
 ghost use mathlib.Core.List.{[]};
 ghost use Rattle.hermes.specs.declared.event.Event.the-variants.{Write, Replay, Validate, Resend};
 ghost use Rattle.export_calls.specs.Calls.{nodeOf, Done};

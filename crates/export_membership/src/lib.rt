@@ -1,3 +1,4 @@
+// Fresh start and view, for C and Rust.
 mod admission;
 
 pub use admission::cetskobi_start;

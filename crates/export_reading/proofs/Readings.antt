@@ -28,7 +28,7 @@ use Rattle.export_decoding.specs.Decoding.{unsound}
 use Rattle.export_records.specs.Layout.{tableOf}
 use Rattle.export_records.proofs.Lent.{length-table}
 use Rattle.export_calls.specs.Part.{PartAt}
-use Rattle.export_calls.specs.Calls.{nodeOf, begun}
+use Rattle.export_calls.specs.Calls.{nodeOf, beginning}
 use Rattle.export_calls.proofs.Parts.{whole-part, no-part}
 use Rattle.export_calls.proofs.Beginnings.{refused-by, refused-done}
 use Rattle.export_calls.proofs.Ends.{Taken, same}
@@ -55,7 +55,7 @@ number-out (Accepted None) = refl
 number-out (Accepted (Sent m h)) = number-sent m
 number-out (Refused k) = refl
 
-pub begun-read : (me : CetskobiReplica) (bytes store : List ℕ) (i k : ℕ) (who : Replica) (a : Asked) → who ≡ replicaOf me → a ≡ begun who bytes (length store) i → a ≡ asked.Refused k
+pub begun-read : (me : CetskobiReplica) (bytes store : List ℕ) (i k : ℕ) (who : Replica) (a : Asked) → who ≡ replicaOf me → a ≡ beginning who bytes (length store) i → a ≡ asked.Refused k
     → (out : CetskobiAnswer) → out ≡ answerOut (stoppedBy a unsound .answer) → ReadDone (nodeOf me bytes store) i (record { number = out .number; len = 0 })
 unfolding readPart
 begun-read me bytes store i k who a identity begins refuses out h =

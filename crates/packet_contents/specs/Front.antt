@@ -1,4 +1,4 @@
--- What stands in a packet before its bodies, of any words: also of those that question 24 refuses.
+-- What stands in a packet before its bodies, of any words: also of those that question 24 refuses. It serves `put_front` alone.
 use Prim.Native.Nat.{ℕ, zero, suc, _+_, _%_}
 use mathlib.Core.Bool.{cond}
 use mathlib.Core.List.{List, [], _∷_, _++_}

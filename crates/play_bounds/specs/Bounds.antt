@@ -1,4 +1,4 @@
--- The bounds of play (01, "The playing program").
+-- The bounds of play (01, "The playing program"). `inGroup` and `BoundsAt` serve the functions of this crate alone.
 use Prim.Native.Nat.{ℕ, _+_, _-_, _*_, _≤_, _<_}
 use mathlib.Core.Path.{_≡_}
 use mathlib.Core.Bool.{Bool, _&&_}

@@ -1,4 +1,4 @@
-// What is in play.
+// What is played: which input into which output, who is in the group, where a line ends.
 ghost use mathlib.Core.Path.{_≡_};
 ghost use Rattle.play_bounds.specs.Bounds.{playable, inGroup, BoundsAt};
 use play_lines::LINE_MAX;

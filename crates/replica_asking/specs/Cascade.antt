@@ -1,4 +1,4 @@
--- What a question of the code answers. Only functions that ask name these (on this floor); every other contract rests on `firstNo` of the questions.
+-- What a question of the code answers. Only functions that ask name these (on this floor, and where an exported event begins); every other contract rests on `firstNo` of the questions.
 -- A refusal keeps its number, whatever it is, so its case stands here itself: `answerOf` gives 0 to an acceptance.
 use Prim.Native.Nat.{ℕ}
 use mathlib.Core.Bool.{Bool, true, false}

@@ -132,7 +132,7 @@ pub fn at_start(me: Replica, count: usize, bytes: usize, r: Record) -> Asked
     question3(me, r2)
 }
 
-// Questions 1 to 4, of every event: they ask nothing of the record.
+// Questions 1 to 4, of every event on a record: they look at none.
 pub fn beforehand(me: Replica, count: usize, bytes: usize, i: usize, r: Record) -> Asked
     ensures { λ a. ⌜ a ≡ asked (beforehand me count bytes i) r ⌝ }
 {

@@ -1,5 +1,5 @@
--- The tests on sets as code makes them, with `&`, `|`, `count_ones` and `trailing_zeros`.
-use Prim.Native.Nat.{ℕ, zero, suc, _+_, _-_, _/_, _%_, _^_, _≤_, _<_, min}
+-- The tests on sets as code makes them, with `&`, `count_ones` and `trailing_zeros`.
+use Prim.Native.Nat.{ℕ, zero, suc, _+_, _/_, _%_, _^_, _≤_, _<_, min}
 use mathlib.Core.Path.{_≡_, refl, sym, ap, ap₂, _∙_}
 use mathlib.Core.Bool.{Bool, true, cond, not, _&&_, _||_}
 use native.Mathlib.Omega.{arith}
