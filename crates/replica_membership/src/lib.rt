@@ -1,5 +1,7 @@
 // Membership: the fresh start of a replica, and its change of view.
 ghost use mathlib.Core.Path.{_≡_};
+ghost use lib.Dec.{eqb};
+ghost use Rattle.hermes.specs.Guards.{firstNo};
 ghost use Rattle.hermes.specs.Node.{admit, firstRecord, view, viewQuestions};
 ghost use Rattle.replica_asking.specs.Cascade.{asked};
 ghost use Rattle.replica_membership.specs.Admitted.{admissionBy};
@@ -58,7 +60,18 @@ fn asks_view(me: Replica, epoch: u32, set: u16, r: Record) -> Asked
     replica_guards::question19(me, set, r3)
 }
 
-// A change to this epoch and view. Its questions look at no record: a fresh one passes through them.
+// Do all of its questions say yes? A set of two within the view makes that one plural too, and who is in a view has a number below 16.
+fn passes(me: Replica, epoch: u32, set: u16) -> bool
+    ensures { λ b. ⌜ b ≡ eqb (firstNo (viewQuestions me epoch set)) 0 ⌝ }
+{
+    let own = replica_members::has(me.view, me.number);
+    let inside = replica_members::within(set, me.view);
+    let two = replica_members::plural(set);
+    own & (me.epoch < epoch) & inside & two
+}
+
+// A change to this epoch and view. All is asked at once first, so that the compiler sets no number where none is needed; after a no the questions are
+// asked in their order. They look at no record: a fresh one passes through them.
 pub fn view(me: Replica, epoch: u32, set: u16) -> Admission
     ensures { λ a. ⌜ a ≡ view me epoch set ⌝ }
 {
@@ -67,5 +80,9 @@ pub fn view(me: Replica, epoch: u32, set: u16) -> Admission
         epoch: epoch,
         view: set,
     };
-    admission(asks_view(me, epoch, set, fresh_record(set)), next)
+    if passes(me, epoch, set) {
+        Admission::Admitted(next)
+    } else {
+        admission(asks_view(me, epoch, set, fresh_record(set)), next)
+    }
 }
