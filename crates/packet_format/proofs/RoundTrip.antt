@@ -9,13 +9,13 @@ use lib.ListN.{length, take, drop, getD, length-drop, length-append}
 use lib.Seq.{drop-drop, drop-at, take-at, length-take-le}
 use Rattle.packet_format.specs.declared.entry.Entry.{Entry}
 use Rattle.packet_format.specs.declared.entry.Fields.{Fields}
-use Rattle.packet_format.specs.declared.answer.Fetched.the-variants.{Found, Refused}
+use Rattle.packet_format.specs.declared.answer.Fetched.the-variants.{Found}
 use Rattle.packet_format.specs.declared.answer.Written.the-variants.{Total}
 use Rattle.packet_format.specs.Bytes.{be, window, Bytes}
 use Rattle.packet_format.specs.Entry.{fieldsOf, fieldsFor, noEntry, AllFit}
 use Rattle.packet_format.specs.Reading.{countOf, entryPlace, packetMessages, bodiesIn, question20, question21, question22, question23, walk, fetchRefusal, fetchedAs, fetched, bodyOf}
-use Rattle.packet_format.specs.Writing.{summed, contents, totalOf, packetBytes, allGood, packetWritten, outputOf}
-use Rattle.packet_format.specs.RoundTrip.{ReadsBack, WrittenReadsBack, Rewritten, AcceptedIsWritten}
+use Rattle.packet_format.specs.Writing.{summed, contents, totalOf, packetBytes, allGood, outputOf}
+use Rattle.packet_format.specs.RoundTrip.{ReadsBack, WrittenReadsBack, AcceptedIsWritten}
 use Rattle.packet_format.proofs.Width.{num-be, window-drop, be-window}
 use Rattle.packet_format.proofs.Writing.{Accepts, accepts, accepted, total-yes}
 use Rattle.packet_format.proofs.Reading.{part-to-end, Header, header, header-yes, fetch-23, fetch-0}

@@ -302,49 +302,23 @@ fn leaving(n: usize, visit: &mut impl Visit) {
     );
 }
 
-/// What a change of view is given: identity, epoch, set.
-type View<R> = (R, u32, u16);
-
-type Changed = Result<model::engine::Replica, model::engine::Refusal>;
-
-#[inline(always)]
-fn change_view(m: &mut View<model::engine::Replica>) -> Changed {
-    let mut next = m.0;
-    next.change_view(m.1, m.2).map(|_| next)
-}
-
-/// The same, never inlined: a call, as the engine's and the peer's are.
-#[inline(never)]
-fn call_change_view(m: &mut View<model::engine::Replica>) -> Changed {
-    change_view(m)
-}
-
-fn view(
-    about: About,
-    change: impl Fn(&mut View<model::engine::Replica>) -> Changed,
-    visit: &mut impl Visit,
-) {
+fn membership(n: usize, visit: &mut impl Visit) {
     visit.case(
-        about,
+        other("view", "view", n, admitted(2, 0b110, 10)),
         both!(by => On {
-            lent: (ME, 10, 0b110),
+            lent: (ME, 10u32, 0b110u16),
             prepare: |_: &mut _, _| (),
-            call: |e: &mut View<Replica>, _| by::view(e.0, e.1, e.2),
+            call: |e: &mut (Replica, u32, u16), _| by::view(e.0, e.1, e.2),
         }),
         || On {
-            lent: (plain::replica(ME), 10, 0b110),
+            lent: (plain::replica(ME), 10u32, 0b110u16),
             prepare: |_: &mut _, _| (),
-            call: move |m: &mut View<model::engine::Replica>, _| change(m),
+            call: |m: &mut (model::engine::Replica, u32, u16), _| {
+                let mut next = m.0;
+                next.change_view(m.1, m.2).map(|_| next)
+            },
         },
     );
-}
-
-fn membership(n: usize, visit: &mut impl Visit) {
-    let changed = admitted(2, 0b110, 10);
-    let inlined = other("view", "view", n, changed);
-    view(inlined, |m| change_view(m), visit);
-    let called = other("view-called", "view, the model's not inlined", n, changed);
-    view(called, call_change_view, visit);
     let started = admitted(2, ME.view as usize, 0);
     let one = other("start", "fresh start, 1 record", n, started);
     start(one, 1, visit);

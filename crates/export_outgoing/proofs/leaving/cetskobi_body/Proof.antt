@@ -4,11 +4,6 @@ use borrow.Author.Tests.{ne-eqb}
 use Rattle.export_outgoing.proofs.Sent.{nothing-along, past-end, text-here, not-here}
 use Rattle.export_outgoing.proofs.leaving.cetskobi_body.Statement.{statement}
 use Rattle.export_outgoing.proofs.leaving.cetskobi_body.Tie as tie
-use Rattle.export_outgoing.proofs.leaving.cetskobi_body.Reads as reads
-use Rattle.export_outgoing.proofs.leaving.cetskobi_body.Lts as lts
-use Rattle.export_records.proofs.count.Reads as count-reads
-use Rattle.export_records.proofs.record_at.Reads as record-at-reads
-use Rattle.hermes_record.proofs.timestamp.Timestamp.same.Reads as same-reads
 
 -- src/leaving.rt:36:9
 returns : tie.Need-returns

@@ -1,6 +1,6 @@
 -- `replica_outcome::value::place` meets its contract.
 use lib.ListN.{length}
-use mathlib.Core.Path.{sym, ap, _∙_}
+use mathlib.Core.Path.{sym, _∙_}
 use borrow.Author.Needs.{needs}
 use Rattle.replica_outcome.proofs.Bytes.{roomy}
 use Rattle.replica_outcome.proofs.value.place.Statement.{statement}

@@ -1,7 +1,7 @@
 -- The store after zeros in 192 bytes and a copy of a value over them. While z bytes are zeroed the store is the old one with z zeros pasted in;
 -- while k bytes are copied it is that of the first loop's end with k bytes of the value pasted in.
 use Prim.Native.Nat.{ℕ, _≤_, _<_, _-_, _+_, _*_}
-use mathlib.Core.Path.{_≡_, refl, subst⁻¹, ap, _∙_}
+use mathlib.Core.Path.{_≡_, refl, subst⁻¹}
 use native.Mathlib.Nat.{le-antisymm}
 use native.Mathlib.Numerals.{add-one}
 use native.Mathlib.Omega.{arith}
