@@ -1,4 +1,6 @@
 -- `packet_delivery::deliver_packet` meets its contract.
+use mathlib.Core.Path.{_≡_}
+use Rattle.packet_format.specs.Reading.{fetched}
 use Rattle.packet_event.specs.Arrival.{arrival}
 use borrow.Author.Needs.{needs}
 use Rattle.packet_delivery.proofs.deliver_packet.Statement.{statement}
@@ -15,7 +17,10 @@ same-length c = search needs
 
 returns : tie.Need-returns
 unfolding arrival
-returns c = rw (← c .before .before .before .before .fetch .ensures) (c .before .before .deliver-fetched .ensures)
+returns c =
+    let v = c .before .before .before .before .before .before .before .args in
+    let read : c .before .before .before .before .fetch .result ≡ fetched (v .bytes .now) (v .i) = c .before .before .before .before .fetch .ensures in
+    rw (← read) (c .before .before .deliver-fetched .ensures)
 
 pub deliver-packet-spec : {M : Type 1} → statement M
 deliver-packet-spec =

@@ -1,10 +1,10 @@
 -- The store as the loop leaves it: so many bytes are zero, and the others are as they were.
 use Prim.Native.Nat.{_≤_, _<_, _-_}
-use mathlib.Core.Path.{_≡_, refl, ap, _∙_}
+use mathlib.Core.Path.{_≡_, refl, sym, ap, _∙_}
 use native.Mathlib.Numerals.{add-one}
 use native.Mathlib.Omega.{arith}
 use borrow.Author.Needs.{needs}
-use lib.ListN.{length, length-set}
+use lib.ListN.{length, length-set, set}
 use Rattle.hermes.proofs.Filling.{filled, filled-suc, filled-all}
 use Rattle.replica_start.proofs.zero.Statement.{statement}
 use Rattle.replica_start.proofs.zero.Tie as tie
@@ -31,7 +31,7 @@ loop-again : tie.Need-loop-again Inv-loop μ-loop
 loop-again c =
     let l = c .before .loop in let a = c .before .before .args in
     let here : l .at < length (a .store .now) = omega arith in
-    (omega arith, (rw (l .inv .1 .0, filled-suc 0 (a .store .now) (l .at) here, add-one (l .at)), simp length-set (l .inv .1 .1)))
+    (omega arith, (ap (λ s. set s (l .at) 0) (l .inv .1 .0) ∙ filled-suc 0 (a .store .now) (l .at) here ∙ ap (filled 0 (a .store .now)) (sym (add-one (l .at))), simp length-set (l .inv .1 .1)))
 
 same-length : tie.Need-same-length Inv-loop μ-loop
 same-length c = search needs
