@@ -1,9 +1,9 @@
-// Questions 6 to 19, which some events ask.
+// Questions 6 to 17, which some events ask. A change of view asks its own, 18 and 19, itself (`replica_membership`).
 mod states;
 
 ghost use mathlib.Core.Path.{_≡_};
 ghost use mathlib.Core.List.{[], _∷_};
-ghost use Rattle.hermes.specs.Guards.{question6, question7, question8, question9, question10, question11, question12, question13, question14, question15, question16, question17, question18, question19};
+ghost use Rattle.hermes.specs.Guards.{question6, question7, question8, question9, question10, question11, question12, question13, question14, question15, question16, question17};
 ghost use Rattle.replica_asking.specs.Cascade.{asked};
 use hermes::Message;
 use hermes::Received;
@@ -115,23 +115,5 @@ pub fn question17(me: Replica, r: Record) -> Asked
     } else {
         let valid = states::is_valid(s);
         question(17, valid & (r.writer == me.number), r)
-    }
-}
-
-pub fn question18(me: Replica, epoch: u32, r: Record) -> Asked
-    ensures { λ a. ⌜ a ≡ asked (question18 me epoch ∷ []) r ⌝ }
-{
-    question(18, me.epoch < epoch, r)
-}
-
-pub fn question19(me: Replica, view: u16, r: Record) -> Asked
-    ensures { λ a. ⌜ a ≡ asked (question19 me view ∷ []) r ⌝ }
-{
-    let inside = replica_members::within(view, me.view);
-    if inside {
-        let two = replica_members::plural(view);
-        question(19, two, r)
-    } else {
-        Asked::Refused(19)
     }
 }

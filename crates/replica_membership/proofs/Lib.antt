@@ -1,2 +1,2 @@
 mod Admitted
-mod Passing
+mod Viewing

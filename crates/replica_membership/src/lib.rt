@@ -1,9 +1,10 @@
 // Membership: the fresh start of a replica, and its change of view.
 ghost use mathlib.Core.Path.{_≡_};
-ghost use lib.Dec.{eqb};
-ghost use Rattle.hermes.specs.Guards.{firstNo};
-ghost use Rattle.hermes.specs.Node.{admit, firstRecord, view, viewQuestions};
-ghost use Rattle.replica_asking.specs.Cascade.{asked};
+ghost use mathlib.Core.Bool.{cond};
+ghost use lib.Dec.{leb};
+ghost use Rattle.hermes.specs.declared.event.Admission.the-variants.{Refused};
+ghost use Rattle.hermes_record.specs.Members.{size};
+ghost use Rattle.hermes.specs.Node.{admit, firstRecord, view};
 ghost use Rattle.replica_membership.specs.Admitted.{admissionBy};
 use hermes::Admission;
 use hermes::Record;
@@ -42,47 +43,43 @@ pub fn admit(number: u8, view: u16, count: usize, bytes: usize) -> Admission
     )
 }
 
-fn asks_view(me: Replica, epoch: u32, set: u16, r: Record) -> Asked
-    ensures { λ a. ⌜ a ≡ asked (viewQuestions me epoch set) r ⌝ }
+// The no of a question after 1; question 1 says it first where the view is of fewer than two.
+fn refused(me: Replica, number: u8) -> Admission
+    ensures { λ a. ⌜ a ≡ Refused (cond (leb 2 (size (me .view))) number 1) ⌝ }
 {
-    let a = replica_asking::question1(me, r);
-    let Asked::Passed(r1) = a else {
-        return a;
-    };
-    let b = replica_asking::question3(me, r1);
-    let Asked::Passed(r2) = b else {
-        return b;
-    };
-    let c = replica_guards::question18(me, epoch, r2);
-    let Asked::Passed(r3) = c else {
-        return c;
-    };
-    replica_guards::question19(me, set, r3)
+    let two = replica_members::plural(me.view);
+    if two {
+        Admission::Refused(number)
+    } else {
+        Admission::Refused(1)
+    }
 }
 
-// Do all of its questions say yes? A set of two within the view makes that one plural too, and who is in a view has a number below 16.
-fn passes(me: Replica, epoch: u32, set: u16) -> bool
-    ensures { λ b. ⌜ b ≡ eqb (firstNo (viewQuestions me epoch set)) 0 ⌝ }
-{
-    let own = replica_members::has(me.view, me.number);
-    let inside = replica_members::within(set, me.view);
-    let two = replica_members::plural(set);
-    own & (me.epoch < epoch) & inside & two
-}
-
-// A change to this epoch and view. All is asked at once first, so that the compiler sets no number where none is needed; after a no the questions are
-// asked in their order. They look at no record: a fresh one passes through them.
+// A change to this epoch and view. The tests do not stand in the order of the questions: who is in the view has a number below 16, and what a set of two
+// lies within is of two itself, so that nothing is left of question 1 once the others say yes; and a number is looked for after a no alone.
 pub fn view(me: Replica, epoch: u32, set: u16) -> Admission
     ensures { λ a. ⌜ a ≡ view me epoch set ⌝ }
 {
-    let next = Replica {
-        number: me.number,
-        epoch: epoch,
-        view: set,
-    };
-    if passes(me, epoch, set) {
-        Admission::Admitted(next)
-    } else {
-        admission(asks_view(me, epoch, set, fresh_record(set)), next)
+    let own = replica_members::has(me.view, me.number);
+    if own {
+        if me.epoch < epoch {
+            let inside = replica_members::within(set, me.view);
+            if inside {
+                let two = replica_members::plural(set);
+                if two {
+                    return Admission::Admitted(Replica {
+                        number: me.number,
+                        epoch: epoch,
+                        view: set,
+                    });
+                }
+            }
+            return refused(me, 19);
+        }
+        return refused(me, 18);
     }
+    if me.number <= Record::NUMBER_MAX {
+        return refused(me, 3);
+    }
+    Admission::Refused(1)
 }
