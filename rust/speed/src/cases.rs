@@ -302,16 +302,17 @@ fn leaving(n: usize, visit: &mut impl Visit) {
     );
 }
 
-fn membership(n: usize, visit: &mut impl Visit) {
+/// A change to this epoch and the view {1,2}.
+fn view(about: About, epoch: u32, visit: &mut impl Visit) {
     visit.case(
-        other("view", "view", n, admitted(2, 0b110, 10)),
+        about,
         both!(by => On {
-            lent: (ME, 10u32, 0b110u16),
+            lent: (ME, epoch, 0b110u16),
             prepare: |_: &mut _, _| (),
             call: |e: &mut (Replica, u32, u16), _| by::view(e.0, e.1, e.2),
         }),
         || On {
-            lent: (plain::replica(ME), 10u32, 0b110u16),
+            lent: (plain::replica(ME), epoch, 0b110u16),
             prepare: |_: &mut _, _| (),
             call: |m: &mut (model::engine::Replica, u32, u16), _| {
                 let mut next = m.0;
@@ -319,6 +320,13 @@ fn membership(n: usize, visit: &mut impl Visit) {
             },
         },
     );
+}
+
+fn membership(n: usize, visit: &mut impl Visit) {
+    let changed = other("view", "view", n, admitted(2, 0b110, 10));
+    view(changed, 10, visit);
+    let known = other("view-18", "view, refused by question 18", n, refused(18));
+    view(known, 9, visit);
     let started = admitted(2, ME.view as usize, 0);
     let one = other("start", "fresh start, 1 record", n, started);
     start(one, 1, visit);

@@ -69,7 +69,11 @@ impl Answers for Written {
 impl Answers for Admission {
     fn told(&self) -> Told {
         let me = self.replica;
-        let identity = [me.number.into(), me.view.into(), me.epoch as usize];
+        // A refused one tells its number alone, as the model's does.
+        let identity = match self.number {
+            0 => [me.number.into(), me.view.into(), me.epoch as usize],
+            _ => [0; 3],
+        };
         (self.number, identity)
     }
 }
