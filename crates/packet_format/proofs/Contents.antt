@@ -68,22 +68,22 @@ walk-contents (e ∷ es) at rest s g h =
     (walk-contents es (at + e .len) rest (λ i. s (suc i)) (gs .1) (omega arith))
 
 -- entry i of a written table
-pub entry-at : (es : List Entry) (i at : ℕ) (rest : List ℕ) → AllFit es → allGood es ≡ true → at + summed es < 256 ^ 2 → i < length es
+pub contents-entry : (es : List Entry) (i at : ℕ) (rest : List ℕ) → AllFit es → allGood es ≡ true → at + summed es < 256 ^ 2 → i < length es
     → fieldsOf (drop (16 * i) (contents at es ++ rest)) ≡ fieldsFor (getD es i noEntry) (at + summed (take i es))
 unfolding summed allGood
-entry-at [] i at rest s g h l = absurd (not-suc-le-zero l)
-entry-at (e ∷ es) zero at rest s g h l =
+contents-entry [] i at rest s g h l = absurd (not-suc-le-zero l)
+contents-entry (e ∷ es) zero at rest s g h l =
     let gs = both (good (fieldsFor e 0)) (allGood es) g in
     ap fieldsOf (front e es at rest)
     ∙ fields-back (fieldsFor e at) (contents (at + e .len) es ++ rest) (sized e at (s 0) (gs .0) (omega arith))
     ∙ ap (fieldsFor e) (sym (add-zero at))
-entry-at (e ∷ es) (suc i) at rest s g h l =
+contents-entry (e ∷ es) (suc i) at rest s g h l =
     let gs = both (good (fieldsFor e 0)) (allGood es) g in
     ap fieldsOf
     (sixteen i (contents at (e ∷ es) ++ rest)
     ∙ ap (λ (q : List ℕ). drop (16 * i) (drop 16 q)) (front e es at rest)
     ∙ ap (drop (16 * i)) (drop-entry (fieldsFor e at) (contents (at + e .len) es ++ rest)))
-    ∙ entry-at es i (at + e .len) rest (λ j. s (suc j)) (gs .1) (omega arith) (le-of-suc-le-suc l)
+    ∙ contents-entry es i (at + e .len) rest (λ j. s (suc j)) (gs .1) (omega arith) (le-of-suc-le-suc l)
     ∙ ap (fieldsFor (getD es i noEntry)) (add-assoc at (e .len) (summed (take i es)))
 
 -- a body lies within the bodies

@@ -20,13 +20,13 @@ use Rattle.packet_format.proofs.Width.{num-be, window-drop, be-window}
 use Rattle.packet_format.proofs.Writing.{Accepts, accepts, accepted, total-yes}
 use Rattle.packet_format.proofs.Reading.{part-to-end, Header, header, header-yes, fetch-23, fetch-0}
 use Rattle.packet_format.proofs.Entries.{entry-back}
-use Rattle.packet_format.proofs.Contents.{length-contents, length-entries, bytes-drop, fit-entries, walk-contents, entry-at, contents-walk}
+use Rattle.packet_format.proofs.Contents.{length-contents, length-entries, bytes-drop, fit-entries, walk-contents, contents-entry, contents-walk}
 
 -- ---- what is written is read
 
-pub length-encode : (rule : ℕ) (es : List Entry) (bodies : List ℕ) → length (packetBytes rule es bodies) ≡ totalOf (length es) bodies
+pub packet-length : (rule : ℕ) (es : List Entry) (bodies : List ℕ) → length (packetBytes rule es bodies) ≡ totalOf (length es) bodies
 unfolding packetBytes
-length-encode rule es bodies =
+packet-length rule es bodies =
     let h = length-append (contents (entryPlace (length es)) es) bodies in
     let t = length-contents es (entryPlace (length es)) in
     omega arith
@@ -40,10 +40,10 @@ record Writable (es : List Entry) (bodies : List ℕ) : Type 0 where
   short : totalOf (length es) bodies ≤ 1400
 
 module _ (es : List Entry) (bodies : List ℕ) (w : Writable es bodies) where
-  header-encode : Header (packetBytes 1 es bodies)
+  packet-header : Header (packetBytes 1 es bodies)
   unfolding packetBytes
-  header-encode =
-      let n = length-encode 1 es bodies in
+  packet-header =
+      let n = packet-length 1 es bodies in
       let t : totalOf (length es) bodies < 256 ^ 2 = omega (arith, w .short) in
       record {
         long = omega arith;
@@ -54,16 +54,16 @@ module _ (es : List Entry) (bodies : List ℕ) (w : Writable es bodies) where
         short = omega (arith, w .short);
       }
 
-  walk-encode : AllFit es → question22 (packetBytes 1 es bodies) .yes ≡ true
+  packet-walk : AllFit es → question22 (packetBytes 1 es bodies) .yes ≡ true
   unfolding packetBytes
-  walk-encode s =
+  packet-walk s =
       ap (walk (length es) (contents (entryPlace (length es)) es ++ bodies) (entryPlace (length es)))
-      (length-encode 1 es bodies ∙ ap (λ (k : ℕ). entryPlace (length es) + k) (sym (w .exact)))
+      (packet-length 1 es bodies ∙ ap (λ (k : ℕ). entryPlace (length es) + k) (sym (w .exact)))
       ∙ walk-contents es (entryPlace (length es)) bodies s (w .good) (omega (arith, w .short, w .exact))
 
-count-encode : (rule : ℕ) (es : List Entry) (bodies : List ℕ) → countOf (packetBytes rule es bodies) ≡ length es
+packet-count : (rule : ℕ) (es : List Entry) (bodies : List ℕ) → countOf (packetBytes rule es bodies) ≡ length es
 unfolding packetBytes
-count-encode rule es bodies = refl
+packet-count rule es bodies = refl
 
 -- behind the header of a written packet
 drop-header : (rule : ℕ) (es : List Entry) (bodies : List ℕ) (a : ℕ) → drop (4 + a) (packetBytes rule es bodies) ≡ drop a (contents (entryPlace (length es)) es ++ bodies)
@@ -77,9 +77,9 @@ drop-contents rule es bodies a =
     ∙ ap (drop a)
     (drop-header rule es bodies (16 * length es) ∙ drop-at (contents (entryPlace (length es)) es) bodies (16 * length es) (length-contents es (entryPlace (length es))))
 
-encode-reads-back : (es : List Entry) (bodies : List ℕ) → Writable es bodies → AllFit es → ReadsBack (packetBytes 1 es bodies) es bodies
+packet-reads-back : (es : List Entry) (bodies : List ℕ) → Writable es bodies → AllFit es → ReadsBack (packetBytes 1 es bodies) es bodies
 unfolding packetBytes
-encode-reads-back es bodies w s =
+packet-reads-back es bodies w s =
     record {
       message = message;
       body = λ i l. ap (bodyOf p) (message i l) ∙ ap (take (getD es i noEntry .len)) (drop-contents 1 es bodies (summed (take i es)));
@@ -90,20 +90,20 @@ encode-reads-back es bodies w s =
     p = packetBytes 1 es bodies
 
     yes20 : question20 p .yes ≡ true
-    yes20 = header-yes p (header-encode es bodies w)
+    yes20 = header-yes p (packet-header es bodies w)
 
     yes21 : entryPlace (countOf p) ≤ length p
-    yes21 = omega (arith, count-encode 1 es bodies, length-encode 1 es bodies)
+    yes21 = omega (arith, packet-count 1 es bodies, packet-length 1 es bodies)
 
     yes22 : question22 p .yes ≡ true
-    yes22 = walk-encode es bodies w s
+    yes22 = packet-walk es bodies w s
 
     message : (i : ℕ) → i < length es → fetched p i ≡ Found (getD es i noEntry) (entryPlace (length es) + summed (take i es))
     message i l =
         let at = entryPlace (length es) + summed (take i es) in
         let e = getD es i noEntry in
         let f : fieldsOf (drop (entryPlace i) p) ≡ fieldsFor e at =
-        ap fieldsOf (drop-header 1 es bodies (16 * i)) ∙ entry-at es i (entryPlace (length es)) bodies s (w .good) (omega (arith, w .short, w .exact)) l in
+        ap fieldsOf (drop-header 1 es bodies (16 * i)) ∙ contents-entry es i (entryPlace (length es)) bodies s (w .good) (omega (arith, w .short, w .exact)) l in
         sym (fetch-0 p i yes20 yes21 yes22 l (fieldsFor e at) (sym (ap fieldsOf (part-to-end p (entryPlace i)) ∙ f))) ∙ ap (λ (x : Entry). Found x at) (entry-back e at)
 
 -- a packet written reads back as the same messages
@@ -114,7 +114,7 @@ written-reads-back ms count bodies out n l s h =
     let t = total-yes ms count bodies (length out) n h in
     let a = accepts ms count bodies (length out) (t .0) in
     let k : length es ≡ count = length-take-le count ms l in
-    let m : length (packetBytes 1 es bodies) ≡ n = length-encode 1 es bodies ∙ ap (λ (x : ℕ). totalOf x bodies) k ∙ t .1 in
+    let m : length (packetBytes 1 es bodies) ≡ n = packet-length 1 es bodies ∙ ap (λ (x : ℕ). totalOf x bodies) k ∙ t .1 in
     let w : Writable es bodies =
     record {
       good = a .good;
@@ -123,7 +123,7 @@ written-reads-back ms count bodies out n l s h =
       exact = a .exact;
       short = omega (arith, a .short);
     } in
-    rw (take-at (packetBytes 1 es bodies) (drop n out) n m) (encode-reads-back es bodies w s)
+    rw (take-at (packetBytes 1 es bodies) (drop n out) n m) (packet-reads-back es bodies w s)
 
 -- ---- what is read is written
 
@@ -160,9 +160,9 @@ module _ (p : List ℕ) (b : Bytes p) (r : Read p) where
       contents-walk (countOf p) (drop 4 p) (entryPlace (countOf p)) (length p) (simp length-drop (omega (arith, r .whole))) (bytes-drop 4 p b) (r .walked)
 
   -- an accepted packet is that of its messages
-  encode-read : packetBytes 1 (packetMessages p) (bodiesIn p) ≡ p
+  packet-read : packetBytes 1 (packetMessages p) (bodiesIn p) ≡ p
   unfolding packetBytes
-  encode-read =
+  packet-read =
       let n = countOf p in
       let es = packetMessages p in
       let rest = bodiesIn p in
@@ -208,9 +208,9 @@ accepted-is-written p i e at ms out b h same l =
       short = omega (arith, w .short);
       fits = omega (arith, l);
     } in
-    let made = encode-read p b r in
+    let made = packet-read p b r in
     record {
       answer = accepted ms n (bodiesIn p) (length out) a ∙ ap Total total;
       output = ap (λ (es : List Entry). packetBytes 1 es (bodiesIn p) ++ drop (length p) out) same ∙ ap (λ (q : List ℕ). q ++ drop (length p) out) made;
-      reads = rw made at (encode-reads-back (packetMessages p) (bodiesIn p) w (fit-entries n (drop 4 p) (bytes-drop 4 p b)));
+      reads = rw made at (packet-reads-back (packetMessages p) (bodiesIn p) w (fit-entries n (drop 4 p) (bytes-drop 4 p b)));
     }

@@ -16,7 +16,7 @@ use Rattle.packet_format.specs.Writing.{summed, contents, totalOf, packetBytes,
 use Rattle.hermes_record.proofs.Tests.{both}
 use Rattle.packet_format.proofs.Entries.{good-parts}
 use Rattle.packet_format.proofs.Contents.{length-contents}
-use Rattle.packet_format.proofs.RoundTrip.{length-encode}
+use Rattle.packet_format.proofs.RoundTrip.{packet-length}
 use Rattle.packet_words.specs.Words.{countIn, fieldsAt, entryAt, entriesFrom, wordMessages}
 use Rattle.packet_words.proofs.Fit.{good-fit, fields-fit}
 use Rattle.packet_words.proofs.Places.{Counted}
@@ -85,5 +85,5 @@ packet-stored words d t o bodies n e c g sum short room et eo =
     let s2 : o ≡ sets d 0 (before ++ bodies) = eo ∙ sets-then d t 0 (entryPlace n) before bodies s1 p in
     let en = sym (c .size) in
     let is : before ++ bodies ≡ whole = λ i. 1 ∷ en i ∷ be 2 (totalOf (en i) bodies) ++ contents (entryPlace (en i)) es ++ bodies in
-    let len : length whole ≡ totalOf n bodies = length-encode 1 es bodies ∙ ap (λ (x : ℕ). totalOf x bodies) (c .size) in
+    let len : length whole ≡ totalOf n bodies = packet-length 1 es bodies ∙ ap (λ (x : ℕ). totalOf x bodies) (c .size) in
     s2 ∙ ap (sets d 0) is ∙ sets-eq whole d 0 (omega arith) ∙ ap (λ (x : ℕ). whole ++ drop x d) (zero-add (length whole) ∙ len)

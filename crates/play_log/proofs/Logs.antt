@@ -106,8 +106,8 @@ message-back (Inv t) = refl
 message-back (Ack t) = refl
 message-back (Val t) = refl
 
-decode-encode : (e : Envelope) → Fits e → decodeAll (envelopeWords e) ≡ e
-decode-encode e f = λ i. record {
+envelope-back : (e : Envelope) → Fits e → decodeAll (envelopeWords e) ≡ e
+envelope-back e f = λ i. record {
   sender = mod-eq-of-lt (f .sender) i;
   epoch = e .epoch;
   message = (ap (λ (x : ℕ). messageOf (kindOf (e .message)) (record { version = timestampOf (e .message) .version; tie = x })) (mod-eq-of-lt (f .tie)) ∙ message-back (e .message)) i;
@@ -161,7 +161,7 @@ module _ (heads bodies body : List ℕ) (n : ℕ) (e : Envelope) (fits : Fits e)
       ∙ within heads k (omega (arith, s .slots))
 
   new : envelopeAt heads′ n ≡ e
-  new = sym (within heads′ n (omega (arith, slots′))) ∙ ap decodeAll (paste-same heads (envelopeWords e) (6 * n) (omega (arith, s .slots))) ∙ decode-encode e fits
+  new = sym (within heads′ n (omega (arith, slots′))) ∙ ap decodeAll (paste-same heads (envelopeWords e) (6 * n) (omega (arith, s .slots))) ∙ envelope-back e fits
 
   logged-old : (k : ℕ) → k < n → loggedAt heads′ (kept 192 bodies n body) k ≡ loggedAt heads bodies k
   logged-old k h = λ i. record {
