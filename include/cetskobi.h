@@ -3,15 +3,17 @@
  * cetskobi_text.h has the refusals, states and kinds as text.
  *
  * Table and store. The table is 16 bytes for each record, at 16 times its number: struct cetskobi_record says what they are. A table
- * whose length is no multiple of 16 holds no records. The store is 192 bytes for each record, at 192 times its number.
+ * whose length is no multiple of 16 holds no records. The store is 192 bytes for each record, no more and no less, at 192 times its
+ * number.
  *
  * Pointers and lengths. Memory is passed as a pointer and a length in elements: that many elements are there, and none needs be where the
  * length is 0. What a function writes (table, store, out) overlaps nothing else passed to the same call: copy a text out of the store
  * before it is saved again. Beyond that every function takes every input.
  *
  * Answers. A number of 0, or that of the question that said no: CETSKOBI_REFUSED_.. below, and what to do about each in docs/GUIDE.md,
- * part 4. After a no nothing lent has changed, and the other fields of the answer are 0. Only an admission that is refused has an
- * identity: the old one of a view, the one asked for of a start.
+ * part 4. After a no nothing lent has changed, and the other fields of the answer are 0, but for an admission's identity: an accepted
+ * start or view has the new one, a refused view the old one, as it was passed, and a refused start the one that was asked for.
+ * cetskobi_body and cetskobi_recipients ask no question: they give a length and a set.
  *
  * Threads and stack. No function keeps anything between calls, and none allocates. One laptop's table and store take one call at a time;
  * calls on different memory may run at once. A call needs at most CETSKOBI_STACK bytes of stack, cetskobi_play CETSKOBI_PLAY_STACK;
@@ -34,6 +36,17 @@
 /* Bytes of stack that are enough for a call. */
 #define CETSKOBI_STACK 4096
 #define CETSKOBI_PLAY_STACK 98304
+
+/* Before every function: the compiler warns where its answer is dropped unseen. An answer has the refusal, the message that is to be sent,
+ * and of a start or a view the identity from then on: a laptop whose view is dropped stays at the old epoch. Who means to drop one gives it
+ * to a variable. */
+#if (defined __cplusplus && __cplusplus >= 201703L) || (defined __STDC_VERSION__ && __STDC_VERSION__ >= 202311L)
+#define CETSKOBI_MUST_USE [[nodiscard]]
+#elif defined __GNUC__
+#define CETSKOBI_MUST_USE __attribute__((warn_unused_result))
+#else
+#define CETSKOBI_MUST_USE
+#endif
 
 #ifdef __cplusplus
 extern "C" {
@@ -78,8 +91,8 @@ enum { CETSKOBI_NONE = 0, CETSKOBI_INV = 1, CETSKOBI_ACK = 2, CETSKOBI_VAL = 3 }
 /* The refusals: the questions of document 01 by number, and the player's own. */
 enum {
     CETSKOBI_REFUSED_NO_GROUP = 1,         /* the laptop's number is above 15, or its view has fewer than two laptops */
-    CETSKOBI_REFUSED_LENT_MEMORY = 2,      /* there are not 1 to 4,096 records, or not 192 bytes of store for each */
-    CETSKOBI_REFUSED_STRUCK_OFF = 3,       /* this laptop has been struck off its group */
+    CETSKOBI_REFUSED_LENT_MEMORY = 2,      /* there are not 1 to 4,096 records, or not exactly 192 bytes of store for each record */
+    CETSKOBI_REFUSED_STRUCK_OFF = 3,       /* this laptop is not in its own view: struck off, or left out of its first view */
     CETSKOBI_REFUSED_STRAY_RECORD = 4,     /* there is no record of that number */
     CETSKOBI_REFUSED_UNSOUND_RECORD = 5,   /* the record in the table is damaged */
     CETSKOBI_REFUSED_NOT_READABLE = 6,     /* the record is not valid now, so it cannot be shown */
@@ -88,7 +101,7 @@ enum {
     CETSKOBI_REFUSED_LAST_VERSION = 9,     /* the record has used up its versions */
     CETSKOBI_REFUSED_OTHER_EPOCH = 10,     /* the message is of another epoch than this laptop */
     CETSKOBI_REFUSED_OTHER_SENDER = 11,    /* the message's sender is not another laptop of the view */
-    CETSKOBI_REFUSED_ILL_FORMED = 12,      /* the message's tie-breaker is above 15, or its bytes do not fit its kind */
+    CETSKOBI_REFUSED_ILL_FORMED = 12,      /* the message is no INV, ACK or VAL, its tie-breaker is above 15, or its bytes do not fit it */
     CETSKOBI_REFUSED_STRAY_ACK = 13,       /* no such acknowledgement is awaited, or it is counted already */
     CETSKOBI_REFUSED_STRAY_VAL = 14,       /* the record is valid already, or the validation is for another timestamp */
     CETSKOBI_REFUSED_NOT_FINISHED = 15,    /* nothing waits to be validated, or an acknowledgement is still missing */
@@ -141,7 +154,7 @@ struct cetskobi_fetched {
     size_t len;
 };
 
-/* A message that goes into a packet, in the order of its words. */
+/* A message that goes into a packet, in the order of its CETSKOBI_ENTRY_WORDS words. */
 struct cetskobi_entry {
     uint32_t kind;
     uint32_t sender;
@@ -176,23 +189,31 @@ struct cetskobi_admission {
  * them with it, since a view may have changed me. A delivery takes the record's number and the bytes that came with its message: other
  * bytes, or none, are accepted too, and two laptops may then show different texts for one timestamp. cetskobi_deliver_packet takes both
  * from the packet. */
+CETSKOBI_MUST_USE
 struct cetskobi_answer cetskobi_write(struct cetskobi_replica me, uint8_t *table, size_t table_len, uint8_t *store, size_t store_len,
                                       size_t i, const uint8_t *value, size_t value_len);
+CETSKOBI_MUST_USE
 struct cetskobi_answer cetskobi_deliver(struct cetskobi_replica me, uint8_t *table, size_t table_len, uint8_t *store, size_t store_len,
                                         size_t i, struct cetskobi_message message, const uint8_t *value, size_t value_len);
+CETSKOBI_MUST_USE
 struct cetskobi_answer cetskobi_replay(struct cetskobi_replica me, uint8_t *table, size_t table_len, const uint8_t *store, size_t store_len,
                                        size_t i);
+CETSKOBI_MUST_USE
 struct cetskobi_answer cetskobi_validate(struct cetskobi_replica me, uint8_t *table, size_t table_len, const uint8_t *store,
                                          size_t store_len, size_t i);
 /* No byte of the table changes, although it is lent to be written. */
+CETSKOBI_MUST_USE
 struct cetskobi_answer cetskobi_resend(struct cetskobi_replica me, uint8_t *table, size_t table_len, const uint8_t *store, size_t store_len,
                                        size_t i);
+CETSKOBI_MUST_USE
 struct cetskobi_reading cetskobi_read(struct cetskobi_replica me, const uint8_t *table, size_t table_len, const uint8_t *store,
                                       size_t store_len, size_t i);
 
 /* A change of view, which touches no record. */
+CETSKOBI_MUST_USE
 struct cetskobi_admission cetskobi_view(struct cetskobi_replica me, uint32_t epoch, uint16_t set);
 /* A fresh start: epoch 0, every record valid and empty, the store zero. */
+CETSKOBI_MUST_USE
 struct cetskobi_admission cetskobi_start(uint8_t number, uint16_t view, uint8_t *table, size_t table_len, uint8_t *store, size_t store_len);
 
 /* What leaves: how many bytes at 192 times i the message takes along that left an event on record i; left is that event's answer. It is 0
@@ -201,21 +222,29 @@ struct cetskobi_admission cetskobi_start(uint8_t number, uint16_t view, uint8_t 
  * if it were lost on air: the newer text must not leave under the older timestamp. No value has this length, and an entry of it makes no
  * packet (24). */
 #define CETSKOBI_GONE ((size_t)-1)
+CETSKOBI_MUST_USE
 size_t cetskobi_body(const uint8_t *table, size_t table_len, const uint8_t *store, size_t store_len, size_t i, struct cetskobi_answer left);
 /* Who gets a message of this kind: bit n for replica n. sender is that of the delivered message; only an ACK asks it. */
+CETSKOBI_MUST_USE
 uint16_t cetskobi_recipients(struct cetskobi_replica me, uint8_t kind, uint8_t sender);
 
 /* Message i of a packet. */
+CETSKOBI_MUST_USE
 struct cetskobi_fetched cetskobi_fetch(const uint8_t *packet, size_t packet_len, size_t i);
-/* Messages as one packet, at the front of the output. They are words, seven for each, so an array of struct cetskobi_entry is that; their
- * bytes come one after another in bodies. */
-struct cetskobi_written cetskobi_pack(const uint32_t *messages, size_t messages_len, const uint8_t *bodies, size_t bodies_len, uint8_t *out,
-                                      size_t out_len);
+/* Messages as one packet, at the front of the output. They are words, seven for each: an array of struct cetskobi_entry, passed as
+ * (const uint32_t *)entries with CETSKOBI_ENTRY_WORDS * count for its length. By the count alone seven messages would be the words of one,
+ * and the call could not tell. Their bytes come one after another in bodies. */
+CETSKOBI_MUST_USE
+struct cetskobi_written cetskobi_pack(const uint32_t *messages,
+                                      size_t messages_len, /* words, 7 for each message: not messages, not bytes */
+                                      const uint8_t *bodies, size_t bodies_len, uint8_t *out, size_t out_len);
 /* The delivery of message i of a packet: the questions of cetskobi_fetch, then those of cetskobi_deliver. */
+CETSKOBI_MUST_USE
 struct cetskobi_answer cetskobi_deliver_packet(struct cetskobi_replica me, uint8_t *table, size_t table_len, uint8_t *store,
                                                size_t store_len, const uint8_t *packet, size_t packet_len, size_t i);
 
 /* The playing program on one script of at most 65,536 bytes, with room for 25 bytes for each of them, and 2. */
+CETSKOBI_MUST_USE
 struct cetskobi_played cetskobi_play(const uint8_t *script, size_t script_len, uint8_t *out, size_t out_len);
 
 #ifdef __cplusplus

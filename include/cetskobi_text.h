@@ -9,8 +9,8 @@ static inline const char *cetskobi_meaning(uint8_t number) {
     switch (number) {
     case 0: return "accepted";
     case CETSKOBI_REFUSED_NO_GROUP: return "the laptop's number is above 15, or its view has fewer than two laptops";
-    case CETSKOBI_REFUSED_LENT_MEMORY: return "there are not 1 to 4,096 records, or not 192 bytes of store for each";
-    case CETSKOBI_REFUSED_STRUCK_OFF: return "this laptop has been struck off its group";
+    case CETSKOBI_REFUSED_LENT_MEMORY: return "there are not 1 to 4,096 records, or not exactly 192 bytes of store for each record";
+    case CETSKOBI_REFUSED_STRUCK_OFF: return "this laptop is not in its own view: struck off, or left out of its first view";
     case CETSKOBI_REFUSED_STRAY_RECORD: return "there is no record of that number";
     case CETSKOBI_REFUSED_UNSOUND_RECORD: return "the record in the table is damaged";
     case CETSKOBI_REFUSED_NOT_READABLE: return "the record is not valid now, so it cannot be shown";
@@ -19,7 +19,7 @@ static inline const char *cetskobi_meaning(uint8_t number) {
     case CETSKOBI_REFUSED_LAST_VERSION: return "the record has used up its versions";
     case CETSKOBI_REFUSED_OTHER_EPOCH: return "the message is of another epoch than this laptop";
     case CETSKOBI_REFUSED_OTHER_SENDER: return "the message's sender is not another laptop of the view";
-    case CETSKOBI_REFUSED_ILL_FORMED: return "the message's tie-breaker is above 15, or its bytes do not fit its kind";
+    case CETSKOBI_REFUSED_ILL_FORMED: return "the message is no INV, ACK or VAL, its tie-breaker is above 15, or its bytes do not fit it";
     case CETSKOBI_REFUSED_STRAY_ACK: return "no such acknowledgement is awaited, or it is counted already";
     case CETSKOBI_REFUSED_STRAY_VAL: return "the record is valid already, or the validation is for another timestamp";
     case CETSKOBI_REFUSED_NOT_FINISHED: return "nothing waits to be validated, or an acknowledgement is still missing";

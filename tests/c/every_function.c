@@ -88,6 +88,7 @@ static void membership(void) {
     CHECK(admits(cetskobi_start(3, 38, TABLE, store, STORE), 3, newcomer));
     CHECK(cetskobi_start(5, 38, TABLE, store, STORE - 1).number == 2);
     CHECK(cetskobi_start(5, 38, (uint8_t *)table, sizeof table - 1, store, STORE).number == 2);
+    CHECK(cetskobi_start(5, 38, (uint8_t *)table, CETSKOBI_RECORD_BYTES, store, CETSKOBI_VALUE_MAX + 1).number == 2);
     CHECK(table[0].state == OLD && store[0] == 7);
     newcomer.number = 5;
     CHECK(admits(cetskobi_start(5, 38, TABLE, store, STORE), 0, newcomer));
@@ -182,6 +183,10 @@ static void delivery(void) {
     other.sender = 4;
     CHECK(cetskobi_deliver(LENT, 1, other, value, 6).number == 11);
     other = inv;
+    other.kind = CETSKOBI_NONE;
+    CHECK(cetskobi_deliver(LENT, 1, other, value, 0).number == 12);
+    other.kind = CETSKOBI_VAL + 1;
+    CHECK(cetskobi_deliver(LENT, 1, other, value, 6).number == 12);
     other.kind = CETSKOBI_VAL;
     CHECK(cetskobi_deliver(LENT, 1, other, value, 6).number == 12);
     CHECK(cetskobi_deliver(LENT, 1, other, value, 0).number == 14);
@@ -282,7 +287,8 @@ static int says(const char *text, const char *words) {
 /* rust/cetskobi/tests/texts.rs compares every text with Rust's. */
 static void texts(void) {
     CHECK(says(cetskobi_meaning(0), "accepted"));
-    CHECK(says(cetskobi_meaning(CETSKOBI_REFUSED_STRUCK_OFF), "this laptop has been struck off its group"));
+    CHECK(says(cetskobi_meaning(CETSKOBI_REFUSED_STRUCK_OFF),
+               "this laptop is not in its own view: struck off, or left out of its first view"));
     CHECK(says(cetskobi_state_name(CETSKOBI_INVALID_WRITE), "invalid-write"));
     CHECK(says(cetskobi_kind_name(CETSKOBI_NONE), "none") && says(cetskobi_kind_name(CETSKOBI_ACK), "ACK"));
     for (int n = 0; n <= UINT8_MAX; n++) {

@@ -205,6 +205,34 @@ static void a_save_since_the_ring_was_opened(void) {
     CHECK(shows(&one, "two's"));
 }
 
+/* 2 saves unheard, and is struck off before that save is finished. Nothing more comes of it there. */
+static void a_save_that_waits_at_a_struck_off_laptop(void) {
+    fresh();
+    struct stamp first = saves(&two, "robin, wing 73");
+    struct packet inv = sent(SET_1 | SET_5);
+    came(&one, inv);
+    came(&two, sent(SET_2));
+    came(&five, inv);
+    came(&two, sent(SET_2));
+    came(&one, sent(SET_1 | SET_5));
+    struct stamp seen = {0, 1}, saved = {0, 0};
+    size_t len;
+    CHECK(save(&two, 0, seen, (const uint8_t *)"wren", 4, &saved) == 0);
+    sent(SET_1 | SET_5);
+    CHECK(fate_of(&two, 0, saved) == WAITING);
+    CHECK(view_came(&two, 1, SET_1 | SET_5) == 0 && open_ring(&two, 0, &len, &seen) == 3);
+    ticks(&two, 3000);
+    silent();
+    CHECK(fate_of(&two, 0, saved) == STRUCK_OFF);
+    /* What was finished before stays so, and a text that another one replaced is not in the record. */
+    CHECK(fate_of(&two, RING, first) == FINISHED && fate_of(&two, RING, (struct stamp){0, 1}) == REPLACED);
+    /* Whoever stays waits. */
+    saved = saves(&one, "robin, wing 74");
+    sent(SET_2 | SET_5);
+    CHECK(view_came(&one, 1, SET_1 | SET_5) == 0 && fate_of(&one, RING, saved) == WAITING);
+    in_air = 0;
+}
+
 /* A packet leaves at these ticks and no others. */
 static void leaves_at(struct hut *h, const int *at, int last) {
     for (int n = 1; n <= last; n++) {
@@ -297,6 +325,7 @@ int main(void) {
     a_worked_morning();
     two_saves_at_once();
     a_save_since_the_ring_was_opened();
+    a_save_that_waits_at_a_struck_off_laptop();
     waits();
     packets_are_shared();
     ticks_alone_settle_every_record();

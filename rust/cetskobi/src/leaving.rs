@@ -103,21 +103,23 @@ impl<'a> Leaving<'a> {
 ///
 /// ```compile_fail
 /// #![deny(unused_must_use)]
-/// # use cetskobi::{packet, Laptop, Leaving, Refusal};
-/// # fn came(hut: &mut Laptop, outbox: &mut Vec<Leaving>, bytes: &[u8]) -> Result<(), Refusal> {
-/// for message in packet::messages(bytes)? {
-///     hut.deliver(message)?;
-/// }
+/// # use cetskobi::{Arriving, Laptop, Refusal};
+/// # fn came(hut: &mut Laptop, message: Arriving) -> Result<(), Refusal> {
+/// hut.deliver(message)?;
 /// # Ok(())
 /// # }
 /// ```
+///
+/// A packet's messages, one after another:
 ///
 /// ```
 /// #![deny(unused_must_use)]
 /// # use cetskobi::{packet, Laptop, Leaving, Refusal};
 /// # fn came(hut: &mut Laptop, outbox: &mut Vec<Leaving>, bytes: &[u8]) -> Result<(), Refusal> {
 /// for message in packet::messages(bytes)? {
-///     outbox.extend(hut.deliver(message)?.leaving().map(Leaving::into_owned));
+///     // A refused message is one message: go on with the next.
+///     let Ok(reply) = hut.deliver(message) else { continue };
+///     outbox.extend(reply.leaving().map(Leaving::into_owned));
 /// }
 /// # Ok(())
 /// # }

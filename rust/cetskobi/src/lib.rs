@@ -67,7 +67,7 @@ pub mod sys;
 pub use arriving::Arriving;
 pub use laptop::{Laptop, Lent};
 pub use leaving::{Leaving, Reply};
-pub use members::Members;
+pub use members::{Members, NumberTooLarge};
 pub use message::{Envelope, Message};
 pub use player::{play, SCRIPT_MAX};
 pub use record::{Record, State, Timestamp};

@@ -1,5 +1,6 @@
 //! Sets of laptop numbers.
 
+use std::error::Error;
 use std::fmt;
 use std::iter::FusedIterator;
 
@@ -12,6 +13,18 @@ use std::iter::FusedIterator;
 /// assert_eq!(view.into_iter().collect::<Vec<u8>>(), [1, 2, 5]);
 /// assert_eq!(view.to_string(), "{1,2,5}");
 /// ```
+///
+/// Numbers of the software's own are collected. Those that come from outside,
+/// as typed by the warden, are tried, so that a wrong one is not left out of a
+/// view unseen:
+///
+/// ```
+/// use cetskobi::Members;
+/// let view: Members = [1, 2, 5].into_iter().collect();
+/// assert_eq!(Members::try_from_numbers([1, 2, 5]), Ok(view));
+/// let wrong = Members::try_from_numbers([1, 2, 16]);
+/// assert_eq!(wrong.map_err(|e| e.number()), Err(16));
+/// ```
 #[derive(Clone, Copy, Debug, Default, PartialEq, Eq, Hash)]
 pub struct Members {
     bits: u16,
@@ -21,6 +34,24 @@ impl Members {
     /// The set of these 16 bits.
     pub const fn from_bits(bits: u16) -> Members {
         Members { bits }
+    }
+
+    /// The set of these numbers, which may come from outside; one that comes twice
+    /// is in it once.
+    ///
+    /// # Errors
+    ///
+    /// The first number above 15, which no laptop has.
+    pub fn try_from_numbers<I>(numbers: I) -> Result<Members, NumberTooLarge>
+    where
+        I: IntoIterator<Item = u8>,
+    {
+        let mut bits = 0;
+        for number in numbers {
+            let bit = 1u16.checked_shl(u32::from(number));
+            bits |= bit.ok_or(NumberTooLarge { number })?;
+        }
+        Ok(Members { bits })
     }
 
     /// The set as 16 bits.
@@ -62,13 +93,17 @@ impl From<Members> for u16 {
 }
 
 impl FromIterator<u8> for Members {
-    /// The set of these numbers, those above 15 left out.
+    /// The set of these numbers; one that comes twice is in it once.
+    ///
+    /// # Panics
+    ///
+    /// At a number above 15, which no laptop has. For numbers from outside there
+    /// is [`Members::try_from_numbers`].
     fn from_iter<I: IntoIterator<Item = u8>>(numbers: I) -> Members {
-        let bits = numbers
-            .into_iter()
-            .filter_map(|n| 1u16.checked_shl(u32::from(n)))
-            .fold(0, |bits, bit| bits | bit);
-        Members { bits }
+        match Members::try_from_numbers(numbers) {
+            Ok(members) => members,
+            Err(wrong) => panic!("{wrong}"),
+        }
     }
 }
 
@@ -88,6 +123,28 @@ impl fmt::Display for Members {
         write!(f, "{{{}}}", numbers.join(","))
     }
 }
+
+/// A number above 15, which no laptop has: [`Members::try_from_numbers`].
+#[derive(Clone, Copy, Debug, PartialEq, Eq, Hash)]
+pub struct NumberTooLarge {
+    number: u8,
+}
+
+impl NumberTooLarge {
+    /// The number.
+    pub const fn number(self) -> u8 {
+        self.number
+    }
+}
+
+impl fmt::Display for NumberTooLarge {
+    fn fmt(&self, f: &mut fmt::Formatter<'_>) -> fmt::Result {
+        let number = self.number;
+        write!(f, "no laptop has number {number}: they are 0 to 15")
+    }
+}
+
+impl Error for NumberTooLarge {}
 
 /// The numbers of a set of laptops in rising order: [`Members::iter`].
 #[derive(Clone, Debug)]

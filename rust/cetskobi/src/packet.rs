@@ -16,7 +16,8 @@
 //! // What the radio brought: laptop 5 acknowledges.
 //! let received = [1, 1, 0, 20, 2, 5, 0, 0, 0, 0, 0, 7, 0, 0, 0, 1, 2, 0, 20, 0];
 //! for message in packet::messages(&received)? {
-//!     let reply = laptop.deliver(message)?;
+//!     // A refused message is one message: go on with the next.
+//!     let Ok(reply) = laptop.deliver(message) else { continue };
 //!     assert_eq!(reply.leaving(), None); // only an INV is answered
 //! }
 //! assert!(laptop.record(7).is_some_and(|r| r.acks.contains(5)));

@@ -12,9 +12,9 @@ use std::fmt;
 pub enum Refusal {
     /// 1: the laptop's number is above 15, or its view has fewer than two.
     NoGroup = 1,
-    /// 2: not 1 to 4,096 records, or not 192 bytes of store for each.
+    /// 2: not 1 to 4,096 records, or not exactly 192 bytes of store for each.
     LentMemory = 2,
-    /// 3: the laptop is not in its own view.
+    /// 3: the laptop is not in its own view: struck off, or left out of its first.
     StruckOff = 3,
     /// 4: no record has that number.
     StrayRecord = 4,
@@ -32,7 +32,8 @@ pub enum Refusal {
     OtherEpoch = 10,
     /// 11: a message from outside the view, or from the laptop itself.
     OtherSender = 11,
-    /// 12: a message with a tie-breaker above 15, or bytes that do not fit its kind.
+    /// 12: a message of none of the three kinds (only [`raw`](crate::raw) takes
+    /// one), with a tie-breaker above 15, or with bytes that do not fit its kind.
     IllFormed = 12,
     /// 13: an acknowledgement that is not awaited.
     StrayAck = 13,
@@ -122,9 +123,12 @@ impl Refusal {
                 "the laptop's number is above 15, or its view has fewer than two laptops"
             }
             Refusal::LentMemory => {
-                "there are not 1 to 4,096 records, or not 192 bytes of store for each"
+                "there are not 1 to 4,096 records, or not exactly 192 bytes of store \
+                 for each record"
             }
-            Refusal::StruckOff => "this laptop has been struck off its group",
+            Refusal::StruckOff => {
+                "this laptop is not in its own view: struck off, or left out of its first view"
+            }
             Refusal::StrayRecord => "there is no record of that number",
             Refusal::UnsoundRecord => "the record in the table is damaged",
             Refusal::NotReadable => "the record is not valid now, so it cannot be shown",
@@ -136,7 +140,8 @@ impl Refusal {
             Refusal::OtherEpoch => "the message is of another epoch than this laptop",
             Refusal::OtherSender => "the message's sender is not another laptop of the view",
             Refusal::IllFormed => {
-                "the message's tie-breaker is above 15, or its bytes do not fit its kind"
+                "the message is no INV, ACK or VAL, its tie-breaker is above 15, \
+                 or its bytes do not fit it"
             }
             Refusal::StrayAck => "no such acknowledgement is awaited, or it is counted already",
             Refusal::StrayVal => {

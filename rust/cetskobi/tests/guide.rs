@@ -370,6 +370,47 @@ fn a_save_that_nobody_heard_dies_with_its_laptop() {
     }
 }
 
+/// 2 saves unheard, and is struck off before that save is finished. Nothing more
+/// comes of it there.
+#[test]
+fn a_save_that_waits_at_a_struck_off_laptop_is_never_finished_there() {
+    let [mut one, mut two, mut five] = three();
+    let first = two.saves(b"robin, wing 73");
+    let inv = two.sent([1, 5]);
+    for hut in [&mut one, &mut five] {
+        hut.came(&inv);
+        two.came(&hut.sent([2]));
+    }
+    five.came(&two.sent([1, 5]));
+    let (_, seen) = two.open(0).expect("shown");
+    let saved = two.save(0, seen, b"wren").expect("accepted");
+    let saved = saved.expect("nothing came between");
+    two.sent([1, 5]);
+    assert_eq!(two.fate(0, saved), Fate::Waiting);
+    two.view_came(1, 34).expect("accepted");
+    assert_eq!(two.open(0), Err(Refusal::StruckOff));
+    two.ticks(3000);
+    assert!(two.all_sent().is_empty());
+    assert_eq!(two.fate(0, saved), Fate::StruckOff);
+    // What was finished before stays so, and a text that another one replaced is not in the record.
+    assert_eq!(two.fate(RING, first), Fate::Finished);
+    assert_eq!(two.fate(RING, stamp(0, 1)), Fate::Replaced);
+    // Whoever stays waits.
+    let saved = five.saves(b"robin, wing 74");
+    five.view_came(1, 34).expect("accepted");
+    assert_eq!(five.fate(RING, saved), Fate::Waiting);
+}
+
+#[test]
+fn the_guide_says_what_the_ringer_sees_of_each_fate() {
+    let rows = rows("| save | the screen | the ringer |");
+    let told: Vec<String> = rows.iter().map(|row| row[0].replace(' ', "")).collect();
+    use Fate::{Finished, Replaced, StruckOff, Waiting};
+    let all = [Waiting, Finished, Replaced, StruckOff].map(|f| format!("{f:?}").to_lowercase());
+    assert_eq!(told, all);
+    assert!(rows.iter().all(|r| !r[1].is_empty() && !r[2].is_empty()));
+}
+
 /// Laptops 2 and 5 saved together, and 2 was overtaken; then 5 died.
 fn overtaken() -> (Hut, Hut, [Vec<u8>; 2]) {
     let [one, mut two, mut five] = three();

@@ -301,12 +301,40 @@ fn timestamps_are_ordered_by_version_then_tie_breaker() {
 
 #[test]
 fn sets_of_laptops() {
-    assert_eq!(Members::from_iter([5, 1, 16, 200, 2, 1]).bits(), 38);
+    assert_eq!(Members::from_iter([5, 1, 2, 1]).bits(), 38);
+    assert_eq!(Members::from_iter(0..16).bits(), 0xffff);
     assert_eq!(Members::from(0x8001).iter().collect::<Vec<_>>(), [0, 15]);
     assert_eq!(Members::from(38).len(), 3);
     assert!(Members::from(0).is_empty());
     assert!(!Members::from(0xffff).contains(16));
     assert!(!Members::from(0xffff).contains(255));
+}
+
+#[test]
+fn a_number_that_no_laptop_has_is_told() {
+    assert_eq!(
+        Members::try_from_numbers([5, 1, 2, 1]),
+        Ok(Members::from(38))
+    );
+    assert_eq!(
+        Members::try_from_numbers(0..16),
+        Ok(Members::from_bits(0xffff))
+    );
+    assert_eq!(Members::try_from_numbers([]), Ok(Members::default()));
+    // The first of them.
+    let wrong = Members::try_from_numbers([0, 1, 16, 200]).unwrap_err();
+    assert_eq!(wrong.number(), 16);
+    assert_eq!(
+        wrong.to_string(),
+        "no laptop has number 16: they are 0 to 15"
+    );
+    assert!((16..=255).all(|n| Members::try_from_numbers([n]).is_err()));
+}
+
+#[test]
+#[should_panic(expected = "no laptop has number 16: they are 0 to 15")]
+fn a_number_that_no_laptop_has_is_not_collected() {
+    let _ = [0, 1, 16].into_iter().collect::<Members>();
 }
 
 /// What leaves a delivery is for the sender of the message, and borrows the

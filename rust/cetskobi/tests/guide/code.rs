@@ -21,6 +21,7 @@ enum Fate {
     Waiting,
     Finished,
     Replaced,
+    StruckOff,
 }
 
 impl Hut {
@@ -80,9 +81,11 @@ impl Hut {
 
     /// Asked after every packet and every change of view: while it is Waiting, and better to the end of the day.
     fn fate(&self, ring: usize, saved: Timestamp) -> Fate {
+        let counts = self.laptop.view().contains(self.laptop.number());
         match self.laptop.record(ring) {
             Some(r) if r.timestamp == saved && r.state == State::Valid => Fate::Finished,
-            Some(r) if r.timestamp == saved => Fate::Waiting,
+            Some(r) if r.timestamp == saved && counts => Fate::Waiting,
+            Some(r) if r.timestamp == saved => Fate::StruckOff, // it would wait for ever: ask the warden
             _ => Fate::Replaced,
         }
     }
