@@ -8,11 +8,11 @@ pub const GONE: usize = usize::MAX;
 /// include/cetskobi.h, in the archive.
 pub mod engine {
     pub use cetskobi::sys::{
-        cetskobi_body as body, cetskobi_deliver as deliver, cetskobi_deliver_packet as deliver_packet,
-        cetskobi_fetch as fetch, cetskobi_pack as pack, cetskobi_read as read,
-        cetskobi_recipients as recipients, cetskobi_replay as replay, cetskobi_resend as resend,
-        cetskobi_start as start, cetskobi_validate as validate, cetskobi_view as view,
-        cetskobi_write as write,
+        cetskobi_body as body, cetskobi_deliver as deliver,
+        cetskobi_deliver_packet as deliver_packet, cetskobi_fetch as fetch, cetskobi_pack as pack,
+        cetskobi_read as read, cetskobi_recipients as recipients, cetskobi_replay as replay,
+        cetskobi_resend as resend, cetskobi_start as start, cetskobi_validate as validate,
+        cetskobi_view as view, cetskobi_write as write,
     };
 }
 
