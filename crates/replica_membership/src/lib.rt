@@ -43,7 +43,7 @@ pub fn admit(number: u8, view: u16, count: usize, bytes: usize) -> Admission
     )
 }
 
-// The no of a question after 1; question 1 says it first where the view is of fewer than two.
+// A no of this question, which comes after question 1; that one says no first where the view is of fewer than two.
 fn refused(me: Replica, number: u8) -> Admission
     ensures { λ a. ⌜ a ≡ Refused (cond (leb 2 (size (me .view))) number 1) ⌝ }
 {
@@ -55,8 +55,9 @@ fn refused(me: Replica, number: u8) -> Admission
     }
 }
 
-// A change to this epoch and view. The tests do not stand in the order of the questions: who is in the view has a number below 16, and what a set of two
-// lies within is of two itself, so that nothing is left of question 1 once the others say yes; and a number is looked for after a no alone.
+// A change to this epoch and view: questions 1, 3, 18 and 19. The tests stand in another order. Who is in the view has a number below 16, and
+// what a set of two lies within is of two itself: so nothing is left to ask of question 1 once the others say yes, and only after a no is its
+// number looked for.
 pub fn view(me: Replica, epoch: u32, set: u16) -> Admission
     ensures { λ a. ⌜ a ≡ view me epoch set ⌝ }
 {
