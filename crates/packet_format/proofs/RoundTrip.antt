@@ -6,7 +6,7 @@ use Prim.Native.Nat.{ℕ, zero, suc, _+_, _*_, _^_, _≤_, _<_}
 use native.Mathlib.Omega.{arith}
 use borrow.Author.Tests.{leb-true}
 use lib.ListN.{length, take, drop, getD, length-drop, length-append}
-use lib.Seq.{drop-drop, drop-at, take-at, length-take-le}
+use lib.Seq.{drop-drop, drop-at, take-at}
 use Rattle.packet_format.specs.declared.entry.Entry.{Entry}
 use Rattle.packet_format.specs.declared.entry.Fields.{Fields}
 use Rattle.packet_format.specs.declared.answer.Fetched.the-variants.{Found}
@@ -31,15 +31,7 @@ packet-length rule es bodies =
     let t = length-contents es (entryPlace (length es)) in
     omega arith
 
--- what the writer accepts, of the messages es that are written
-record Writable (es : List Entry) (bodies : List ℕ) : Type 0 where
-  good : allGood es ≡ true
-  some : 1 ≤ length es
-  few : length es ≤ 64
-  exact : summed es ≡ length bodies
-  short : totalOf (length es) bodies ≤ 1400
-
-module _ (es : List Entry) (bodies : List ℕ) (w : Writable es bodies) where
+module _ (es : List Entry) (bodies : List ℕ) (room : ℕ) (w : Accepts es bodies room) where
   packet-header : Header (packetBytes 1 es bodies)
   unfolding packetBytes
   packet-header =
@@ -77,9 +69,9 @@ drop-contents rule es bodies a =
     ∙ ap (drop a)
     (drop-header rule es bodies (16 * length es) ∙ drop-at (contents (entryPlace (length es)) es) bodies (16 * length es) (length-contents es (entryPlace (length es))))
 
-packet-reads-back : (es : List Entry) (bodies : List ℕ) → Writable es bodies → AllFit es → ReadsBack (packetBytes 1 es bodies) es bodies
+packet-reads-back : (es : List Entry) (bodies : List ℕ) (room : ℕ) → Accepts es bodies room → AllFit es → ReadsBack (packetBytes 1 es bodies) es bodies
 unfolding packetBytes
-packet-reads-back es bodies w s =
+packet-reads-back es bodies room w s =
     record {
       message = message;
       body = λ i l. ap (bodyOf p) (message i l) ∙ ap (take (getD es i noEntry .len)) (drop-contents 1 es bodies (summed (take i es)));
@@ -90,13 +82,13 @@ packet-reads-back es bodies w s =
     p = packetBytes 1 es bodies
 
     yes20 : question20 p .yes ≡ true
-    yes20 = header-yes p (packet-header es bodies w)
+    yes20 = header-yes p (packet-header es bodies room w)
 
     yes21 : entryPlace (countOf p) ≤ length p
     yes21 = omega (arith, packet-count 1 es bodies, packet-length 1 es bodies)
 
     yes22 : question22 p .yes ≡ true
-    yes22 = packet-walk es bodies w s
+    yes22 = packet-walk es bodies room w s
 
     message : (i : ℕ) → i < length es → fetched p i ≡ Found (getD es i noEntry) (entryPlace (length es) + summed (take i es))
     message i l =
@@ -109,21 +101,10 @@ packet-reads-back es bodies w s =
 -- a packet written reads back as the same messages
 pub written-reads-back : WrittenReadsBack
 unfolding outputOf
-written-reads-back ms count bodies out n l s h =
-    let es = take count ms in
-    let t = total-yes ms count bodies (length out) n h in
-    let a = accepts ms count bodies (length out) (t .0) in
-    let k : length es ≡ count = length-take-le count ms l in
-    let m : length (packetBytes 1 es bodies) ≡ n = packet-length 1 es bodies ∙ ap (λ (x : ℕ). totalOf x bodies) k ∙ t .1 in
-    let w : Writable es bodies =
-    record {
-      good = a .good;
-      some = omega (arith, a .some);
-      few = omega (arith, a .few);
-      exact = a .exact;
-      short = omega (arith, a .short);
-    } in
-    rw (take-at (packetBytes 1 es bodies) (drop n out) n m) (packet-reads-back es bodies w s)
+written-reads-back es bodies out n s h =
+    let t = total-yes es bodies (length out) n h in
+    let a = accepts es bodies (length out) (t .0) in
+    rw (take-at (packetBytes 1 es bodies) (drop n out) n (packet-length 1 es bodies ∙ t .1)) (packet-reads-back es bodies (length out) a s)
 
 -- ---- what is read is written
 
@@ -177,40 +158,31 @@ module _ (p : List ℕ) (b : Bytes p) (r : Read p) where
       λ i. sym (r .header .first) i ∷ n ∷ two i ++ tail i in
       e1 ∙ e2 ∙ sym (window-drop p 0 4 (r .header .long))
 
-  writable-read : Writable (packetMessages p) (bodiesIn p)
-  writable-read =
+  -- and the writer accepts them, wherever there is room for it
+  read-accepted : (room : ℕ) → length p ≤ room → Accepts (packetMessages p) (bodiesIn p) room
+  read-accepted room l =
       let k = length-entries (countOf p) (drop 4 p) in
       let d = length-drop (entryPlace (countOf p)) p in
       record {
-        good = read-contents .2;
         some = omega (arith, r .header .some);
         few = omega (arith, r .header .few);
+        good = read-contents .2;
         exact = omega (arith, read-contents .1, r .whole);
         short = omega (arith, r .header .short, r .whole);
+        fits = omega (arith, r .whole);
       }
 
 -- an accepted packet is the one that the writer makes of its messages
 pub accepted-is-written : AcceptedIsWritten
 unfolding outputOf
-accepted-is-written p i e at ms out b h same l =
+accepted-is-written p i e at out b h l =
     let r = read p i e at h in
-    let n = countOf p in
-    let w = writable-read p b r in
-    let k : length (packetMessages p) ≡ n = length-entries n (drop 4 p) in
-    let d = length-drop (entryPlace n) p in
-    let total : totalOf n (bodiesIn p) ≡ length p = omega (arith, r .whole) in
-    let a : Accepts ms n (bodiesIn p) (length out) =
-    record {
-      some = omega (arith, w .some);
-      few = omega (arith, w .few);
-      good = ap allGood same ∙ w .good;
-      exact = ap summed same ∙ w .exact;
-      short = omega (arith, w .short);
-      fits = omega (arith, l);
-    } in
+    let es = packetMessages p in
+    let a = read-accepted p b r (length out) l in
     let made = packet-read p b r in
+    let total : totalOf (length es) (bodiesIn p) ≡ length p = sym (packet-length 1 es (bodiesIn p)) ∙ ap length made in
     record {
-      answer = accepted ms n (bodiesIn p) (length out) a ∙ ap Total total;
-      output = ap (λ (es : List Entry). packetBytes 1 es (bodiesIn p) ++ drop (length p) out) same ∙ ap (λ (q : List ℕ). q ++ drop (length p) out) made;
-      reads = rw made at (packet-reads-back (packetMessages p) (bodiesIn p) w (fit-entries n (drop 4 p) (bytes-drop 4 p b)));
+      answer = accepted es (bodiesIn p) (length out) a ∙ ap Total total;
+      output = ap (λ (q : List ℕ). q ++ drop (length p) out) made;
+      reads = rw made at (packet-reads-back es (bodiesIn p) (length out) a (fit-entries (countOf p) (drop 4 p) (bytes-drop 4 p b)));
     }

@@ -6,20 +6,20 @@ use Prim.Native.Nat.{ℕ, zero, suc, _≤_}
 use native.Mathlib.Omega.{arith}
 use borrow.Author.Tests.{eq-eqb, le-leb, leb-true, eqb-true}
 use lib.Dec.{leb, eqb}
-use lib.ListN.{length, take}
+use lib.ListN.{length}
 use Rattle.packet_format.specs.declared.entry.Entry.{Entry}
 use Rattle.packet_format.specs.declared.answer.Written.the-variants.{Total}
 use Rattle.packet_format.specs.Writing.{summed, totalOf, allGood, question24, question25, writeRefusal, writtenAs, packetWritten, writtenNumber}
 use Rattle.hermes_record.proofs.Tests.{both}
 
 -- the parts of questions 24 and 25
-pub record Accepts (ms : List Entry) (count : ℕ) (bodies : List ℕ) (room : ℕ) : Type 0 where
-  pub some : 1 ≤ count
-  pub few : count ≤ 64
-  pub good : allGood (take count ms) ≡ true
-  pub exact : summed (take count ms) ≡ length bodies
-  pub short : totalOf count bodies ≤ 1400
-  pub fits : totalOf count bodies ≤ room
+pub record Accepts (es : List Entry) (bodies : List ℕ) (room : ℕ) : Type 0 where
+  pub some : 1 ≤ length es
+  pub few : length es ≤ 64
+  pub good : allGood es ≡ true
+  pub exact : summed es ≡ length bodies
+  pub short : totalOf (length es) bodies ≤ 1400
+  pub fits : totalOf (length es) bodies ≤ room
 
 both-passed : (a b : Bool) → _≡_ {A = ℕ} (cond a (cond b 0 25) 24) 0 → (a ≡ true) × (b ≡ true)
 both-passed true true h = (refl, refl)
@@ -30,15 +30,15 @@ total-of : (k n m : ℕ) → writtenAs k n ≡ Total m → (k ≡ 0) × (n ≡ m
 total-of zero n m h = (refl, cc)
 total-of (suc k) n m h = let z : _≡_ {A = ℕ} 0 1 = cc in absurd (omega arith)
 
-module _ (ms : List Entry) (count : ℕ) (bodies : List ℕ) (room : ℕ) where
-  pub accepts : writeRefusal ms count bodies room ≡ 0 → Accepts ms count bodies room
+module _ (es : List Entry) (bodies : List ℕ) (room : ℕ) where
+  pub accepts : writeRefusal es bodies room ≡ 0 → Accepts es bodies room
   unfolding writeRefusal
   accepts h =
-      let s = both-passed (question24 ms count bodies .yes) (question25 count bodies room .yes) h in
-      let s3 = both _ (eqb (summed (take count ms)) (length bodies)) (s .0) in
-      let s2 = both _ (allGood (take count ms)) (s3 .0) in
-      let s1 = both (leb 1 count) (leb count 64) (s2 .0) in
-      let t = both (leb (totalOf count bodies) 1400) (leb (totalOf count bodies) room) (s .1) in
+      let s = both-passed (question24 es bodies .yes) (question25 (length es) bodies room .yes) h in
+      let s3 = both _ (eqb (summed es) (length bodies)) (s .0) in
+      let s2 = both _ (allGood es) (s3 .0) in
+      let s1 = both (leb 1 (length es)) (leb (length es) 64) (s2 .0) in
+      let t = both (leb (totalOf (length es) bodies) 1400) (leb (totalOf (length es) bodies) room) (s .1) in
       record {
         some = leb-true _ _ (s1 .0);
         few = leb-true _ _ (s1 .1);
@@ -48,23 +48,23 @@ module _ (ms : List Entry) (count : ℕ) (bodies : List ℕ) (room : ℕ) where
         fits = leb-true _ _ (t .1);
       }
 
-  pub all-yes : Accepts ms count bodies room → writeRefusal ms count bodies room ≡ 0
+  pub all-yes : Accepts es bodies room → writeRefusal es bodies room ≡ 0
   unfolding writeRefusal
   all-yes a =
       simp (le-leb _ _ (a .some), le-leb _ _ (a .few), a .good, eq-eqb _ _ (a .exact), le-leb _ _ (a .short), le-leb _ _ (a .fits))
 
-  pub accepted : Accepts ms count bodies room → packetWritten ms count bodies room ≡ Total (totalOf count bodies)
+  pub accepted : Accepts es bodies room → packetWritten es bodies room ≡ Total (totalOf (length es) bodies)
   unfolding packetWritten
-  accepted a = ap (λ (k : ℕ). writtenAs k (totalOf count bodies)) (all-yes a)
+  accepted a = ap (λ (k : ℕ). writtenAs k (totalOf (length es) bodies)) (all-yes a)
 
-  pub total-yes : (n : ℕ) → packetWritten ms count bodies room ≡ Total n → (writeRefusal ms count bodies room ≡ 0) × (totalOf count bodies ≡ n)
+  pub total-yes : (n : ℕ) → packetWritten es bodies room ≡ Total n → (writeRefusal es bodies room ≡ 0) × (totalOf (length es) bodies ≡ n)
   unfolding packetWritten
-  total-yes n h = total-of (writeRefusal ms count bodies room) (totalOf count bodies) n h
+  total-yes n h = total-of (writeRefusal es bodies room) (totalOf (length es) bodies) n h
 
 -- the number of an answer is that of the first question that said no
-pub written-number : (ms : List Entry) (count : ℕ) (bodies : List ℕ) (room : ℕ) → writtenNumber (packetWritten ms count bodies room) ≡ writeRefusal ms count bodies room
+pub written-number : (es : List Entry) (bodies : List ℕ) (room : ℕ) → writtenNumber (packetWritten es bodies room) ≡ writeRefusal es bodies room
 unfolding packetWritten
-written-number ms count bodies room = go (writeRefusal ms count bodies room) (totalOf count bodies)
+written-number es bodies room = go (writeRefusal es bodies room) (totalOf (length es) bodies)
   where
     go : (k n : ℕ) → writtenNumber (writtenAs k n) ≡ k
     go zero n = refl

@@ -8,7 +8,7 @@ use Rattle.packet_format.specs.declared.answer.Fetched.the-variants.{Fou
 use Rattle.packet_format.specs.declared.answer.Written.the-variants.{Total}
 use Rattle.packet_format.specs.Bytes.{Bytes}
 use Rattle.packet_format.specs.Entry.{noEntry, AllFit}
-use Rattle.packet_format.specs.Reading.{countOf, entryPlace, packetMessages, bodiesIn, fetched, bodyOf}
+use Rattle.packet_format.specs.Reading.{entryPlace, packetMessages, bodiesIn, fetched, bodyOf}
 use Rattle.packet_format.specs.Writing.{summed, packetWritten, outputOf}
 
 -- A packet p reads back as the messages es with these bodies end to end: at every i below their number the message, with its body; past it a 23.
@@ -19,18 +19,17 @@ pub record ReadsBack (p : List ℕ) (es : List Entry) (bodies : List ℕ) : Type
 
 -- A packet written reads back as the same messages: whatever the writer accepts, the first n bytes of its output read back as what was handed to it.
 abbrev pub WrittenReadsBack : Type 0
-WrittenReadsBack = (ms : List Entry) (count : ℕ) (bodies out : List ℕ) (n : ℕ) → count ≤ length ms → AllFit (take count ms)
-    → packetWritten ms count bodies (length out) ≡ Total n
-    → ReadsBack (take n (outputOf (Total n) (take count ms) bodies out)) (take count ms) bodies
+WrittenReadsBack = (es : List Entry) (bodies out : List ℕ) (n : ℕ) → AllFit es → packetWritten es bodies (length out) ≡ Total n
+    → ReadsBack (take n (outputOf (Total n) es bodies out)) es bodies
 
--- The writer, handed the messages of the packet p as the first of ms, and their bodies, accepts them and makes exactly p;
+-- The writer, handed the messages of the packet p and their bodies, accepts them and makes exactly p;
 -- and those messages are the ones that p reads as.
-pub record Rewritten (p : List ℕ) (ms : List Entry) (out : List ℕ) : Type 0 where
-  pub answer : packetWritten ms (countOf p) (bodiesIn p) (length out) ≡ Total (length p)
-  pub output : outputOf (Total (length p)) (take (countOf p) ms) (bodiesIn p) out ≡ p ++ drop (length p) out
+pub record Rewritten (p : List ℕ) (out : List ℕ) : Type 0 where
+  pub answer : packetWritten (packetMessages p) (bodiesIn p) (length out) ≡ Total (length p)
+  pub output : outputOf (Total (length p)) (packetMessages p) (bodiesIn p) out ≡ p ++ drop (length p) out
   pub reads : ReadsBack p (packetMessages p) (bodiesIn p)
 
 -- An accepted packet is the one that the writer makes of its messages, wherever the output has room for it.
 abbrev pub AcceptedIsWritten : Type 0
-AcceptedIsWritten = (p : List ℕ) (i : ℕ) (e : Entry) (at : ℕ) (ms : List Entry) (out : List ℕ) → Bytes p → fetched p i ≡ Found e at
-    → take (countOf p) ms ≡ packetMessages p → length p ≤ length out → Rewritten p ms out
+AcceptedIsWritten = (p : List ℕ) (i : ℕ) (e : Entry) (at : ℕ) (out : List ℕ) → Bytes p → fetched p i ≡ Found e at → length p ≤ length out
+    → Rewritten p out

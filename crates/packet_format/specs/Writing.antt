@@ -3,7 +3,7 @@ use Prim.Native.Nat.{ℕ, zero, suc, _+_}
 use mathlib.Core.Bool.{Bool, true, _&&_}
 use mathlib.Core.List.{List, [], _∷_, _++_}
 use lib.Dec.{leb, eqb}
-use lib.ListN.{length, take, drop}
+use lib.ListN.{length, drop}
 use Rattle.hermes.specs.Guards.{Question, ask, firstNo}
 use Rattle.packet_format.specs.declared.entry.Entry.{Entry}
 use Rattle.packet_format.specs.declared.answer.Written.{Written}
@@ -37,25 +37,24 @@ allGood [] = true
 allGood (e ∷ es) = good (fieldsFor e 0) && allGood es
 
 -- 24: count 1 to 64, fields as in 22, bodies of exactly the summed length?
-abbrev pub question24 : List Entry → ℕ → List ℕ → Question
-question24 es count bodies =
-    ask 24 (leb 1 count && leb count 64 && allGood (take count es) && eqb (summed (take count es)) (length bodies))
+abbrev pub question24 : List Entry → List ℕ → Question
+question24 es bodies = ask 24 (leb 1 (length es) && leb (length es) 64 && allGood es && eqb (summed es) (length bodies))
 
 -- 25: total at most 1,400 and within the lent output?
 abbrev pub question25 : ℕ → List ℕ → ℕ → Question
 question25 count bodies room = ask 25 (leb (totalOf count bodies) 1400 && leb (totalOf count bodies) room)
 
--- the number that a write answers, of the first `count` messages and an output of `room` bytes
-unfoldable pub writeRefusal : List Entry → ℕ → List ℕ → ℕ → ℕ
-writeRefusal es count bodies room = firstNo (question24 es count bodies ∷ question25 count bodies room ∷ [])
+-- the number that a write answers, of these messages and an output of `room` bytes
+unfoldable pub writeRefusal : List Entry → List ℕ → ℕ → ℕ
+writeRefusal es bodies room = firstNo (question24 es bodies ∷ question25 (length es) bodies room ∷ [])
 
 -- each case of an answer, by its number: 0 with the packet's total length, or the number of the question that said no
 abbrev pub writtenAs : ℕ → ℕ → Written
 writtenAs zero total = answer.Total total
 writtenAs (suc k) total = answer.Refused (suc k)
 
-unfoldable pub packetWritten : List Entry → ℕ → List ℕ → ℕ → Written
-packetWritten es count bodies room = writtenAs (writeRefusal es count bodies room) (totalOf count bodies)
+unfoldable pub packetWritten : List Entry → List ℕ → ℕ → Written
+packetWritten es bodies room = writtenAs (writeRefusal es bodies room) (totalOf (length es) bodies)
 
 -- the number of an answer
 abbrev pub writtenNumber : Written → ℕ

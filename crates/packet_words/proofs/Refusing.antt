@@ -5,7 +5,6 @@ use mathlib.Core.Bool.{Bool, false, and-false, _&&_}
 use mathlib.Core.List.{List}
 use native.Mathlib.Omega.{arith}
 use lib.ListN.{length}
-use lib.Seq.{take-length}
 use Rattle.packet_format.specs.declared.entry.Entry.{Entry}
 use Rattle.packet_format.specs.declared.answer.Written.the-variants.{Refused}
 use Rattle.packet_format.specs.Entry.{fieldsFor, good}
@@ -32,5 +31,4 @@ pub refuses : (words bodies : List ℕ) (room k : ℕ) → k < countIn (length w
 unfolding packetWritten writeRefusal wordMessages
 refuses words bodies room k l h =
     let e : 0 + 7 * k ≡ 7 * k = omega arith in
-    let es = wordMessages words in
-    simp (take-length es, some-bad (countIn (length words)) 0 words k l (ap (entryAt words) e ∙ h), and-false)
+    simp (some-bad (countIn (length words)) 0 words k l (ap (entryAt words) e ∙ h), and-false)

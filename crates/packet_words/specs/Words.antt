@@ -62,4 +62,4 @@ wordMessages words = entriesFrom (countIn (length words)) 0 words
 
 -- 01, "Writing takes messages and their bodies": what the writer answers to the messages that words hold
 abbrev pub packed : List ℕ → List ℕ → ℕ → Written
-packed words bodies room = packetWritten (wordMessages words) (length (wordMessages words)) bodies room
+packed words bodies room = packetWritten (wordMessages words) bodies room

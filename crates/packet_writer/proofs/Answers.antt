@@ -7,7 +7,6 @@ use native.Mathlib.Omega.{arith}
 use borrow.Author.Tests.{eq-eqb, ne-eqb, le-leb, lt-leb}
 use lib.Dec.{ltb}
 use lib.ListN.{length}
-use lib.Seq.{take-length}
 use Rattle.packet_format.specs.declared.entry.Entry.{Entry}
 use Rattle.packet_format.specs.declared.answer.Written.the-variants as answer
 use Rattle.packet_format.specs.Writing.{summed, totalOf, allGood, question24, question25, writeRefusal, packetWritten}
@@ -35,32 +34,32 @@ refused es r h p = go (allGood es) refl (sym h ∙ p)
     go false e q = e
 
 module _ (es : List Entry) (bodies : List ℕ) (room : ℕ) where
-  refused-24 : question24 es (length es) bodies .yes ≡ false → answer.Refused 24 ≡ packetWritten es (length es) bodies room
+  refused-24 : question24 es bodies .yes ≡ false → answer.Refused 24 ≡ packetWritten es bodies room
   unfolding packetWritten writeRefusal
   refused-24 a = simp a
 
-  pub empty : length es < 1 → answer.Refused 24 ≡ packetWritten es (length es) bodies room
+  pub empty : length es < 1 → answer.Refused 24 ≡ packetWritten es bodies room
   empty h = refused-24 (simp (lt-leb 1 (length es) h))
 
   module _ (a : 1 ≤ length es) (b : length es ≤ 64) where
-    pub bad : allGood es ≡ false → answer.Refused 24 ≡ packetWritten es (length es) bodies room
-    bad g = refused-24 (simp (le-leb _ _ a, le-leb _ _ b, take-length es, g))
+    pub bad : allGood es ≡ false → answer.Refused 24 ≡ packetWritten es bodies room
+    bad g = refused-24 (simp (le-leb _ _ a, le-leb _ _ b, g))
 
     module _ (g : allGood es ≡ true) where
-      pub uneven : (summed es ≡ length bodies → ⊥) → answer.Refused 24 ≡ packetWritten es (length es) bodies room
-      uneven n = refused-24 (simp (le-leb _ _ a, le-leb _ _ b, take-length es, g, ne-eqb _ _ n))
+      pub uneven : (summed es ≡ length bodies → ⊥) → answer.Refused 24 ≡ packetWritten es bodies room
+      uneven n = refused-24 (simp (le-leb _ _ a, le-leb _ _ b, g, ne-eqb _ _ n))
 
       module _ (e : summed es ≡ length bodies) (total : ℕ) (t : total ≡ totalOf (length es) bodies) where
-        refused-25 : question25 (length es) bodies room .yes ≡ false → answer.Refused 25 ≡ packetWritten es (length es) bodies room
+        refused-25 : question25 (length es) bodies room .yes ≡ false → answer.Refused 25 ≡ packetWritten es bodies room
         unfolding packetWritten writeRefusal
-        refused-25 q = simp (le-leb _ _ a, le-leb _ _ b, take-length es, g, eq-eqb _ _ e, q)
+        refused-25 q = simp (le-leb _ _ a, le-leb _ _ b, g, eq-eqb _ _ e, q)
 
-        pub unroomy : (ltb 1400 total || ltb room total) ≡ true → answer.Refused 25 ≡ packetWritten es (length es) bodies room
+        pub unroomy : (ltb 1400 total || ltb room total) ≡ true → answer.Refused 25 ≡ packetWritten es bodies room
         unroomy h = refused-25 (rw (← t) (crowded total room h))
 
-        pub written-whole : total ≤ 1400 → total ≤ room → answer.Total total ≡ packetWritten es (length es) bodies room
+        pub written-whole : total ≤ 1400 → total ≤ room → answer.Total total ≡ packetWritten es bodies room
         written-whole s f =
             ap answer.Total t
             ∙ sym
-            (accepted es (length es) bodies room
-            (record { some = a; few = b; good = ap allGood (take-length es) ∙ g; exact = ap summed (take-length es) ∙ e; short = rw t at s; fits = rw t at f }))
+            (accepted es bodies room
+            (record { some = a; few = b; good = g; exact = e; short = rw t at s; fits = rw t at f }))
