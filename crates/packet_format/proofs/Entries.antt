@@ -112,7 +112,7 @@ kind-back k t a b = go (eqb k 1) refl (eqb k 2) refl
     go false e true f = sym (eqb-true k 2 f)
     go false e false f = omega (arith, a, b, eqb-false k 1 e, eqb-false k 2 f)
 
-stamp-back : (k : ℕ) (t : Timestamp) → timestampOf (messageOf k t) ≡ t
+pub stamp-back : (k : ℕ) (t : Timestamp) → timestampOf (messageOf k t) ≡ t
 stamp-back k t = go (eqb k 1) (eqb k 2)
   where
     go : (x y : Bool) → timestampOf (cond x (Inv t) (cond y (Ack t) (Val t))) ≡ t

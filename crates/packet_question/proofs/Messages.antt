@@ -1,9 +1,9 @@
 -- The loop over the messages that asks and sums.
 use mathlib.Core.Path.{_≡_, refl, sym, ap, _∙_}
-use mathlib.Core.Bool.{true, false, and-false}
+use mathlib.Core.Bool.{true, false, false≢true}
 use mathlib.Core.List.{List, [], _∷_}
 use Prim.Native.Nat.{ℕ, zero, suc, _+_, _*_, _≤_, _<_}
-use native.Mathlib.Nat.{add-zero, zero-add, add-assoc, not-suc-le-zero, le-of-suc-le-suc}
+use native.Mathlib.Nat.{not-suc-le-zero, le-of-suc-le-suc}
 use native.Mathlib.Numerals.{add-one}
 use native.Mathlib.Omega.{arith}
 use lib.ListN.{length, take, getD}
@@ -12,21 +12,14 @@ use Rattle.packet_format.specs.declared.entry.Entry.{Entry}
 use Rattle.packet_format.specs.declared.entry.Fields.{Fields}
 use Rattle.packet_format.specs.Entry.{fieldsFor, good, noEntry}
 use Rattle.packet_format.specs.Writing.{summed, allGood}
-use Rattle.hermes_record.proofs.Tests.{both}
+use Rattle.hermes_record.proofs.Tests.{both, is-false}
 use Rattle.packet_format.proofs.Entries.{good-parts}
 use Rattle.packet_words.specs.Words.{fieldsAt, entriesFrom}
 use Rattle.packet_words.proofs.Places.{length-entries}
 use Rattle.packet_words.proofs.Fit.{good-message, fields-message}
+use Rattle.packet_words.proofs.ReadBack.{good-one, summed-more}
 use Rattle.packet_question.specs.declared.question.Asked.the-variants.{Passed, Refused}
 use Rattle.packet_question.specs.Asking.{asked}
-
--- one message more
-pub summed-more : (ms : List Entry) (k : ℕ) → k < length ms → summed (take (suc k) ms) ≡ summed (take k ms) + getD ms k noEntry .len
-unfolding summed
-summed-more [] k h = absurd (not-suc-le-zero h)
-summed-more (m ∷ ms) zero h = add-zero (m .len) ∙ sym (zero-add (m .len))
-summed-more (m ∷ ms) (suc k) h =
-    ap (λ (n : ℕ). m .len + n) (summed-more ms k (le-of-suc-le-suc h)) ∙ sym (add-assoc (m .len) (summed (take k ms)) (getD ms k noEntry .len))
 
 good-more : (ms : List Entry) (k : ℕ) → k < length ms → allGood (take k ms) ≡ true → good (fieldsFor (getD ms k noEntry) 0) ≡ true → allGood (take (suc k) ms) ≡ true
 unfolding allGood
@@ -38,10 +31,7 @@ good-more (m ∷ ms) (suc k) h a g =
 
 -- a bad message among them
 bad-one : (ms : List Entry) (k : ℕ) → k < length ms → good (fieldsFor (getD ms k noEntry) 0) ≡ false → allGood ms ≡ false
-unfolding allGood
-bad-one [] k h g = absurd (not-suc-le-zero h)
-bad-one (m ∷ ms) zero h g = rw g
-bad-one (m ∷ ms) (suc k) h g = rw (bad-one ms k (le-of-suc-le-suc h) g) (and-false (good (fieldsFor m 0)))
+bad-one ms k h g = is-false (allGood ms) (λ a. false≢true (sym g ∙ good-one ms k h a))
 
 -- message k of those that words hold
 pub within : (n : ℕ) (words : List ℕ) (k : ℕ) → k < n → k < length (entriesFrom n 0 words)

@@ -1,12 +1,13 @@
 -- Question 22 may be asked of the words themselves: where it says yes they are the fields of the message that they stand for.
 use Prim.Native.Nat.{ℕ, _*_, _<_}
-use mathlib.Core.Path.{_≡_, refl, ap}
+use mathlib.Core.Path.{_≡_, refl, ap, _∙_}
 use mathlib.Core.Bool.{Bool, true, false}
 use mathlib.Core.List.{List}
 use native.Mathlib.Omega.{arith}
 use borrow.Author.Tests.{le-ltb, ltb-true, ltb-false}
 use lib.Dec.{ltb}
 use lib.ListN.{getD}
+use Rattle.packet_format.specs.declared.entry.Entry.{Entry}
 use Rattle.packet_format.specs.declared.entry.Fields.{Fields}
 use Rattle.packet_format.specs.Entry.{entryOf, fieldsFor, good, noEntry}
 use Rattle.packet_format.proofs.Entries.{good-parts, not-good, message-back}
@@ -28,14 +29,18 @@ good-fit f = go (ltb (f .kind) 1) (ltb 3 (f .kind)) (ltb 255 (f .sender)) (ltb 2
     go false false false false false p q r s t =
         ap good (message-back f (f .offset) (ltb-false (f .kind) 1 p) (ltb-false 3 (f .kind) q) refl)
 
--- where it says yes, words are the fields of their message
-pub fields-fit : (words : List ℕ) (w at : ℕ) → good (fieldsAt words w 0) ≡ true → fieldsFor (entryAt words w) at ≡ fieldsAt words w at
+-- where it says yes, fields stand for the message that they would be in a packet
+pub entry-fit : (f : Fields) → good f ≡ true → entryIn f ≡ entryOf f
 unfolding entryIn
-fields-fit words w at h =
-    let f = fieldsAt words w at in
-    let g = good-parts (fieldsAt words w 0) h in
+entry-fit f h =
+    let g = good-parts f h in
     simp (le-ltb (f .kind) 1 (g .low), le-ltb 3 (f .kind) (g .high), le-ltb 255 (f .sender) (omega arith), le-ltb 255 (f .tie) (omega arith), le-ltb 255 (f .len) (omega arith))
-    (message-back f at (g .low) (g .high) refl)
+
+-- and words are the fields of their message
+pub fields-fit : (words : List ℕ) (w at : ℕ) → good (fieldsAt words w 0) ≡ true → fieldsFor (entryAt words w) at ≡ fieldsAt words w at
+fields-fit words w at h =
+    let g = good-parts (fieldsAt words w 0) h in
+    ap (λ (e : Entry). fieldsFor e at) (entry-fit (fieldsAt words w 0) h) ∙ message-back (fieldsAt words w at) at (g .low) (g .high) refl
 
 -- the same of message k of n, at its words
 module _ (n : ℕ) (words : List ℕ) (k : ℕ) (more : k < n) where

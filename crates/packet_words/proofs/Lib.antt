@@ -1,3 +1,4 @@
 pub mod Places
 pub mod Fit
 pub mod Refusing
+pub mod ReadBack

@@ -3,30 +3,36 @@ use Prim.Native.Nat.{ℕ, zero, suc, _+_, _*_, _/_, _%_, _<_, _≤_}
 use mathlib.Core.Path.{_≡_, refl, sym, ap, _∙_}
 use mathlib.Core.Bool.{Bool, true, false, cond, _&&_}
 use mathlib.Core.List.{List}
+use mathlib.Core.Logic.{_⊎_, inl, inr, ⊎-elim}
 use native.Mathlib.Omega.{arith}
 use native.Mathlib.Nat.{le-of-suc-le-suc}
 use lib.Dec.{leb, eqb}
 use lib.ListN.{length, getD}
-use borrow.Author.Tests.{leb-true}
+use borrow.Author.Tests.{leb-true, eqb-true}
 use Rattle.packet_format.specs.Entry.{noEntry}
 use Rattle.packet_words.specs.Words.{entryAt, countIn, entriesFrom, wordMessages}
 
+-- words hold no message, or they are seven for each, of at most m
+held : (n m count : ℕ) → count ≡ cond (eqb (n % 7) 0 && leb (n / 7) m) (n / 7) 0 → (count ≡ 0) ⊎ ((count ≡ n / 7) × (n ≡ 7 * (n / 7)) × (n / 7 ≤ m))
+held n m count = go (eqb (n % 7) 0) refl (leb (n / 7) m) refl
+  where
+    go : (a : Bool) → eqb (n % 7) 0 ≡ a → (b : Bool) → leb (n / 7) m ≡ b → count ≡ cond (a && b) (n / 7) 0
+        → (count ≡ 0) ⊎ ((count ≡ n / 7) × (n ≡ 7 * (n / 7)) × (n / 7 ≤ m))
+    go true e true f c = let r = eqb-true (n % 7) 0 e in inr (c, omega arith, leb-true (n / 7) m f)
+    go true e false f c = inl c
+    go false e b f c = inl c
+
 -- there are at most 64 of them
 few : (n : ℕ) → countIn n ≤ 64
-few n = go (eqb (n % 7) 0) (leb (n / 7) 64) refl
-  where
-    go : (a b : Bool) → leb (n / 7) 64 ≡ b → cond (a && b) (n / 7) 0 ≤ 64
-    go true true e = leb-true (n / 7) 64 e
-    go true false e = omega arith
-    go false b e = omega arith
+few n = let h = held n _ (countIn n) refl in ⊎-elim (λ z. omega arith) (λ s. omega (arith, s .0, s .2)) h
 
 -- their words lie inside
 inside : (n : ℕ) → 7 * countIn n ≤ n
-inside n = go (eqb (n % 7) 0 && leb (n / 7) 64)
-  where
-    go : (b : Bool) → 7 * cond b (n / 7) 0 ≤ n
-    go true = omega arith
-    go false = omega arith
+inside n = let h = held n _ (countIn n) refl in ⊎-elim (λ z. omega arith) (λ s. omega (arith, s .0, s .1)) h
+
+-- where there is one they are seven for each
+pub sevens : (n : ℕ) → 1 ≤ countIn n → (countIn n ≡ n / 7) × (n ≡ 7 * (n / 7))
+sevens n l = let h = held n _ (countIn n) refl in ⊎-elim (λ z. absurd (omega arith)) (λ s. (s .0, s .1)) h
 
 pub length-entries : (n at : ℕ) (words : List ℕ) → length (entriesFrom n at words) ≡ n
 length-entries zero at words = refl

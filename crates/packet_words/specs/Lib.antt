@@ -1,2 +1,3 @@
 -- How messages cross as words.
 pub mod Words
+pub mod ReadBack

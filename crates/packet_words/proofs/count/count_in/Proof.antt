@@ -8,10 +8,10 @@ returns : tie.Need-returns
 returns c = simp (ne-eqb (c .before .args .n % 7) 0 (c .if1 .taken))
 
 returns-2 : tie.Need-returns-2
-returns-2 c = simp (eq-eqb (c .before .before .args .n % 7) 0 (c .before .if1 .left), lt-leb (c .before .before .args .n / 7) 64 (c .if2 .taken))
+returns-2 c = simp (eq-eqb (c .before .before .args .n % 7) 0 (c .before .if1 .left), lt-leb (c .before .before .args .n / 7) _ (c .if2 .taken))
 
 returns-3 : tie.Need-returns-3
-returns-3 c = simp (eq-eqb (c .before .before .args .n % 7) 0 (c .before .if1 .left), le-leb (c .before .before .args .n / 7) 64 (c .if2 .left))
+returns-3 c = simp (eq-eqb (c .before .before .args .n % 7) 0 (c .before .if1 .left), le-leb (c .before .before .args .n / 7) _ (c .if2 .left))
 
 pub count-in-spec : {M : Type 1} → statement M
 count-in-spec = tie.close (tie.spec returns returns-2 returns-3)
