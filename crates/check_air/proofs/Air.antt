@@ -1,0 +1,266 @@
+-- What left a call, packed and delivered from the packet, is the delivery of the message that left.
+use Prim.Native.Nat.{ℕ, zero, suc, _+_, _*_, _/_, _^_, _<_, _≤_}
+use mathlib.Core.Path.{_≡_, refl, sym, ap, ap₂, _∙_}
+use mathlib.Core.Bool.{Bool, true, false, cond}
+use mathlib.Core.List.{List, [], _∷_, _++_, append-assoc}
+use native.Mathlib.Omega.{arith}
+use lib.Dec.{eqb}
+use lib.ListN.{length, take, drop, getD, length-append}
+use lib.Seq.{getD-append-add, take-append-seam, drop-append-seam}
+use Rattle.hermes_record.specs.declared.timestamp.Timestamp.{Timestamp}
+use Rattle.hermes_record.specs.declared.record.Record.{Record}
+use Rattle.hermes_record.specs.declared.record.State.{State}
+use Rattle.hermes_record.specs.declared.record.State.the-variants as state
+use Rattle.hermes.specs.declared.message.Message.{Message}
+use Rattle.hermes.specs.declared.message.Message.the-variants.{Inv, Ack, Val}
+use Rattle.hermes.specs.declared.message.Header.{Header}
+use Rattle.hermes.specs.declared.message.Outgoing.{Outgoing}
+use Rattle.hermes.specs.declared.message.Outgoing.the-variants.{None, Sent}
+use Rattle.hermes.specs.declared.event.Replica.{Replica}
+use Rattle.hermes.specs.declared.event.Answer.{Answer}
+use Rattle.hermes.specs.declared.event.Answer.the-variants.{Accepted, Refused}
+use Rattle.hermes.specs.declared.event.Event.{Event}
+use Rattle.hermes.specs.declared.event.Event.the-variants.{Read, Write, Replay, Deliver, Validate, Resend}
+use Rattle.hermes_record.specs.Order.{higher, later}
+use Rattle.hermes.specs.Event.{sentBy, send, Step, step, movedBy, deliverStep, invStep, resent, refusal, effect}
+use Rattle.hermes.specs.Node.{Node, Outcome, recordOf, leaving, apply}
+use Rattle.hermes.specs.Run.{Logged, received, logged}
+use Rattle.hermes.proofs.Apply.{Applied, refused, accepted, applied, stepOf}
+use Rattle.packet_format.specs.declared.entry.Entry.{Entry}
+use Rattle.packet_format.specs.declared.answer.Fetched.{Fetched}
+use Rattle.packet_format.specs.declared.answer.Fetched.the-variants.{Found}
+use Rattle.packet_format.specs.declared.answer.Written.{Written}
+use Rattle.packet_format.specs.declared.answer.Written.the-variants as written
+use Rattle.packet_format.specs.Entry.{messageOf}
+use Rattle.packet_format.specs.Reading.{entryPlace, fetched, bodyOf}
+use Rattle.packet_format.specs.Writing.{totalOf, writeRefusal, writtenAs, packetWritten, outputOf}
+use Rattle.packet_words.specs.Words.{wordMessages, packed}
+use Rattle.packet_words.specs.ReadBack.{manyIn, word, saidBy, bodyFrom, ReadsAs}
+use Rattle.packet_words.proofs.ReadBack.{words-read-back}
+use Rattle.packet_event.specs.Arrival.{receivedOf}
+use Rattle.export_numbers.specs.declared.numbers.CetskobiReplica.{CetskobiReplica}
+use Rattle.export_numbers.specs.declared.numbers.CetskobiAnswer.{CetskobiAnswer}
+use Rattle.export_numbers.specs.Crossing.{messageOut, answerOut}
+use Rattle.export_calls.specs.Calls.{nodeOf, Done}
+use Rattle.export_outgoing.specs.Leaving.{Along, along, gone, alongOf, Delivered}
+use Rattle.export_outgoing.proofs.Sent.{body-after}
+use Rattle.export_fields.specs.declared.answers.CetskobiWritten.{CetskobiWritten}
+use Rattle.export_fields.specs.Answers.{writtenOut}
+use Rattle.export_arrival.specs.Arrival.{Arrived}
+use Rattle.check_air.specs.Air.{Sending, sevenOf, wordsOf, bodiesOf, Leaves, Called, Packed, ThroughTheAir}
+
+-- ---- what leaves an event has the laptop's header and crosses as its answer
+
+-- the message that leaves an event of `me` on record i
+abbrev Headed : Replica → ℕ → Outgoing → Type 0
+Headed me i None = Unit
+Headed me i (Sent m h) = h ≡ record { sender = me .number; epoch = me .epoch; index = i }
+
+module _ (me : Replica) (i : ℕ) (r : Record) (v : List ℕ) where
+  again : (s : State) (t : Timestamp) → Headed me i (resent me i s t)
+  again state.Valid t = refl
+  again state.Invalid t = tt
+  again state.InvalidWrite t = tt
+  again state.Write t = refl
+  again state.Replay t = refl
+
+  delivered : (sender : ℕ) (x : Message) → Headed me i (deliverStep higher me i r sender x v .sent)
+  delivered sender (Inv t) = go (later higher t (r .timestamp))
+    where
+      go : (b : Bool) → Headed me i (invStep b me i r t sender v .sent)
+      go true = refl
+      go false = refl
+  delivered sender (Ack t) = tt
+  delivered sender (Val t) = tt
+
+  headed : (e : Event) → Headed me i (step higher me i r e v .sent)
+  headed Read = tt
+  headed Write = refl
+  headed Replay = refl
+  headed (Deliver m) = delivered (m .sender) (m .message)
+  headed Validate = refl
+  headed Resend = again (r .state) (r .timestamp)
+
+-- the answer crosses as this message, and the log has it with its header and the bytes that it takes along
+record Crosses (me : Replica) (i : ℕ) (a : Answer) (n : Node) (x : Logged) : Type 0 where
+  answer : answerOut a ≡ messageOut (x .message)
+  header : x .header ≡ record { sender = me .number; epoch = me .epoch; index = i }
+  body : x .body ≡ leaving (sentBy a) (n .table) (n .store)
+
+first : Logged → List Logged → Logged
+first d [] = d
+first d (x ∷ xs) = x
+
+some-left : (x : Logged) → _≡_ {A = List Logged} [] (x ∷ []) → ⊥
+some-left x e = let q : _≡_ {A = ℕ} 0 1 = ap length e in omega arith
+
+crosses : (me : Replica) (i : ℕ) (n : Node) (x : Logged) (a : Answer) → Headed me i (sentBy a) → logged [] n (sentBy a) ≡ x ∷ [] → Crosses me i a n x
+unfolding first
+crosses me i n x (Accepted None) h e = absurd (some-left x e)
+crosses me i n x (Accepted (Sent m d)) h e =
+    let q : record { header = d; message = m; body = leaving (Sent m d) (n .table) (n .store) } ≡ x = ap (first x) e in
+    record {
+      answer = ap (λ (y : Logged). messageOut (y .message)) q;
+      header = sym (ap (λ (y : Logged). y .header) q) ∙ h;
+      body = sym (ap (λ (y : Logged). y .body) q);
+    }
+crosses me i n x (Refused k) h e = absurd (some-left x e)
+
+-- the sender of the message that an event delivered
+someone : Event → ℕ
+someone Read = 0
+someone Write = 0
+someone Replay = 0
+someone (Deliver m) = m .sender
+someone Validate = 0
+someone Resend = 0
+
+from-someone : (e : Event) → Delivered e (someone e)
+unfolding someone
+from-someone Read = tt
+from-someone Write = tt
+from-someone Replay = tt
+from-someone (Deliver m) = refl
+from-someone Validate = tt
+from-someone Resend = tt
+
+bytesIn : List ℕ → Along → List ℕ
+bytesIn d (along v) = v
+bytesIn d gone = d
+
+-- the same of a call, by its contract
+module _ (x : Logged) (s : Sending) (c : Called x s) where
+  abbrev n : Node
+  n = nodeOf (s .from) (c .table) (c .store)
+
+  abbrev o : Outcome
+  o = apply higher n (s .index) (c .event) (c .value)
+
+  led : Headed (n .me) (s .index) (sentBy (o .answer))
+  led = go (applied higher n (s .index) (c .event) (c .value))
+    where
+      go : Applied higher n (s .index) (c .event) (c .value) o → Headed (n .me) (s .index) (sentBy (o .answer))
+      go (refused k z p) = rw p tt
+      go (accepted y d p) = rw p (headed (n .me) (s .index) (recordOf (s .index) n) (c .value) (c .event))
+
+  crossed : Crosses (n .me) (s .index) (o .answer) (o .node) x
+  crossed = crosses (n .me) (s .index) (o .node) x (o .answer) led (c .leaves)
+
+  -- `cetskobi_body` told the bytes that it left with
+  bytes-left : s .body ≡ x .body
+  unfolding bytesIn
+  bytes-left =
+      let told = body-after n (s .index) (c .event) (c .value) (someone (c .event)) (from-someone (c .event)) (c .table) (s .left) (c .table′) (c .store′) (c .called) in
+      ap (bytesIn (s .body)) (sym (c .bytes) ∙ told) ∙ sym (crossed .body)
+
+-- ---- the packet
+
+-- the seven words of message k stand at 7 * k, its bytes behind those of the messages before it
+length-wordsOf : (ss : List Sending) → length (wordsOf ss) ≡ 7 * length ss
+length-wordsOf [] = refl
+length-wordsOf (s ∷ ss) = omega (arith, length-wordsOf ss)
+
+wordsOf-append : (before after : List Sending) → wordsOf (before ++ after) ≡ wordsOf before ++ wordsOf after
+wordsOf-append [] after = refl
+wordsOf-append (s ∷ before) after = ap (λ (l : List ℕ). sevenOf s ++ l) (wordsOf-append before after)
+
+word-at : (before after : List Sending) (s : Sending) (j : ℕ) → getD (wordsOf (before ++ s ∷ after)) (7 * length before + j) 0 ≡ getD (sevenOf s ++ wordsOf after) j 0
+word-at before after s j =
+    rw (wordsOf-append before (s ∷ after), ← length-wordsOf before) (getD-append-add (wordsOf before) (sevenOf s ++ wordsOf after) j 0)
+
+bodiesOf-append : (before after : List Sending) → bodiesOf (before ++ after) ≡ bodiesOf before ++ bodiesOf after
+bodiesOf-append [] after = refl
+bodiesOf-append (s ∷ before) after = ap (λ (l : List ℕ). s .body ++ l) (bodiesOf-append before after) ∙ sym (append-assoc (s .body) (bodiesOf before) (bodiesOf after))
+
+body-at : (before after : List Sending) (s : Sending) → take (length (s .body)) (drop (length (bodiesOf before)) (bodiesOf (before ++ s ∷ after))) ≡ s .body
+body-at before after s = rw (bodiesOf-append before (s ∷ after), drop-append-seam (bodiesOf before) (bodiesOf (s ∷ after))) (take-append-seam (s .body) (bodiesOf after))
+
+-- one message more in front
+body-behind : (s : Sending) (words : List ℕ) (k : ℕ) → bodyFrom (sevenOf s ++ words) (suc k) ≡ length (s .body) + bodyFrom words k
+body-behind s words zero = omega arith
+body-behind s words (suc k) =
+    let place : 7 * suc k + 6 ≡ 7 + (7 * k + 6) = omega arith in
+    let next : word (sevenOf s ++ words) (suc k) 6 ≡ word words k 6 = ap (λ (j : ℕ). getD (sevenOf s ++ words) j 0) place ∙ getD-append-add (sevenOf s) words (7 * k + 6) 0 in
+    omega (arith, body-behind s words k)
+
+body-place : (before after : List Sending) → bodyFrom (wordsOf (before ++ after)) (length before) ≡ length (bodiesOf before)
+body-place [] after = refl
+body-place (s ∷ before) after =
+    body-behind s (wordsOf (before ++ after)) (length before) ∙ ap (λ (j : ℕ). length (s .body) + j) (body-place before after) ∙ sym (length-append (s .body) (bodiesOf before))
+
+-- ---- the three calls
+
+-- an answer's numbers and a header make up the message again
+message-back : (m : Message) → messageOf (messageOut m .kind) (record { version = messageOut m .version; tie = messageOut m .tie }) ≡ m
+message-back (Inv t) = refl
+message-back (Ack t) = refl
+message-back (Val t) = refl
+
+-- the entry of a message that left
+abbrev pub entryLeft : Logged → Entry
+entryLeft x = record { header = x .header; message = x .message; len = length (x .body) }
+
+module _ (before after : List Sending) (s : Sending) (x : Logged) (c : Called x s) where
+  abbrev words : List ℕ
+  words = wordsOf (before ++ s ∷ after)
+
+  -- its words stand for the message that left
+  said : saidBy words (length before) ≡ entryLeft x
+  said =
+      let w = word-at before after s in
+      let d = crossed x s c in
+      let left : s .left ≡ messageOut (x .message) = c .called .answer ∙ d .answer in
+      let named : saidBy words (length before) .header ≡ record { sender = s .from .number; epoch = s .from .epoch; index = s .index } =
+      λ i. record { sender = w 1 i; epoch = w 2 i; index = w 3 i } in
+      let told : saidBy words (length before) .message ≡ messageOf (s .left .kind) (record { version = s .left .version; tie = s .left .tie }) =
+      λ i. messageOf (w 0 i) (record { version = w 4 i; tie = w 5 i }) in
+      let header : saidBy words (length before) .header ≡ x .header = named ∙ sym (d .header) in
+      let message : saidBy words (length before) .message ≡ x .message =
+      told ∙ ap (λ (a : CetskobiAnswer). messageOf (a .kind) (record { version = a .version; tie = a .tie })) left ∙ message-back (x .message) in
+      let len : saidBy words (length before) .len ≡ length (x .body) = w 6 ∙ ap length (bytes-left x s c) in
+      λ i. record { header = header i; message = message i; len = len i }
+
+  body-said : take (word words (length before) 6) (drop (bodyFrom words (length before)) (bodiesOf (before ++ s ∷ after))) ≡ x .body
+  body-said = rw (word-at before after s 6, body-place before (s ∷ after)) (body-at before after s) ∙ bytes-left x s c
+
+-- `cetskobi_pack` answered 0: the packet's total length
+total : (es : List Entry) (bodies : List ℕ) (room : ℕ) → writtenOut (packetWritten es bodies room) .number ≡ 0
+    → packetWritten es bodies room ≡ written.Total (writtenOut (packetWritten es bodies room) .len)
+unfolding packetWritten
+total es bodies room h = go (writeRefusal es bodies room) h
+  where
+    go : (k : ℕ) → writtenOut (writtenAs k (totalOf (length es) bodies)) .number ≡ 0 → writtenAs k (totalOf (length es) bodies) ≡ written.Total (writtenOut (writtenAs k (totalOf (length es) bodies)) .len)
+    go zero e = refl
+    go (suc k) e = absurd (omega arith)
+
+-- what a fetch found is delivered with its bytes
+delivers : (n : Node) (table p : List ℕ) (e : Entry) (at : ℕ) (v : List ℕ) (a : CetskobiAnswer) (table′ store′ : List ℕ) → bodyOf p (Found e at) ≡ v
+    → Arrived n table p (Found e at) a table′ store′ → Done n table (e .header .index) (Deliver (receivedOf e)) v a table′ store′
+delivers n table p e at v a table′ store′ brings h =
+    rw (sym brings) (record { answer = h .answer; bytes = h .bytes; table = h .table; store = h .store })
+
+reads : (ss : List Sending) (packet : List ℕ) → Packed ss packet → ReadsAs packet (wordsOf ss) (bodiesOf ss)
+reads ss packet p =
+    let w = packed (wordsOf ss) (bodiesOf ss) (length (p .out)) in
+    let n = writtenOut w .len in
+    let accepted : writtenOut w .number ≡ 0 = sym (ap (λ (r : CetskobiWritten). r .number) (p .answer)) ∙ p .accepted in
+    let all : w ≡ written.Total n = total (wordMessages (wordsOf ss)) (bodiesOf ss) (length (p .out)) accepted in
+    let front : packet ≡ take n (outputOf (written.Total n) (wordMessages (wordsOf ss)) (bodiesOf ss) (p .out)) =
+    p .front ∙ ap₂ take (ap (λ (r : CetskobiWritten). r .len) (p .answer)) (p .output ∙ ap (λ (x : Written). outputOf x (wordMessages (wordsOf ss)) (bodiesOf ss) (p .out)) all) in
+    rw front (words-read-back (wordsOf ss) (bodiesOf ss) (p .out) n (p .words) all)
+
+module _ (before after : List Sending) (s : Sending) (x : Logged) (packet : List ℕ) (c : Called x s) (p : Packed (before ++ s ∷ after) packet) where
+  -- what the packet's reader finds
+  pub found-left : (at : ℕ) × (fetched packet (length before) ≡ Found (entryLeft x) at) × (bodyOf packet (Found (entryLeft x) at) ≡ x .body)
+  found-left =
+      let ss = before ++ s ∷ after in
+      let r : ReadsAs packet (wordsOf ss) (bodiesOf ss) = reads ss packet p in
+      let k : length before < manyIn (wordsOf ss) = omega (arith, length-wordsOf ss, length-append before (s ∷ after)) in
+      let at = entryPlace (manyIn (wordsOf ss)) + bodyFrom (wordsOf ss) (length before) in
+      let found : fetched packet (length before) ≡ Found (entryLeft x) at = r .message (length before) k ∙ ap (λ (e : Entry). Found e at) (said before after s x c) in
+      (at, found, sym (ap (bodyOf packet) found) ∙ r .body (length before) k ∙ body-said before after s x c)
+
+pub through-the-air : ThroughTheAir
+through-the-air before after s x packet c p me table store table′ store′ a h =
+    let (at, found, brings) = found-left before after s x packet c p in
+    delivers (nodeOf me table store) table packet (entryLeft x) at (x .body) a table′ store′ brings (rw found at h)

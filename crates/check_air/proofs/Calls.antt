@@ -1,0 +1,380 @@
+-- Every list of calls on a group is a list of entries of the run that demand 3 speaks of: so what holds after those holds after the calls.
+use Prim.Native.Nat.{ℕ, zero, suc, _<_}
+use mathlib.Core.Path.{_≡_, refl, sym, ap, ap₂, subst, _∙_}
+use mathlib.Core.Bool.{Bool, true, false, cond}
+use mathlib.Core.List.{List, [], _∷_, _++_, List·Memᴰ, List·Memᴰ·cases-cons, List·Memᴰ·not-nil}
+use mathlib.Core.Logic.{_⊎_, inl, inr}
+use native.Mathlib.Omega.{arith}
+use lib.Dec.{eqb}
+use lib.ListN.{length}
+use lib.Seq.{set-getD}
+use borrow.Author.Tests.{eqb-true}
+use Rattle.hermes.specs.declared.event.Replica.{Replica}
+use Rattle.hermes.specs.declared.event.Answer.{Answer}
+use Rattle.hermes.specs.declared.event.Answer.the-variants.{Accepted, Refused}
+use Rattle.hermes.specs.declared.event.Admission.{Admission}
+use Rattle.hermes.specs.declared.event.Admission.the-variants as admission
+use Rattle.hermes.specs.declared.event.Event.{Event}
+use Rattle.hermes.specs.declared.event.Event.the-variants.{Read, Write, Replay, Deliver, Validate, Resend}
+use Rattle.hermes.specs.declared.message.Outgoing.{Outgoing}
+use Rattle.hermes.specs.declared.message.Outgoing.the-variants.{None, Sent}
+use Rattle.hermes.specs.declared.message.Message.the-variants.{Inv, Ack, Val}
+use Rattle.hermes_record.specs.declared.record.Record.{Record}
+use Rattle.hermes_record.specs.Order.{higher, NotAfter}
+use Rattle.hermes_record.specs.Record.{freshRecord}
+use Rattle.hermes.specs.Event.{numberOf, sentBy}
+use Rattle.hermes.specs.Node.{Node, Outcome, identity, newcomer, startRefusal, begin, start, apply, viewed, recordOf}
+use Rattle.hermes.specs.Node as hermes
+use Rattle.hermes.specs.Run as run
+use Rattle.hermes.specs.Run.{Logged, received, logged, Action, Entry, Group, Result, Found, found, missing, find, perform, nodeAfter, logAfter, result, advance}
+use Rattle.hermes.specs.Agreement.{FreshStart, Started, AsIssued, Entries, IsAccepted, Validation, validates, Agreement, Shows, Sees, Alike}
+use Rattle.hermes.proofs.Apply.{Applied, refused, accepted, applied}
+use Rattle.hermes.proofs.Agreement.{agreement}
+use Rattle.packet_format.specs.declared.answer.Fetched.{Fetched}
+use Rattle.packet_format.specs.declared.answer.Fetched.the-variants as fetch
+use Rattle.packet_format.specs.Reading.{fetched, bodyOf}
+use Rattle.packet_event.specs.Arrival.{receivedOf, receiptOf, receipt}
+use Rattle.export_records.specs.Layout.{tableOf}
+use Rattle.export_records.proofs.Lent.{length-table}
+use Rattle.export_numbers.specs.declared.numbers.CetskobiReplica.{CetskobiReplica}
+use Rattle.export_numbers.specs.declared.numbers.CetskobiAnswer.{CetskobiAnswer}
+use Rattle.export_numbers.specs.declared.numbers.CetskobiAdmission.{CetskobiAdmission}
+use Rattle.export_numbers.specs.Crossing.{replicaOf, identityOf, answerOut, admissionOut, receivedIn}
+use Rattle.check_air.specs.Air.{Sending, Called, Packed}
+use Rattle.check_air.specs.Calls.{
+  Laptop,
+  node,
+  Call,
+  read,
+  write,
+  replay,
+  deliver,
+  deliverPacket,
+  validate,
+  resend,
+  view,
+  Moves,
+  Returns,
+  Hut,
+  Step,
+  outcome,
+  logOf,
+  next,
+  after,
+  Honest,
+  Broken,
+  Repeated,
+  Fair,
+  Follows,
+  Begun,
+  AllBegun,
+  laptop,
+  CallsAgree,
+  CalledDemand3,
+}
+use Rattle.check_air.proofs.Air.{entryLeft, found-left}
+
+-- ---- the log
+
+-- a message of the log has a log number
+log-number : (x : Logged) (log : List Logged) → List·Memᴰ x log → (j : ℕ) × (find log j ≡ found x)
+log-number x [] m = absurd (List·Memᴰ·not-nil m)
+log-number x (y ∷ log) m = go (List·Memᴰ·cases-cons m) (log-number x log)
+  where
+    go : (x ≡ y) ⊎ List·Memᴰ x log → (List·Memᴰ x log → (j : ℕ) × (find log j ≡ found x)) → (j : ℕ) × (find (y ∷ log) j ≡ found x)
+    go (inl h) rest = (0, ap found (sym h))
+    go (inr h) rest = let (j, e) = rest h in (suc j, e)
+
+-- and its length is the number of none
+no-number : (log : List Logged) → find log (length log) ≡ missing
+no-number [] = refl
+no-number (x ∷ log) = no-number log
+
+-- ---- one call
+
+-- the entry of a call
+action : (issued : ℕ → ℕ) (log : List Logged) (c : Call) → Fair issued log c → Action
+action issued log (read i) f = run.read i
+action issued log (write i v) f = run.write i v
+action issued log (replay i) f = run.replay i
+action issued log (deliver i m v) f = run.deliver (log-number (f .message) log (f .earlier) .0)
+action issued log (deliverPacket p i) (inl f) = run.deliver (log-number (f .message) log (f .earlier) .0)
+action issued log (deliverPacket p i) (inr f) = run.deliver (length log)
+action issued log (validate i) f = run.validate i
+action issued log (resend i) f = run.resend i
+action issued log (view epoch set) f = run.view epoch set
+
+as-issued : (issued : ℕ → ℕ) (log : List Logged) (c : Call) (f : Fair issued log c) → AsIssued issued (action issued log c f)
+unfolding action
+as-issued issued log (read i) f = tt
+as-issued issued log (write i v) f = tt
+as-issued issued log (replay i) f = tt
+as-issued issued log (deliver i m v) f = tt
+as-issued issued log (deliverPacket p i) (inl f) = tt
+as-issued issued log (deliverPacket p i) (inr f) = tt
+as-issued issued log (validate i) f = tt
+as-issued issued log (resend i) f = tt
+as-issued issued log (view epoch set) f = f
+
+-- the entry does what the call's event comes to
+record Does (log : List Logged) (n : Node) (a : Action) (o : Outcome) : Type 0 where
+  leaves : nodeAfter (perform higher a log n) n ≡ o .node
+  logs : logAfter (perform higher a log n) log ≡ logOf log o
+
+-- an event is an entry as it stands
+event-does : (log : List Logged) (n : Node) (a : Action) (o : Outcome) → perform higher a log n ≡ run.event o → Does log n a o
+event-does log n a o e = record { leaves = ap (λ (r : Result). nodeAfter r n) e; logs = ap (λ (r : Result). logAfter r log) e }
+
+-- the delivery of a logged message
+sent-does : (log : List Logged) (n : Node) (x : Logged) (m : List·Memᴰ x log) (o : Outcome) → o ≡ apply higher n (x .header .index) (Deliver (received x)) (x .body)
+    → Does log n (run.deliver (log-number x log m .0)) o
+sent-does log n x m o e =
+    event-does log n (run.deliver (log-number x log m .0)) o (ap (λ (f : Found). run.delivery higher f n) (log-number x log m .1) ∙ ap run.event (sym e))
+
+module _ (issued : ℕ → ℕ) (log : List Logged) where
+  does : (c : Call) (f : Fair issued log c) (n : Node) → Does log n (action issued log c f) (outcome c n)
+  unfolding action receipt
+  does (read i) f n = event-does log n (run.read i) _ refl
+  does (write i v) f n = event-does log n (run.write i v) _ refl
+  does (replay i) f n = event-does log n (run.replay i) _ refl
+  does (deliver i m v) f n = sent-does log n (f .message) (f .earlier) (outcome (deliver i m v) n) (rw (f .index, f .same, f .bytes))
+  does (deliverPacket p i) (inl f) n = sent-does log n (f .message) (f .earlier) (receipt higher n p i) carried
+    where
+      carried : receipt higher n p i ≡ apply higher n (f .message .header .index) (Deliver (received (f .message))) (f .message .body)
+      carried =
+          let (at, finds, brings) = found-left (f .before) (f .after) (f .sending) (f .message) p (f .called) (f .packed) in
+          ap (λ (j : ℕ). receiptOf higher n p (fetched p j)) (f .place) ∙ ap (receiptOf higher n p) finds ∙ ap (apply higher n (f .message .header .index) (Deliver (received (f .message)))) brings
+  does (deliverPacket p i) (inr f) n = record { leaves = ap (λ (r : Result). nodeAfter r n) nothing ∙ sym (ap (λ (o : Outcome). o .node) refuses); logs = ap (λ (r : Result). logAfter r log) nothing ∙ sym (ap (logOf log) refuses) }
+    where
+      nothing : perform higher (run.deliver (length log)) log n ≡ run.nothing
+      nothing = ap (λ (x : Found). run.delivery higher x n) (no-number log)
+
+      refuses : receipt higher n p i ≡ record { answer = Refused (f .number); node = n }
+      refuses = ap (receiptOf higher n p) (f .refused)
+  does (validate i) f n = event-does log n (run.validate i) _ refl
+  does (resend i) f n = event-does log n (run.resend i) _ refl
+  does (view epoch set) f n = event-does log n (run.view epoch set) _ refl
+
+-- the laptop that a call leaves is the one that its event leaves
+keeps-me : (n : Node) (i : ℕ) (e : Event) (v : List ℕ) → apply higher n i e v .node .me ≡ n .me
+unfolding apply
+keeps-me n i e v = refl
+
+moves : (l l′ : Laptop) (i : ℕ) (e : Event) (v : List ℕ) (number : ℕ) → Moves l i e v number l′ → node l′ ≡ apply higher (node l) i e v .node
+moves l l′ i e v number (a, d, q, same) =
+    let me : replicaOf (l′ .me) ≡ apply higher (node l) i e v .node .me = ap replicaOf same ∙ sym (keeps-me (node l) i e v) in
+    λ j. record { me = me j; table = d .table j; store = d .store j }
+
+-- a read changes nothing
+reads : (n : Node) (i : ℕ) → apply higher n i Read [] .node ≡ n
+reads n i = go (applied higher n i Read [])
+  where
+    go : Applied higher n i Read [] (apply higher n i Read []) → apply higher n i Read [] .node ≡ n
+    go (refused k z p) = ap (λ (o : Outcome). o .node) p
+    go (accepted y c p) = ap (λ (o : Outcome). o .node) p ∙ ap (λ (t : List Record). record { me = n .me; table = t; store = n .store }) (set-getD (n .table) i (freshRecord 0))
+
+receipt-keeps : (n : Node) (p : List ℕ) (f : Fetched) → receiptOf higher n p f .node .me ≡ n .me
+receipt-keeps n p (fetch.Found e at) = keeps-me n (e .header .index) (Deliver (receivedOf e)) (bodyOf p (fetch.Found e at))
+receipt-keeps n p (fetch.Refused k) = refl
+
+admits : (a : Admission) (me : CetskobiReplica) → replicaOf (admissionOut a me .replica) ≡ identity a (replicaOf me)
+admits (admission.Admitted x) me = refl
+admits (admission.Refused k) me = refl
+
+lands : (c : Call) (l l′ : Laptop) (number : ℕ) → Returns c l number l′ → node l′ ≡ outcome c (node l) .node
+unfolding viewed receipt
+lands (read i) l l′ number (p, d, q, same) = ap node same ∙ sym (reads (node l) i)
+lands (write i v) l l′ number r = moves l l′ i Write v number r
+lands (replay i) l l′ number r = moves l l′ i Replay [] number r
+lands (deliver i m v) l l′ number r = moves l l′ i (Deliver (receivedIn m)) v number r
+lands (deliverPacket p i) l l′ number (a, d, q, same) =
+    let me : replicaOf (l′ .me) ≡ receipt higher (node l) p i .node .me = ap replicaOf same ∙ sym (receipt-keeps (node l) p (fetched p i)) in
+    λ j. record { me = me j; table = d .table j; store = d .store j }
+lands (validate i) l l′ number r = moves l l′ i Validate [] number r
+lands (resend i) l l′ number r = moves l l′ i Resend [] number r
+lands (view epoch set) l l′ number (a, e, q, same) =
+    let me : replicaOf (a .replica) ≡ identity (hermes.view (replicaOf (l .me)) epoch set) (replicaOf (l .me)) =
+    ap (λ (x : CetskobiAdmission). replicaOf (x .replica)) e ∙ admits (hermes.view (replicaOf (l .me)) epoch set) (l .me) in
+    ap node same ∙ λ j. record { me = me j; table = tableOf (l .table); store = l .store }
+
+-- ---- a list of calls
+
+-- the run of a group holds what the callers hold
+record Match (g : Group) (h : Hut) : Type 0 where
+  nodes : (k : ℕ) → g .at k ≡ node (h .at k)
+  logs : g .log ≡ h .log
+
+-- the number of an answer crosses as it is
+number-out : (a : Answer) → answerOut a .number ≡ numberOf a
+number-out (Accepted None) = refl
+number-out (Accepted (Sent (Inv t) h)) = refl
+number-out (Accepted (Sent (Ack t) h)) = refl
+number-out (Accepted (Sent (Val t) h)) = refl
+number-out (Refused k) = refl
+
+module _ (member : ℕ → Bool) (issued : ℕ → ℕ) where
+  abbrev entry : (h : Hut) (s : Step) → Fair issued (h .log) (s .call) → Entry
+  entry h s f = record { who = s .who; what = action issued (h .log) (s .call) f }
+
+  -- one call, one entry
+  step-matches : (g : Group) (h : Hut) (s : Step) (f : Fair issued (h .log) (s .call)) → Returns (s .call) (h .at (s .who)) (s .number) (s .left)
+      → Match g h → Match (advance higher g (entry h s f)) (next h s)
+  unfolding advance result
+  step-matches g h s f r e = record { nodes = λ k. at k (eqb k (s .who)) refl; logs = ap₂ logAfter same (e .logs) ∙ d .logs }
+    where
+      n : Node
+      n = node (h .at (s .who))
+
+      a : Action
+      a = action issued (h .log) (s .call) f
+
+      d : Does (h .log) n a (outcome (s .call) n)
+      d = does issued (h .log) (s .call) f n
+
+      same : result higher g (entry h s f) ≡ perform higher a (h .log) n
+      same = ap₂ (perform higher a) (e .logs) (e .nodes (s .who))
+
+      at : (k : ℕ) (b : Bool) → eqb k (s .who) ≡ b
+          → cond b (nodeAfter (result higher g (entry h s f)) (g .at k)) (g .at k) ≡ node (cond b (s .left) (h .at k))
+      at k true q =
+          ap₂ nodeAfter same (ap (g .at) (eqb-true k (s .who) q) ∙ e .nodes (s .who)) ∙ d .leaves ∙ sym (lands (s .call) (h .at (s .who)) (s .left) (s .number) r)
+      at k false q = e .nodes k
+
+  entries : (h : Hut) (steps : List Step) → Follows member issued h steps → List Entry
+  entries h [] f = []
+  entries h (s ∷ rest) (m, fair, r, f) = entry h s fair ∷ entries (next h s) rest f
+
+  are-entries : (h : Hut) (steps : List Step) (f : Follows member issued h steps) → Entries member issued (entries h steps f)
+  unfolding entries
+  are-entries h [] f = tt
+  are-entries h (s ∷ rest) (m, fair, r, f) = (m, as-issued issued (h .log) (s .call) fair, are-entries (next h s) rest f)
+
+  matches : (g : Group) (h : Hut) (steps : List Step) (f : Follows member issued h steps) → Match g h → Match (run.run higher g (entries h steps f)) (after h steps)
+  unfolding entries
+  matches g h [] f e = e
+  matches g h (s ∷ rest) (m, fair, r, f) e = matches (advance higher g (entry h s fair)) (next h s) rest f (step-matches g h s fair r e)
+
+  -- a list of calls, cut in two
+  first-part : (h : Hut) (before rest : List Step) → Follows member issued h (before ++ rest) → Follows member issued h before
+  first-part h [] rest f = tt
+  first-part h (s ∷ before) rest (m, fair, r, f) = (m, fair, r, first-part (next h s) before rest f)
+
+  second-part : (h : Hut) (before rest : List Step) → Follows member issued h (before ++ rest) → Follows member issued (after h before) rest
+  second-part h [] rest f = f
+  second-part h (s ∷ before) rest (m, fair, r, f) = second-part (next h s) before rest f
+
+  both-parts : (h : Hut) (before rest : List Step) (f : Follows member issued h (before ++ rest))
+      → entries h (before ++ rest) f ≡ entries h before (first-part h before rest f) ++ entries (after h before) rest (second-part h before rest f)
+  unfolding entries first-part second-part
+  both-parts h [] rest f = refl
+  both-parts h (s ∷ before) rest (m, fair, r, f) = ap (λ (es : List Entry). entry h s fair ∷ es) (both-parts (next h s) before rest f)
+
+-- the entry of an accepted validation is an accepted validation
+module _ (issued : ℕ → ℕ) (log : List Logged) (i : ℕ) where
+  is-validate : (c : Call) → c ≡ validate i → (f : Fair issued log c) → action issued log c f ≡ run.validate i
+  unfolding action
+  is-validate c e = subst (λ (x : Call). (f : Fair issued log x) → action issued log x f ≡ run.validate i) (sym e) (λ f. refl)
+
+  is-accepted : (l l′ : Laptop) (number : ℕ) → number ≡ 0 → (c : Call) → c ≡ validate i → Returns c l number l′ → IsAccepted (perform higher (run.validate i) log (node l))
+  is-accepted l l′ number z c e = subst (λ (x : Call). Returns x l number l′ → IsAccepted (perform higher (run.validate i) log (node l))) (sym e)
+      (λ r. sym (ap (λ (x : CetskobiAnswer). x .number) (r .1 .answer) ∙ number-out (apply higher (node l) i Validate [] .answer)) ∙ r .2 ∙ z)
+
+-- ---- the start
+
+-- an accepted start admits the identity that it answers
+admitted : (k set : ℕ) (table : List Record) (store : List ℕ) (old : CetskobiReplica) → admissionOut (start k set table store .admission) old .number ≡ 0
+    → start k set table store .admission ≡ admission.Admitted (replicaOf (admissionOut (start k set table store .admission) old .replica))
+unfolding start
+admitted k set table store old e = go (startRefusal k set (length table) (length store)) e
+  where
+    go : (q : ℕ) → admissionOut (begin q (newcomer k set) table store .admission) old .number ≡ 0
+        → begin q (newcomer k set) table store .admission ≡ admission.Admitted (replicaOf (admissionOut (begin q (newcomer k set) table store .admission) old .replica))
+    go zero e = refl
+    go (suc q) e = absurd (omega arith)
+
+-- the run's group of the callers' laptops
+abbrev groupOf : Hut → Group
+groupOf h = record { at = λ k. node (h .at k); log = h .log }
+
+begins : (count : ℕ) (issued : ℕ → ℕ) (k : ℕ) (l : Laptop) → Begun count issued k l → FreshStart count issued k (node l)
+begins count issued k l b =
+    let table = tableOf (b .table) in
+    let a = start k (issued 0) table (b .store) .admission in
+    let old = identityOf (newcomer k (issued 0)) in
+    let zero-said : admissionOut a old .number ≡ 0 = sym (ap (λ (x : CetskobiAdmission). x .number) (b .started .admission)) ∙ b .accepted in
+    let me : admissionOut a old .replica ≡ l .me = sym (ap (λ (x : CetskobiAdmission). x .replica) (b .started .admission)) ∙ sym (b .identity) in
+    record {
+      table = table;
+      store = b .store;
+      records = length-table (b .table) ∙ b .records;
+      accepted = admitted k (issued 0) table (b .store) old zero-said ∙ ap (λ (x : CetskobiReplica). admission.Admitted (replicaOf x)) me;
+      tableAfter = b .started .table;
+      storeAfter = b .started .store;
+    }
+
+-- ---- demand 3
+
+module _ (member : ℕ → Bool) (count : ℕ) (issued : ℕ → ℕ) (h : Hut) (begun : AllBegun member count issued h) where
+  started : Started member count issued (groupOf h)
+  started = record { fresh = λ k m. begins count issued k (h .at k) (begun .fresh k m); silent = begun .silent }
+
+  -- the run's laptops are the callers'
+  abbrev entriesOf : (steps : List Step) → Follows member issued h steps → List Entry
+  entriesOf steps f = entries member issued h steps f
+
+  match : (steps : List Step) (f : Follows member issued h steps) → Match (run.run higher (groupOf h) (entriesOf steps f)) (after h steps)
+  match steps f = matches member issued (groupOf h) h steps f (record { nodes = λ k. refl; logs = refl })
+
+  same : (steps : List Step) (f : Follows member issued h steps) (k : ℕ) → run.run higher (groupOf h) (entriesOf steps f) .at k ≡ laptop h steps k
+  same steps f = match steps f .nodes
+
+  agree : (steps : List Step) (f : Follows member issued h steps) → Agreement higher member count (groupOf h) (entriesOf steps f)
+  agree steps f = agreement member count issued (groupOf h) started (entriesOf steps f) (are-entries member issued h steps f)
+
+  alike : (steps : List Step) (f : Follows member issued h steps) (i k m : ℕ) → i < count → member k ≡ true → member m ≡ true
+      → Sees (laptop h steps k) m → Sees (laptop h steps m) k → Shows (laptop h steps k) i → Shows (laptop h steps m) i
+      → Alike i (laptop h steps k) (laptop h steps m)
+  alike steps f i k m l mk mm sk sm vk vm =
+      let p = same steps f k in
+      let q = same steps f m in
+      rw (← p, ← q) (agree steps f .alike i k m l mk mm (rw p sk) (rw q sm) (rw p vk) (rw q vm))
+
+  -- an accepted validation among the calls is one among the entries
+  valid : (i : ℕ) (before : List Step) (s : Step) (f : Follows member issued h before) (fair : Fair issued (after h before .log) (s .call))
+      → Returns (s .call) (after h before .at (s .who)) (s .number) (s .left) → s .call ≡ validate i → s .number ≡ 0
+      → Validation higher (run.run higher (groupOf h) (entriesOf before f)) (entry member issued (after h before) s fair) i
+  unfolding result
+  valid i before s f fair r what said =
+      let e = match before f in
+      let l = after h before .at (s .who) in
+      let log = after h before .log in
+      let is : action issued log (s .call) fair ≡ run.validate i = is-validate issued log i (s .call) what fair in
+      let same : result higher (run.run higher (groupOf h) (entriesOf before f)) (entry member issued (after h before) s fair) ≡ perform higher (run.validate i) log (node l) =
+      λ j. perform higher (is j) (e .logs j) (e .nodes (s .who) j) in
+      validates is (subst IsAccepted (sym same) (is-accepted issued log i l (s .left) (s .number) said (s .call) what r))
+
+  lasting : (i m : ℕ) (before rest : List Step) (s : Step) (f : Follows member issued h (before ++ s ∷ rest)) → i < count → member m ≡ true
+      → s .call ≡ validate i → s .number ≡ 0
+      → Sees (laptop h before (s .who)) m → Shows (laptop h (before ++ s ∷ rest) m) i
+      → NotAfter higher (recordOf i (laptop h before (s .who)) .timestamp) (recordOf i (laptop h (before ++ s ∷ rest) m) .timestamp)
+  unfolding entries
+  lasting i m before rest s f l mm what said sees shows =
+      let f1 = first-part member issued h before (s ∷ rest) f in
+      let f2 = second-part member issued h before (s ∷ rest) f in
+      let p = same before f1 (s .who) in
+      let q = same (before ++ s ∷ rest) f m in
+      let a = entry member issued (after h before) s (f2 .1) in
+      let kept = agree (before ++ s ∷ rest) f .lasting i m (entriesOf before f1) (entries member issued (next (after h before) s) rest (f2 .3)) a l mm
+      (both-parts member issued h before (s ∷ rest) f) (valid i before s f1 (f2 .1) (f2 .2) what said) (rw p sees) (rw q shows) in
+      rw (p, q) at kept
+
+  agreeing : (steps : List Step) → Follows member issued h steps → CallsAgree member count h steps
+  agreeing steps f = record {
+    alike = alike steps f;
+    lasting = λ i m before rest s l mm e what said sees shows.
+        subst (λ (all : List Step). NotAfter higher (recordOf i (laptop h before (s .who)) .timestamp) (recordOf i (laptop h all m) .timestamp)) (sym e)
+        (lasting i m before rest s (subst (Follows member issued h) e f) l mm what said sees (subst (λ (all : List Step). Shows (laptop h all m) i) e shows));
+  }
+
+pub called-demand3 : CalledDemand3
+called-demand3 = agreeing

@@ -1,0 +1,84 @@
+-- Through the air: what left a call on one laptop, packed by `cetskobi_pack` and delivered from that packet by `cetskobi_deliver_packet` on another,
+-- is the delivery of the message that left, which is what a deliver entry of demand 3's runs does.
+use Prim.Native.Nat.{ℕ}
+use mathlib.Core.Path.{_≡_}
+use mathlib.Core.List.{List, [], _∷_, _++_}
+use lib.ListN.{length, take}
+use Rattle.hermes.specs.declared.event.Event.{Event}
+use Rattle.hermes.specs.declared.event.Event.the-variants.{Deliver}
+use Rattle.hermes_record.specs.Order.{higher}
+use Rattle.hermes.specs.Event.{sentBy}
+use Rattle.hermes.specs.Node.{Node, apply}
+use Rattle.hermes.specs.Run.{Logged, received, logged}
+use Rattle.packet_format.specs.Reading.{fetched}
+use Rattle.packet_format.specs.Writing.{outputOf}
+use Rattle.packet_words.specs.Words.{wordMessages, packed}
+use Rattle.packet_words.specs.ReadBack.{Wide}
+use Rattle.export_numbers.specs.declared.numbers.CetskobiReplica.{CetskobiReplica}
+use Rattle.export_numbers.specs.declared.numbers.CetskobiAnswer.{CetskobiAnswer}
+use Rattle.export_calls.specs.Calls.{nodeOf, Done}
+use Rattle.export_outgoing.specs.Leaving.{along, alongOf}
+use Rattle.export_fields.specs.declared.answers.CetskobiWritten.{CetskobiWritten}
+use Rattle.export_fields.specs.Answers.{writtenOut}
+use Rattle.export_arrival.specs.Arrival.{Arrived}
+
+-- ---- what a caller packs
+
+-- of one call: the identity and the record number that it was made with, its answer, and the bytes that `cetskobi_body` tells
+pub record Sending : Type 0 where
+  pub from : CetskobiReplica
+  pub index : ℕ
+  pub left : CetskobiAnswer
+  pub body : List ℕ
+
+-- its seven words, as struct cetskobi_entry has them
+abbrev pub sevenOf : Sending → List ℕ
+sevenOf s =
+    s .left .kind ∷ s .from .number ∷ s .from .epoch ∷ s .index ∷ s .left .version ∷ s .left .tie ∷ length (s .body) ∷ []
+
+-- of several calls: words and bodies end to end
+abbrev pub wordsOf : List Sending → List ℕ
+wordsOf [] = []
+wordsOf (s ∷ ss) = sevenOf s ++ wordsOf ss
+
+abbrev pub bodiesOf : List Sending → List ℕ
+bodiesOf [] = []
+bodiesOf (s ∷ ss) = s .body ++ bodiesOf ss
+
+-- ---- the three calls
+
+-- x is the message that left event e on record i of n, as the run of a group logs it
+abbrev pub Leaves : Node → ℕ → Event → List ℕ → Logged → Type 0
+Leaves n i e v x = logged [] (apply higher n i e v .node) (sentBy (apply higher n i e v .answer)) ≡ x ∷ []
+
+-- the first: an exported event was called, message x left it, and `cetskobi_body` was then asked for its bytes
+pub record Called (x : Logged) (s : Sending) : Type 0 where
+  pub table : List ℕ
+  pub store : List ℕ
+  pub event : Event
+  pub value : List ℕ
+  pub table′ : List ℕ
+  pub store′ : List ℕ
+  pub called : Done (nodeOf (s .from) table store) table (s .index) event value (s .left) table′ store′
+  pub bytes : alongOf table′ store′ (s .index) (s .left) ≡ along (s .body)
+  pub leaves : Leaves (nodeOf (s .from) table store) (s .index) event value x
+
+-- the second: `cetskobi_pack` made a packet of what was sent, at the front of the output
+pub record Packed (ss : List Sending) (packet : List ℕ) : Type 0 where
+  -- every word is a uint32_t
+  pub words : Wide (wordsOf ss)
+  pub out : List ℕ
+  pub out′ : List ℕ
+  pub written : CetskobiWritten
+  pub answer : written ≡ writtenOut (packed (wordsOf ss) (bodiesOf ss) (length out))
+  pub output : out′ ≡ outputOf (packed (wordsOf ss) (bodiesOf ss) (length out)) (wordMessages (wordsOf ss)) (bodiesOf ss) out
+  pub accepted : written .number ≡ 0
+  pub front : packet ≡ take (written .len) out′
+
+-- The third: `cetskobi_deliver_packet`, of that message of the packet, is exactly the delivery of the message that left, with the bytes that it left with.
+abbrev pub ThroughTheAir : Type 0
+ThroughTheAir = (before after : List Sending) (s : Sending) (x : Logged) (packet : List ℕ)
+    → Called x s → Packed (before ++ s ∷ after) packet
+    → (me : CetskobiReplica) (table store table′ store′ : List ℕ) (a : CetskobiAnswer)
+    → Arrived (nodeOf me table store) table packet (fetched packet (length before)) a table′ store′
+    → Done (nodeOf me table store) table (x .header .index) (Deliver (received x)) (x .body) a table′ store′

@@ -1,0 +1,191 @@
+-- Demand 3 of the exported functions: every list of calls on the laptops of a group, each as its function's contract says, and nothing known of them but that.
+use Prim.Native.Nat.{ℕ, _<_}
+use mathlib.Core.Path.{_≡_}
+use mathlib.Core.Bool.{Bool, true, cond}
+use mathlib.Core.List.{List, [], _∷_, _++_, List·Memᴰ}
+use mathlib.Core.Logic.{_⊎_}
+use lib.Dec.{eqb}
+use lib.ListN.{length}
+use Rattle.hermes.specs.declared.event.Event.{Event}
+use Rattle.hermes.specs.declared.event.Event.the-variants.{Read, Write, Replay, Deliver, Validate, Resend}
+use Rattle.hermes_record.specs.Order.{higher, NotAfter}
+use Rattle.hermes.specs.Event.{sentBy}
+use Rattle.hermes.specs.Node as hermes
+use Rattle.hermes.specs.Node.{Node, Outcome, recordOf, apply, viewed}
+use Rattle.hermes.specs.Run.{Logged, received, logged}
+use Rattle.hermes.specs.Agreement.{Shows, Sees, Alike}
+use Rattle.packet_format.specs.declared.answer.Fetched.the-variants.{Refused}
+use Rattle.packet_format.specs.Reading.{fetched}
+use Rattle.packet_event.specs.Arrival.{receipt}
+use Rattle.export_records.specs.Layout.{countOf}
+use Rattle.export_numbers.specs.declared.numbers.CetskobiReplica.{CetskobiReplica}
+use Rattle.export_numbers.specs.declared.numbers.CetskobiAnswer.{CetskobiAnswer}
+use Rattle.export_numbers.specs.declared.numbers.CetskobiMessage.{CetskobiMessage}
+use Rattle.export_numbers.specs.declared.numbers.CetskobiReading.{CetskobiReading}
+use Rattle.export_numbers.specs.declared.numbers.CetskobiAdmission.{CetskobiAdmission}
+use Rattle.export_numbers.specs.Crossing.{replicaOf, admissionOut, receivedIn}
+use Rattle.export_calls.specs.Calls.{nodeOf, Done}
+use Rattle.export_reading.specs.Reading.{ReadDone}
+use Rattle.export_membership.specs.Admission.{StartDone}
+use Rattle.export_arrival.specs.Arrival.{Arrived}
+use Rattle.check_air.specs.Air.{Sending, Called, Packed}
+
+-- ---- one call
+
+-- a laptop as its caller holds it
+pub record Laptop : Type 0 where
+  pub me : CetskobiReplica
+  pub table : List ℕ
+  pub store : List ℕ
+
+abbrev pub node : Laptop → Node
+node l = nodeOf (l .me) (l .table) (l .store)
+
+-- a call of an exported function, with what it is handed beside the laptop
+pub data Call : Type 0 where
+  read : ℕ → Call
+  write : ℕ → List ℕ → Call
+  replay : ℕ → Call
+  deliver : ℕ → CetskobiMessage → List ℕ → Call
+  -- message i of a packet
+  deliverPacket : List ℕ → ℕ → Call
+  validate : ℕ → Call
+  resend : ℕ → Call
+  view : ℕ → ℕ → Call
+
+-- the number that an event's function answers, and the laptop after it. A function that is lent the store to read leaves it as it is
+abbrev pub Moves : Laptop → ℕ → Event → List ℕ → ℕ → Laptop → Type 0
+Moves l i e v number l′ =
+    (a : CetskobiAnswer) × Done (node l) (l .table) i e v a (l′ .table) (l′ .store) × (a .number ≡ number) × (l′ .me ≡ l .me)
+
+-- the contract of the function that is called: the number that it answers, and the laptop after it
+abbrev pub Returns : Call → Laptop → ℕ → Laptop → Type 0
+Returns (read i) l number l′ = (p : CetskobiReading) × ReadDone (node l) i p × (p .number ≡ number) × (l′ ≡ l)
+Returns (write i v) l number l′ = Moves l i Write v number l′
+Returns (replay i) l number l′ = Moves l i Replay [] number l′
+Returns (deliver i m v) l number l′ = Moves l i (Deliver (receivedIn m)) v number l′
+Returns (deliverPacket p i) l number l′ =
+    (a : CetskobiAnswer) × Arrived (node l) (l .table) p (fetched p i) a (l′ .table) (l′ .store) × (a .number ≡ number) × (l′ .me ≡ l .me)
+Returns (validate i) l number l′ = Moves l i Validate [] number l′
+Returns (resend i) l number l′ = Moves l i Resend [] number l′
+Returns (view epoch set) l number l′ =
+    (a : CetskobiAdmission) × (a ≡ admissionOut (hermes.view (replicaOf (l .me)) epoch set) (l .me)) × (a .number ≡ number)
+    × (l′ ≡ record { me = a .replica; table = l .table; store = l .store })
+
+-- ---- the group
+
+-- the laptop of each number, and the messages that left, oldest first
+pub record Hut : Type 0 where
+  pub at : ℕ → Laptop
+  pub log : List Logged
+
+-- one call: whose, which, what it answered, and the laptop as it left it
+pub record Step : Type 0 where
+  pub who : ℕ
+  pub call : Call
+  pub number : ℕ
+  pub left : Laptop
+
+-- what the call's event comes to
+abbrev pub outcome : Call → Node → Outcome
+outcome (read i) n = apply higher n i Read []
+outcome (write i v) n = apply higher n i Write v
+outcome (replay i) n = apply higher n i Replay []
+outcome (deliver i m v) n = apply higher n i (Deliver (receivedIn m)) v
+outcome (deliverPacket p i) n = receipt higher n p i
+outcome (validate i) n = apply higher n i Validate []
+outcome (resend i) n = apply higher n i Resend []
+outcome (view epoch set) n = viewed n epoch set
+
+-- the messages with what left the call
+abbrev pub logOf : List Logged → Outcome → List Logged
+logOf log o = logged log (o .node) (sentBy (o .answer))
+
+abbrev pub next : Hut → Step → Hut
+next h s = record {
+  at = λ k. cond (eqb k (s .who)) (s .left) (h .at k);
+  log = logOf (h .log) (outcome (s .call) (node (h .at (s .who))));
+}
+
+abbrev pub after : Hut → List Step → Hut
+after h [] = h
+after h (s ∷ rest) = after (next h s) rest
+
+-- ---- the premises
+
+-- 01, "A delivered message left an earlier entry": message i of the packet is one that left, packed by `cetskobi_pack`
+pub record Honest (log : List Logged) (p : List ℕ) (i : ℕ) : Type 0 where
+  pub message : Logged
+  pub earlier : List·Memᴰ message log
+  pub sending : Sending
+  pub called : Called message sending
+  pub before : List Sending
+  pub after : List Sending
+  pub packed : Packed (before ++ sending ∷ after) p
+  pub place : i ≡ length before
+
+-- a packet of which the reader refuses message i; its number
+pub record Broken (p : List ℕ) (i : ℕ) : Type 0 where
+  pub number : ℕ
+  pub refused : fetched p i ≡ Refused number
+
+-- numbers and bytes of a message that left
+pub record Repeated (log : List Logged) (i : ℕ) (m : CetskobiMessage) (v : List ℕ) : Type 0 where
+  pub message : Logged
+  pub earlier : List·Memᴰ message log
+  pub index : i ≡ message .header .index
+  pub same : receivedIn m ≡ received message
+  pub bytes : v ≡ message .body
+
+-- 01, "Premises of agreement": what is delivered left an earlier call, or is refused as a broken packet; a view is the one issued for its epoch
+abbrev pub Fair : (ℕ → ℕ) → List Logged → Call → Type 0
+Fair issued log (read i) = Unit
+Fair issued log (write i v) = Unit
+Fair issued log (replay i) = Unit
+Fair issued log (deliver i m v) = Repeated log i m v
+Fair issued log (deliverPacket p i) = Honest log p i ⊎ Broken p i
+Fair issued log (validate i) = Unit
+Fair issued log (resend i) = Unit
+Fair issued log (view epoch set) = set ≡ issued epoch
+
+-- each call is of a laptop of the group, which it finds as that laptop's last call left it
+abbrev pub Follows : (ℕ → Bool) → (ℕ → ℕ) → Hut → List Step → Type 0
+Follows member issued h [] = Unit
+Follows member issued h (s ∷ rest) =
+    (member (s .who) ≡ true) × Fair issued (h .log) (s .call) × Returns (s .call) (h .at (s .who)) (s .number) (s .left) × Follows member issued (next h s) rest
+
+-- laptop k was started by `cetskobi_start` on memory for so many records, with the first view, and that was accepted
+pub record Begun (count : ℕ) (issued : ℕ → ℕ) (k : ℕ) (l : Laptop) : Type 0 where
+  pub table : List ℕ
+  pub store : List ℕ
+  pub records : countOf (length table) ≡ count
+  pub admission : CetskobiAdmission
+  pub started : StartDone k (issued 0) table store admission (l .table) (l .store)
+  pub accepted : admission .number ≡ 0
+  pub identity : l .me ≡ admission .replica
+
+-- every laptop of the group was, and nothing was sent
+pub record AllBegun (member : ℕ → Bool) (count : ℕ) (issued : ℕ → ℕ) (h : Hut) : Type 0 where
+  pub fresh : (k : ℕ) → member k ≡ true → Begun count issued k (h .at k)
+  pub silent : h .log ≡ []
+
+-- ---- the claim
+
+-- laptop k after a list of calls
+abbrev pub laptop : Hut → List Step → ℕ → Node
+laptop h steps k = node (after h steps .at k)
+
+-- demand 3, both halves, as `Agreement` of hermes has them
+pub record CallsAgree (member : ℕ → Bool) (count : ℕ) (h : Hut) (steps : List Step) : Type 0 where
+  pub alike : (i k m : ℕ) → i < count → member k ≡ true → member m ≡ true
+      → Sees (laptop h steps k) m → Sees (laptop h steps m) k → Shows (laptop h steps k) i → Shows (laptop h steps m) i
+      → Alike i (laptop h steps k) (laptop h steps m)
+  pub lasting : (i m : ℕ) (before rest : List Step) (s : Step) → i < count → member m ≡ true
+      → steps ≡ before ++ s ∷ rest → s .call ≡ validate i → s .number ≡ 0
+      → Sees (laptop h before (s .who)) m → Shows (laptop h steps m) i
+      → NotAfter higher (recordOf i (laptop h before (s .who)) .timestamp) (recordOf i (laptop h steps m) .timestamp)
+
+-- demand 3 of the exported functions; `proofs/Calls` proves it
+abbrev pub CalledDemand3 : Type 0
+CalledDemand3 = (member : ℕ → Bool) (count : ℕ) (issued : ℕ → ℕ) (h : Hut) → AllBegun member count issued h
+    → (steps : List Step) → Follows member issued h steps → CallsAgree member count h steps
