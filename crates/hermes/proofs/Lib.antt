@@ -14,4 +14,5 @@ pub mod Sound
 pub mod Premises
 pub mod Frame
 pub mod Locality
+pub mod Recipients
 pub mod Conformance

@@ -6,6 +6,7 @@ pub mod Node
 pub mod Run
 pub mod Frame
 pub mod Locality
+pub mod Recipients
 pub mod Source
 pub mod Conformance
 pub mod Agreement
