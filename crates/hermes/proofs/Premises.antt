@@ -1,20 +1,23 @@
--- The premises of agreement can be met: a group of three with one record each; and document 01's played case computes.
+-- The premises of agreement can be met, by a group of three with one record each; document 01's played case computes, and so does a list with
+-- every kind of entry.
 use Prim.Native.Nat.{ℕ, zero, suc}
 use mathlib.Core.Path.{_≡_, refl}
 use mathlib.Core.Bool.{true}
 use mathlib.Core.List.{[], _∷_}
 use native.Mathlib.Omega.{arith}
-use lib.ListN.{replicate}
+use lib.ListN.{replicate, drop}
 use borrow.Author.Tests.{ltb-true}
 use Rattle.hermes.specs.declared.event.Admission.the-variants.{Admitted}
 use Rattle.hermes_record.specs.Members.{has, size, lowest, within, othersIn, with}
 use Rattle.hermes_record.specs.Order.{higher, later, sameTimestamp}
 use Rattle.hermes.specs.Store.{padded, place}
 use Rattle.hermes.specs.Event.{refusal, effect}
-use Rattle.hermes.specs.Node.{newcomer, start, apply}
-use Rattle.hermes.specs.Run.{result, advance}
-use Rattle.hermes.specs.Agreement.{Started, Agreement}
-use Rattle.hermes.specs.Played.{three, everyone, lentTable, group, played, answers}
+use Rattle.hermes.specs.Node.{newcomer, start, apply, view, viewed}
+use Rattle.hermes.specs.Run as run
+use Rattle.hermes.specs.Run.{Action, result, advance}
+use Rattle.hermes.specs.Agreement.{Started, Entries, Agreement, validates}
+use Rattle.hermes.specs.Played.{three, issued, lentTable, group, played, answers, struckOff, story}
+use Rattle.hermes.specs.Witness.{kind, BothWays, Witness}
 use Rattle.hermes.proofs.Agreement.{agreement}
 
 admitted : (k : ℕ) → three k ≡ true → start k 7 lentTable (replicate 192 0) .admission ≡ Admitted (newcomer k 7)
@@ -24,7 +27,7 @@ admitted (suc zero) e = refl
 admitted (suc (suc zero)) e = refl
 admitted (suc (suc (suc k))) e = absurd (omega (arith, ltb-true (suc (suc (suc k))) 3 e))
 
-pub started : Started three 1 everyone group
+pub started : Started three 1 issued group
 started = record {
   fresh = λ k e. record { table = lentTable; store = replicate 192 0; records = refl; accepted = admitted k e; tableAfter = refl; storeAfter = refl };
   silent = refl;
@@ -35,5 +38,45 @@ unfolding result advance apply effect refusal start has size lowest within other
 played-answers = refl
 
 pub played-agree : Agreement higher three 1 group played
-played-agree = agreement three 1 everyone group started played
+played-agree = agreement three 1 issued group started played
     ((refl, tt, (refl, tt, (refl, tt, (refl, tt, (refl, tt, (refl, tt, (refl, tt, (refl, tt, (refl, tt, tt))))))))))
+
+-- ---- every kind of entry
+
+-- views as issued, and nothing asked of any other entry
+story-entries : Entries three issued story
+story-entries =
+    (refl, tt, (refl, tt, (refl, tt, (refl, tt, (refl, tt, (refl, tt, (refl, tt, (refl, tt, (refl, tt, (refl, tt, middle))))))))))
+  where
+    late : Entries three issued (drop 20 story)
+    late = (refl, refl, (refl, tt, (refl, tt, (refl, tt, (refl, tt, (refl, tt, (refl, tt, (refl, refl, (refl, tt, (refl, tt, tt))))))))))
+
+    middle : Entries three issued (drop 10 story)
+    middle = (refl, tt, (refl, tt, (refl, tt, (refl, tt, (refl, tt, (refl, refl, (refl, refl, (refl, tt, (refl, tt, (refl, tt, late))))))))))
+
+every-kind : (a : Action) → BothWays (kind a) struckOff
+every-kind (run.read i) = (refl, refl)
+every-kind (run.write i v) = (refl, refl)
+every-kind (run.replay i) = (refl, refl)
+every-kind (run.deliver k) = (refl, refl)
+every-kind (run.validate i) = (refl, refl)
+every-kind (run.resend i) = (refl, refl)
+every-kind (run.view epoch set) = (refl, refl)
+
+pub witness : Witness
+unfolding result advance apply effect refusal start has size lowest within othersIn with padded place later sameTimestamp view viewed
+witness = record {
+  started = started;
+  entries = story-entries;
+  agreed = agreement three 1 issued group started story story-entries;
+  numbers = refl;
+  kinds = every-kind;
+  left = omega arith;
+  lost = refl;
+  gone = refl;
+  screens = record { members = (refl, refl); apart = λ e. omega arith; sees = refl; seen = refl; shows = refl; shown = refl };
+  save = record { members = (refl, refl); apart = λ e. omega arith; split = refl; validation = validates refl refl; sees = refl; shown = refl };
+  replay = record { members = (refl, refl); apart = λ e. omega arith; split = refl; validation = validates refl refl; sees = refl; shown = refl };
+  first = record { timestamp = refl; text = refl };
+  second = record { timestamp = refl; text = refl };
+}

@@ -12,3 +12,4 @@ pub mod Conformance
 pub mod Agreement
 pub mod Reads
 pub mod Played
+pub mod Witness

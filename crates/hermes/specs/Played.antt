@@ -1,5 +1,6 @@
--- A group of three with one record each, and document 01's played case as a list of entries.
-use Prim.Native.Nat.{ℕ}
+-- A group of three with one record each, and two lists of entries: document 01's played case, and one with every kind of entry, accepted and
+-- refused.
+use Prim.Native.Nat.{ℕ, zero, suc}
 use mathlib.Core.Bool.{Bool}
 use mathlib.Core.List.{List, [], _∷_, _++_}
 use lib.Dec.{ltb}
@@ -9,14 +10,15 @@ use Rattle.hermes_record.specs.Order.{higher}
 use Rattle.hermes_record.specs.Record.{freshRecord}
 use Rattle.hermes.specs.Event.{numberOf}
 use Rattle.hermes.specs.Node.{Node, newcomer, start}
-use Rattle.hermes.specs.Run.{Action, read, write, deliver, validate, Entry, Group, Result, nothing, event, result, advance}
+use Rattle.hermes.specs.Run.{Action, read, write, replay, deliver, validate, resend, view, Entry, Group, Result, nothing, event, result, advance}
 
--- numbers 0, 1 and 2; one view for every epoch; memory as it may be found
+-- numbers 0, 1 and 2; all are in the first view, and 2 is struck off in every later one; memory as it may be found
 abbrev pub three : ℕ → Bool
 three k = ltb k 3
 
-abbrev pub everyone : ℕ → ℕ
-everyone epoch = 7
+abbrev pub issued : ℕ → ℕ
+issued zero = 7
+issued (suc epoch) = 3
 
 abbrev pub lentTable : List Record
 lentTable = freshRecord 9 ∷ []
@@ -44,3 +46,63 @@ told (event o) = numberOf (o .answer) ∷ []
 abbrev pub answers : Group → List Entry → List ℕ
 answers g [] = []
 answers g (a ∷ rest) = told (result higher g a) ++ answers (advance higher g a) rest
+
+-- ---- every kind of entry, accepted and refused
+
+-- an entry, and the number that it answers
+pub record Line : Type 0 where
+  pub entry : Entry
+  pub number : ℕ
+
+abbrev pub accepts : ℕ → Action → Line
+accepts k a = record { entry = by k a; number = 0 }
+
+abbrev pub refuses : ℕ → Action → ℕ → Line
+refuses k a number = record { entry = by k a; number = number }
+
+abbrev pub entriesOf : List Line → List Entry
+entriesOf [] = []
+entriesOf (x ∷ rest) = x .entry ∷ entriesOf rest
+
+abbrev pub numbersOf : List Line → List ℕ
+numbersOf [] = []
+numbersOf (x ∷ rest) = x .number ∷ numbersOf rest
+
+-- Laptop 2 saves A1 and finishes, but is struck off before its VAL comes: 0 and 1 are left with an invalid record. 0 replays the save, and
+-- then 0 and 1 show it. Messages are numbered as they leave.
+abbrev pub struckOff : List Line
+struckOff =
+    accepts 0 (read 0)  -- the fresh record
+    ∷ accepts 2 (write 0 (65 ∷ 49 ∷ []))  -- INV, message 0
+    ∷ refuses 2 (write 0 (66 ∷ [])) 7  -- its write is under way
+    ∷ accepts 0 (deliver 0)  -- ACK, message 1
+    ∷ accepts 1 (deliver 0)  -- ACK, message 2, which is lost
+    ∷ refuses 0 (read 0) 6  -- invalid
+    ∷ refuses 0 (replay 0) 16  -- the last writer is in the view
+    ∷ refuses 0 (resend 0) 17  -- it has nothing under way
+    ∷ accepts 2 (deliver 1)  -- 0 is counted
+    ∷ refuses 2 (deliver 1) 13  -- a repeated ACK
+    ∷ refuses 2 (validate 0) 15  -- 1 is not counted
+    ∷ accepts 2 (resend 0)  -- INV, message 3
+    ∷ accepts 1 (deliver 3)  -- a repeated INV: ACK, message 4
+    ∷ accepts 2 (deliver 4)  -- 1 is counted
+    ∷ accepts 2 (validate 0)  -- VAL, message 5
+    ∷ accepts 0 (view 1 3)  -- 2 is struck off
+    ∷ refuses 0 (view 1 3) 18  -- a repeated view
+    ∷ refuses 0 (deliver 5) 10  -- a late VAL: it left in epoch 0
+    ∷ accepts 0 (replay 0)  -- INV, message 6
+    ∷ refuses 1 (deliver 6) 10  -- an early INV: 1 is in epoch 0
+    ∷ accepts 1 (view 1 3)
+    ∷ accepts 1 (deliver 6)  -- ACK, message 7
+    ∷ accepts 0 (deliver 7)  -- 1 is counted
+    ∷ accepts 0 (validate 0)  -- VAL, message 8
+    ∷ refuses 2 (deliver 8) 10  -- 2 has missed the change of view, and takes no validation meant for the new group
+    ∷ accepts 1 (deliver 8)  -- valid
+    ∷ refuses 1 (deliver 8) 14  -- a repeated VAL
+    ∷ accepts 2 (view 1 3)  -- 2 hears of it
+    ∷ refuses 2 (read 0) 3  -- and is not in its own view
+    ∷ accepts 1 (read 0)  -- A1
+    ∷ []
+
+abbrev pub story : List Entry
+story = entriesOf struckOff

@@ -1,0 +1,93 @@
+-- The premises of demand 3 can be met: by a list that has every kind of entry, accepted and refused, a lost, a repeated and a late message and
+-- a laptop that is struck off. After it both halves of the claim speak of something.
+use Prim.Native.Nat.{ℕ, suc, _<_}
+use mathlib.Core.Path.{_≡_}
+use mathlib.Core.Bool.{Bool, true, false, not, _&&_, _||_}
+use mathlib.Core.Logic.{_≢_}
+use mathlib.Core.List.{List, [], _∷_, _++_}
+use lib.Dec.{eqb}
+use lib.ListN.{length, take, drop}
+use Rattle.hermes_record.specs.Members.{has}
+use Rattle.hermes_record.specs.Order.{higher}
+use Rattle.hermes.specs.Node.{Node, recordOf, valueOf}
+use Rattle.hermes.specs.Run.{Action, read, write, replay, deliver, validate, resend, view, run}
+use Rattle.hermes.specs.Agreement.{Started, Entries, Sees, Shows, Validation, after, Agreement}
+use Rattle.hermes.specs.Played.{three, issued, group, by, answers, Line, numbersOf, struckOff, story}
+
+-- a number for each kind of entry, to tell them apart
+abbrev pub kind : Action → ℕ
+kind (read i) = 0
+kind (write i v) = 1
+kind (replay i) = 2
+kind (deliver k) = 3
+kind (validate i) = 4
+kind (resend i) = 5
+kind (view epoch set) = 6
+
+-- some line passes the test
+abbrev pub some : (Line → Bool) → List Line → Bool
+some p [] = false
+some p (x ∷ rest) = p x || some p rest
+
+-- an accepted entry of that kind is there, and a refused one
+abbrev pub BothWays : ℕ → List Line → Type 0
+BothWays k lines = (some (λ x. eqb (kind (x .entry .what)) k && eqb (x .number) 0) lines ≡ true)
+    × (some (λ x. eqb (kind (x .entry .what)) k && not (eqb (x .number) 0)) lines ≡ true)
+
+-- an entry that delivers message k
+abbrev pub delivers : ℕ → Action → Bool
+delivers k (read i) = false
+delivers k (write i v) = false
+delivers k (replay i) = false
+delivers k (deliver j) = eqb j k
+delivers k (validate i) = false
+delivers k (resend i) = false
+delivers k (view epoch set) = false
+
+-- replica k after the list `struckOff`
+abbrev pub end : ℕ → Node
+end k = after higher group story k
+
+-- the premises of `alike`: two replicas are in each other's view, and both show the record valid
+pub record TwoScreens (k m : ℕ) : Type 0 where
+  pub members : (three k ≡ true) × (three m ≡ true)
+  pub apart : k ≢ m
+  pub sees : Sees (end k) m
+  pub seen : Sees (end m) k
+  pub shows : Shows (end k) 0
+  pub shown : Shows (end m) 0
+
+-- the premises of `lasting`: entry j, counted from 0, is k's accepted validation with m in its view, and m shows the record valid after the list
+pub record FinishedSave (j k m : ℕ) : Type 0 where
+  pub members : (three k ≡ true) × (three m ≡ true)
+  pub apart : k ≢ m
+  pub split : story ≡ take j story ++ by k (validate 0) ∷ drop (suc j) story
+  pub validation : Validation higher (run higher group (take j story)) (by k (validate 0)) 0
+  pub sees : Sees (after higher group (take j story) k) m
+  pub shown : Shows (end m) 0
+
+-- replica n holds A1 under the timestamp of 2's save
+pub record Holds (n : Node) : Type 0 where
+  pub timestamp : recordOf 0 n .timestamp ≡ record { version = 1; tie = 2 }
+  pub text : valueOf 0 n ≡ 65 ∷ 49 ∷ []
+
+-- what the list `struckOff` of `Played` shows; `proofs/Premises` computes it
+pub record Witness : Type 0 where
+  -- the premises of demand 3, and so its claim
+  pub started : Started three 1 issued group
+  pub entries : Entries three issued story
+  pub agreed : Agreement higher three 1 group story
+  -- each entry answers the number beside it, and every kind of entry is there
+  pub numbers : answers group story ≡ numbersOf struckOff
+  pub kinds : (a : Action) → BothWays (kind a) struckOff
+  -- message 2 left, and is lost
+  pub left : 2 < length (run higher group story .log)
+  pub lost : some (λ x. delivers 2 (x .entry .what)) struckOff ≡ false
+  -- 2 is struck off
+  pub gone : has (end 2 .me .view) 2 ≡ false
+  -- 0 and 1 show one text; 2's save lasts, though 2 is gone, and so does 0's replay of it
+  pub screens : TwoScreens 0 1
+  pub save : FinishedSave 14 2 1
+  pub replay : FinishedSave 23 0 1
+  pub first : Holds (end 0)
+  pub second : Holds (end 1)
