@@ -104,7 +104,7 @@ pub good-offset : (e : Entry) (a b : ℕ) → good (fieldsFor e a) ≡ good (fie
 unfolding good
 good-offset e a b = refl
 
-kind-back : (k : ℕ) (t : Timestamp) → 1 ≤ k → k ≤ 3 → kindOf (messageOf k t) ≡ k
+pub kind-back : (k : ℕ) (t : Timestamp) → 1 ≤ k → k ≤ 3 → kindOf (messageOf k t) ≡ k
 kind-back k t a b = go (eqb k 1) refl (eqb k 2) refl
   where
     go : (x : Bool) → eqb k 1 ≡ x → (y : Bool) → eqb k 2 ≡ y → kindOf (cond x (Inv t) (cond y (Ack t) (Val t))) ≡ k

@@ -12,15 +12,15 @@ use Rattle.hermes_record.proofs.Tests.{both}
 use Rattle.packet_format.specs.declared.entry.Entry.{Entry}
 use Rattle.packet_format.specs.declared.answer.Fetched.the-variants.{Found}
 use Rattle.packet_format.specs.declared.answer.Written.the-variants.{Total}
-use Rattle.packet_format.specs.Entry.{messageOf, entryOf, fieldsFor, good, noEntry, Fits, AllFit}
+use Rattle.packet_format.specs.Entry.{kindOf, messageOf, entryOf, fieldsFor, good, noEntry, Fits, AllFit}
 use Rattle.packet_format.specs.Reading.{entryPlace, packetMessages, bodiesIn}
 use Rattle.packet_format.specs.Writing.{summed, allGood, outputOf}
-use Rattle.packet_format.specs.RoundTrip.{ReadsBack, Rewritten}
+use Rattle.packet_format.specs.RoundTrip.{ReadsBack}
 use Rattle.packet_format.proofs.Writing.{Accepts, accepts, total-yes}
-use Rattle.packet_format.proofs.Entries.{entry-back, stamp-back}
+use Rattle.packet_format.proofs.Entries.{entry-back, kind-back, stamp-back, good-parts}
 use Rattle.packet_format.proofs.RoundTrip.{written-reads-back, accepted-is-written}
 use Rattle.packet_words.specs.Words.{entryIn, countIn, fieldsAt, entryAt, entriesFrom, wordMessages, packed}
-use Rattle.packet_words.specs.ReadBack.{manyIn, word, Wide, saidBy, bodyFrom, ReadsAs, WordsReadBack, wordsOf, Repacked, AcceptedIsPacked}
+use Rattle.packet_words.specs.ReadBack.{manyIn, word, Wide, saidBy, bodyFrom, WordsReadBack, wordsOf, AcceptedIsPacked}
 use Rattle.packet_words.proofs.Places.{sevens, Counted, counted, message-at}
 use Rattle.packet_words.proofs.Fit.{good-fit, entry-fit}
 
@@ -72,15 +72,24 @@ module _ (words bodies out : List ℕ) (n : ℕ) (wide : Wide words) (e : packed
   size : length (wordMessages words) ≡ manyIn words
   size = held .size ∙ seven .0
 
-  -- message k is what its words say
+  -- message k is what its words say, and they are good
+  stands : (k : ℕ) → k < manyIn words → getD (wordMessages words) k noEntry ≡ entryAt words (7 * k)
+  stands k l = ap (λ (es : List Entry). getD es k noEntry) (sym (held .whole)) ∙ message-at (countIn (length words)) words k (omega (arith, seven .0))
+
+  fine : (k : ℕ) → k < manyIn words → good (fieldsAt words (7 * k) 0) ≡ true
+  fine k l =
+      sym (good-fit (fieldsAt words (7 * k) 0))
+      ∙ ap (λ (m : Entry). good (fieldsFor m 0)) (sym (stands k l))
+      ∙ good-one (wordMessages words) k (omega (arith, size)) (takes .good)
+
   says : (k : ℕ) → k < manyIn words → getD (wordMessages words) k noEntry ≡ saidBy words k
-  says k l =
-      let f = fieldsAt words (7 * k) 0 in
-      let at : getD (wordMessages words) k noEntry ≡ entryIn f =
-      ap (λ (es : List Entry). getD es k noEntry) (sym (held .whole)) ∙ message-at (countIn (length words)) words k (omega (arith, seven .0)) in
-      let g : good f ≡ true =
-      sym (good-fit f) ∙ ap (λ (m : Entry). good (fieldsFor m 0)) (sym at) ∙ good-one (wordMessages words) k (omega (arith, size)) (takes .good) in
-      at ∙ entry-fit f g ∙ spelled words k
+  says k l = stands k l ∙ entry-fit (fieldsAt words (7 * k) 0) (fine k l) ∙ spelled words k
+
+  kinds : (k : ℕ) → k < manyIn words → kindOf (saidBy words k .message) ≡ word words k 0
+  kinds k l =
+      let g = good-parts (fieldsAt words (7 * k) 0) (fine k l) in
+      let z = add-zero (7 * k) in
+      kind-back (word words k 0) (record { version = word words k 4; tie = word words k 5 }) (rw z (g .low)) (rw z (g .high))
 
   fit : AllFit (wordMessages words)
   fit = all-fit (wordMessages words) (λ k l. rw (says k (omega (arith, size))) (record { epoch = wide (7 * k + 2); version = rw stamp-back (wide (7 * k + 4)) }))
@@ -103,6 +112,7 @@ words-read-back words bodies out n wide e =
     record {
       seven = seven words bodies out n wide e .1;
       message = λ k l. r .message k (omega (arith, s)) ∙ (λ i. Found (says k l i) (entryPlace (s i) + begins k (omega arith) i));
+      kind = kinds words bodies out n wide e;
       body = λ k l. r .body k (omega (arith, s)) ∙ (λ i. take (says k l i .len) (drop (begins k (omega arith) i) bodies));
       beyond = λ k l. r .beyond k (omega (arith, s));
     }

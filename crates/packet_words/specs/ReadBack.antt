@@ -42,10 +42,11 @@ bodyFrom words (suc k) = bodyFrom words k + word words k 6
 
 -- ---- messages packed read back as their words say
 
--- A packet p reads back as words and bodies say: at every k below their number the message, with its body; past it a 23.
+-- A packet p reads back as words and bodies say: at every k below their number the message, of the kind that its word says, with its body; past it a 23.
 pub record ReadsAs (p words bodies : List ℕ) : Type 0 where
   pub seven : length words ≡ 7 * manyIn words
   pub message : (k : ℕ) → k < manyIn words → fetched p k ≡ Found (saidBy words k) (entryPlace (manyIn words) + bodyFrom words k)
+  pub kind : (k : ℕ) → k < manyIn words → kindOf (saidBy words k .message) ≡ word words k 0
   pub body : (k : ℕ) → k < manyIn words → bodyOf p (fetched p k) ≡ take (word words k 6) (drop (bodyFrom words k) bodies)
   pub beyond : (k : ℕ) → manyIn words ≤ k → fetched p k ≡ Refused 23
 

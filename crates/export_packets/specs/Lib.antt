@@ -1,0 +1,3 @@
+-- The exported functions on packets: what they answer, and that they are inverse.
+pub mod Calls
+pub mod RoundTrip
