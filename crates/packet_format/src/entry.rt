@@ -36,9 +36,6 @@ impl Fields {
     // The greatest number of a record.
     pub const INDEX_MAX: usize = 4095;
 
-    // The most bytes of a body.
-    pub const BODY_MAX: u8 = 192;
-
     // Are the fields as question 22 asks, the offset aside?
     pub fn good(self) -> bool
         ensures { λ r. ⌜ r ≡ good self ⌝ }
@@ -48,7 +45,7 @@ impl Fields {
             & (self.sender <= Record::NUMBER_MAX)
             & (self.tie <= Record::NUMBER_MAX)
             & (self.index <= Self::INDEX_MAX)
-            & (self.len <= Self::BODY_MAX)
+            & (self.len as usize <= Record::VALUE_MAX)
             & ((self.kind == Self::INV) | (self.len == 0))
     }
 }

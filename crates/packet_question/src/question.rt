@@ -31,7 +31,7 @@ fn good_at(words: &[u32], w: usize) -> bool
     if (Fields::INDEX_MAX as u32) < words[w + 3] {
         return false;
     }
-    if (Fields::BODY_MAX as u32) < len {
+    if (Record::VALUE_MAX as u32) < len {
         return false;
     }
     if kind == Fields::INV as u32 {
