@@ -1,3 +1,2 @@
--- The worked rows of document 01, "From the ringing table", and what each says.
-pub mod Meaning
+-- The one table of rows, and what each row says.
 pub mod Rows

@@ -1,78 +1,18 @@
--- Document 01, "From the ringing table", the rows marked P. Laptop 2, view {1,2,5}, epoch 0 unless said.
-use Prim.Native.Nat.{ℕ}
-use mathlib.Core.List.{List, [], _∷_}
-use lib.ListN.{replicate}
-use Rattle.hermes.specs.declared.message.Message.{Message}
-use Rattle.hermes.specs.declared.message.Message.the-variants.{Inv, Ack, Val}
-use Rattle.hermes_record.specs.declared.record.State.the-variants as state
-use Rattle.hermes.specs.declared.event.Event.the-variants.{Read, Write, Replay, Deliver, Validate}
-use Rattle.hermes_record.specs.Record.{freshRecord}
-use Rattle.hermes.specs.Node.{Node, newcomer}
-use Rattle.check_rows.specs.Meaning.{Deed, starts, does, turns, answers, leaves, stamps, acknowledgedBy, sends, silent, unchanged, Row, row, packs}
+-- The one table: the rows of document 01, "From the ringing table", marked P, and those that pin its numbers and limits.
+-- What a row about an event says stands in `hermes/specs/Worked`, its data in `hermes/specs/Rows`; of packets, both in `packet_format/specs/Rows`.
+use mathlib.Core.List.{List, map, _++_}
+use Rattle.hermes.specs.Worked as event
+use Rattle.hermes.specs.Rows as events
+use Rattle.packet_format.specs.Rows as packets
 
--- the laptop before its start: one record, and memory that holds something else
-unfoldable pub lent : Node
-lent = record { me = newcomer 9 0; table = freshRecord 9 ∷ []; store = replicate 192 7 }
+pub data Row : Type 0 where
+  ofEvent : event.Row → Row
+  ofPacket : packets.Row → Row
 
--- views, as 16-bit sets: {1,2,5} is 38, {1,2} is 6, {1,5} is 34 and {1} is 2
-abbrev group : ℕ
-group = 38
-
--- a message of that kind and timestamp, from a sender at an epoch
-abbrev inv : ℕ → ℕ → ℕ → ℕ → Deed
-inv v t from e = does (Deliver (record { sender = from; epoch = e; message = Inv (record { version = v; tie = t }) })) (65 ∷ [])
-
-abbrev ack : ℕ → ℕ → ℕ → ℕ → Deed
-ack v t from e = does (Deliver (record { sender = from; epoch = e; message = Ack (record { version = v; tie = t }) })) []
-
-abbrev val : ℕ → ℕ → ℕ → ℕ → Deed
-val v t from e = does (Deliver (record { sender = from; epoch = e; message = Val (record { version = v; tie = t }) })) []
-
-abbrev save : Deed
-save = does Write (66 ∷ 49 ∷ [])
-
-abbrev ackOf : ℕ → ℕ → Message
-ackOf v t = Ack (record { version = v; tie = t })
-
--- a fresh start, then the deeds
-abbrev fresh : List Deed → List Deed
-fresh ds = starts 2 group ∷ ds
+-- what a row says; an event's is of the one laptop that all of these rows are about
+abbrev pub Holds : Row → Type 0
+Holds (ofEvent r) = event.Holds events.unstarted r
+Holds (ofPacket r) = packets.Holds r
 
 unfoldable pub rows : List Row
-rows =
-    -- fresh: (0,1), valid
-    row [] (starts 2 group) (answers 0 ∷ leaves state.Valid ∷ stamps 0 1 ∷ acknowledgedBy 0 ∷ silent ∷ [])
-    -- write: (1,2), state write
-    ∷ row (fresh []) save (answers 0 ∷ leaves state.Write ∷ stamps 1 2 ∷ acknowledgedBy 0 ∷ sends (Inv (record { version = 1; tie = 2 })) ∷ [])
-    -- write at (1,2), INV (1,5): invalid-write (1,5)
-    ∷ row (fresh (save ∷ [])) (inv 1 5 5 0) (answers 0 ∷ leaves state.InvalidWrite ∷ stamps 1 5 ∷ sends (ackOf 1 5) ∷ [])
-    -- same, INV (1,1): ACK leaves, record unchanged
-    ∷ row (fresh (save ∷ [])) (inv 1 1 1 0) (answers 0 ∷ sends (ackOf 1 1) ∷ unchanged ∷ [])
-    -- replay at (1,5), INV (2,1): invalid; only a view without 5 leads to the first
-    ∷ row (fresh (inv 1 5 5 0 ∷ turns 1 6 ∷ does Replay [] ∷ [])) (inv 2 1 1 1) (answers 0 ∷ leaves state.Invalid ∷ stamps 2 1 ∷ sends (ackOf 2 1) ∷ [])
-    -- the same before the INV: replay at (1,5)
-    ∷ row (fresh (inv 1 5 5 0 ∷ turns 1 6 ∷ [])) (does Replay []) (answers 0 ∷ leaves state.Replay ∷ stamps 1 5 ∷ sends (Inv (record { version = 1; tie = 5 })) ∷ [])
-    -- ACK (1,2) from 5: counted; a second time: 13
-    ∷ row (fresh (save ∷ [])) (ack 1 2 5 0) (answers 0 ∷ leaves state.Write ∷ acknowledgedBy 32 ∷ silent ∷ [])
-    ∷ row (fresh (save ∷ ack 1 2 5 0 ∷ [])) (ack 1 2 5 0) (answers 13 ∷ unchanged ∷ silent ∷ [])
-    -- invalid-write (1,5): VAL (1,5) valid, VAL (1,2) 14
-    ∷ row (fresh (save ∷ inv 1 5 5 0 ∷ [])) (val 1 5 5 0) (answers 0 ∷ leaves state.Valid ∷ stamps 1 5 ∷ silent ∷ [])
-    ∷ row (fresh (save ∷ inv 1 5 5 0 ∷ [])) (val 1 2 5 0) (answers 14 ∷ unchanged ∷ silent ∷ [])
-    -- write, acknowledged by 1: validate 15; after view {1,2}, epoch 1, accepted
-    ∷ row (fresh (save ∷ ack 1 2 1 0 ∷ [])) (does Validate []) (answers 15 ∷ unchanged ∷ silent ∷ [])
-    ∷ row (fresh (save ∷ ack 1 2 1 0 ∷ turns 1 6 ∷ [])) (does Validate []) (answers 0 ∷ leaves state.Valid ∷ stamps 1 2 ∷ acknowledgedBy 2 ∷ sends (Val (record { version = 1; tie = 2 })) ∷ [])
-    -- write at version 4,294,967,294 accepted, at 4,294,967,295: 9
-    ∷ row (fresh (inv 4294967294 5 5 0 ∷ [])) save (answers 0 ∷ leaves state.Write ∷ stamps 4294967295 2 ∷ [])
-    ∷ row (fresh (inv 4294967295 5 5 0 ∷ [])) save (answers 9 ∷ unchanged ∷ silent ∷ [])
-    -- view epoch 0: 18; epoch 1 {1}: 19; {1,5} accepted, then 3
-    ∷ row (fresh []) (turns 0 group) (answers 18 ∷ unchanged ∷ [])
-    ∷ row (fresh []) (turns 1 2) (answers 19 ∷ unchanged ∷ [])
-    ∷ row (fresh []) (turns 1 34) (answers 0 ∷ silent ∷ [])
-    ∷ row (fresh (turns 1 34 ∷ [])) (turns 2 34) (answers 3 ∷ unchanged ∷ [])
-    ∷ row (fresh (turns 1 34 ∷ [])) (does Read []) (answers 3 ∷ unchanged ∷ [])
-    -- epoch 1's VAL at epoch 0: 10
-    ∷ row (fresh (inv 1 5 5 0 ∷ [])) (val 1 5 5 1) (answers 10 ∷ unchanged ∷ silent ∷ [])
-    -- ACK of (1,2) for record 7 from 5 at epoch 0 is packet 1,1,0,20,2,5,0,0,0,0,0,7,0,0,0,1,2,0,20,0
-    ∷ packs (record { header = record { sender = 5; epoch = 0; index = 7 }; message = ackOf 1 2; len = 0 })
-    (1 ∷ 1 ∷ 0 ∷ 20 ∷ 2 ∷ 5 ∷ 0 ∷ 0 ∷ 0 ∷ 0 ∷ 0 ∷ 7 ∷ 0 ∷ 0 ∷ 0 ∷ 1 ∷ 2 ∷ 0 ∷ 20 ∷ 0 ∷ [])
-    ∷ []
+rows = map ofEvent events.rows ++ map ofPacket packets.rows

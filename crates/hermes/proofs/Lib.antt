@@ -16,3 +16,6 @@ pub mod Frame
 pub mod Locality
 pub mod Recipients
 pub mod Conformance
+pub mod Coded
+pub mod Table
+pub mod Rows

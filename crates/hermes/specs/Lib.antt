@@ -13,3 +13,5 @@ pub mod Agreement
 pub mod Reads
 pub mod Played
 pub mod Witness
+pub mod Worked
+pub mod Rows

@@ -5,3 +5,4 @@ pub mod Writing
 pub mod Entries
 pub mod Contents
 pub mod RoundTrip
+pub mod Rows

@@ -4,3 +4,4 @@ pub mod Entry
 pub mod Reading
 pub mod Writing
 pub mod RoundTrip
+pub mod Rows

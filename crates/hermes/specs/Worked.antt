@@ -2,22 +2,25 @@
 use Prim.Native.Nat.{ℕ}
 use mathlib.Core.Path.{_≡_}
 use mathlib.Core.List.{List, [], _∷_}
+use lib.ListN.{set}
+use Rattle.hermes_record.specs.declared.record.Record.{Record}
 use Rattle.hermes_record.specs.declared.record.State.{State}
 use Rattle.hermes.specs.declared.message.Message.{Message}
 use Rattle.hermes.specs.declared.message.Outgoing.the-variants.{None}
+use Rattle.hermes.specs.declared.event.Replica.{Replica}
 use Rattle.hermes.specs.declared.event.Event.{Event}
 use Rattle.hermes_record.specs.Order.{higher}
-use Rattle.hermes.specs.Event.{answerOf, numberOf, sentBy, send}
-use Rattle.packet_format.specs.declared.entry.Entry.{Entry}
-use Rattle.packet_format.specs.declared.answer.Fetched.the-variants.{Found}
-use Rattle.packet_format.specs.Reading.{entryPlace, fetched}
-use Rattle.packet_format.specs.Writing.{packetBytes}
-use Rattle.hermes.specs.Node.{Node, Outcome, Start, recordOf, apply, start, viewed, identity, admissionNumber}
+use Rattle.hermes.specs.Store.{place}
+use Rattle.hermes.specs.Event.{answerOf, numberOf, sentBy, send, refusal}
+use Rattle.hermes.specs.Node.{Node, Outcome, Start, recordOf, apply, start, view, viewed, identity, admissionNumber}
 
--- what happens to the laptop of the rows, on its one record
+-- ---- a row of deeds: what happens to a laptop, on its one record, and what is said of it
+
 pub data Deed : Type 0 where
   -- a fresh start with this number and view
   starts : ℕ → ℕ → Deed
+  -- no event: the record is laid down as it stands here, with its value
+  lays : Record → List ℕ → Deed
   -- an event with the bytes that come with it
   does : Event → List ℕ → Deed
   -- a view event
@@ -31,6 +34,8 @@ startOutcome n s = record {
 
 abbrev pub outcome : Node → Deed → Outcome
 outcome n (starts number view) = startOutcome n (start number view (n .table) (n .store))
+outcome n (lays r v) =
+    record { answer = answerOf 0 None; node = record { me = n .me; table = set (n .table) 0 r; store = place 0 v (n .store) } }
 outcome n (does e v) = apply higher n 0 e v
 outcome n (turns epoch view) = viewed n epoch view
 
@@ -49,12 +54,6 @@ pub data Claim : Type 0 where
   silent : Claim
   unchanged : Claim
 
-pub data Row : Type 0 where
-  -- earlier deeds, the row's own, and what is said of it
-  row : List Deed → Deed → List Claim → Row
-  -- a message without a body, and the bytes of its packet
-  packs : Entry → List ℕ → Row
-
 -- the claim, of the laptop n before the deed and the outcome o
 abbrev pub Says : Claim → Node → Outcome → Type 0
 Says (answers k) n o = numberOf (o .answer) ≡ k
@@ -69,7 +68,12 @@ abbrev pub SaysAll : List Claim → Node → Outcome → Type 0
 SaysAll [] n o = Unit
 SaysAll (c ∷ cs) n o = Says c n o × SaysAll cs n o
 
+-- ---- rows
+
+pub data Row : Type 0 where
+  -- earlier deeds, the row's own, and what is said of it
+  row : List Deed → Deed → List Claim → Row
+
 -- the row, of a laptop that was lent this memory
 abbrev pub Holds : Node → Row → Type 0
 Holds n (row earlier deed claims) = SaysAll claims (before n earlier) (outcome (before n earlier) deed)
-Holds n (packs e p) = (packetBytes 1 (e ∷ []) [] ≡ p) × (fetched p 0 ≡ Found e (entryPlace 1))

@@ -1,0 +1,56 @@
+-- Every row about packets holds: one test that is computed over the whole list, and what it gives of each row.
+use Prim.Native.Nat.{ℕ, zero, suc}
+use mathlib.Core.Path.{_≡_, refl}
+use mathlib.Core.Bool.{Bool, true, _&&_}
+use mathlib.Core.List.{List, [], _∷_, List·Memᴰ}
+use lib.ListN.{getD, drop}
+use Rattle.hermes.specs.declared.message.Outgoing.{Outgoing}
+use Rattle.hermes.specs.declared.message.Outgoing.the-variants.{None, Sent}
+use Rattle.packet_format.specs.declared.answer.Fetched.{Fetched}
+use Rattle.packet_format.specs.declared.answer.Fetched.the-variants.{Found, Refused}
+use Rattle.packet_format.specs.Entry.{good, entryBytes}
+use Rattle.packet_format.specs.Reading.{entryPlace, walk, fetchRefusal, fetched}
+use Rattle.packet_format.specs.Writing.{contents, packetBytes}
+use Rattle.packet_format.specs.Rows.{Row, packs, Holds, rows}
+use Rattle.hermes_record.proofs.Tests.{both}
+use Rattle.hermes.proofs.Coded.{Coded, same, same-sound, sameList, list-sound, messageNumbers, outgoingNumbers, outgoingBack, outgoing-had}
+use Rattle.hermes.proofs.Table.{passing, every}
+
+fetchedNumbers : Fetched → List ℕ
+fetchedNumbers (Found e at) = 0 ∷ at ∷ e .len ∷ outgoingNumbers (Sent (e .message) (e .header))
+fetchedNumbers (Refused k) = 1 ∷ k ∷ []
+
+entryBack : ℕ → ℕ → Outgoing → Fetched
+entryBack at n None = Refused 0
+entryBack at n (Sent m h) = Found (record { header = h; message = m; len = n }) at
+
+fetchedBack : List ℕ → Fetched
+fetchedBack [] = Refused 0
+fetchedBack (zero ∷ l) = entryBack (getD l 0 0) (getD l 1 0) (outgoingBack (drop 2 l))
+fetchedBack (suc k ∷ l) = Refused (getD l 0 0)
+
+fetched-had : (f : Fetched) → fetchedBack (fetchedNumbers f) ≡ f
+unfolding fetchedBack fetchedNumbers entryBack
+fetched-had (Found e at) = rw (outgoing-had (Sent (e .message) (e .header)))
+fetched-had (Refused k) = refl
+
+fetchedCode : Coded Fetched
+fetchedCode = record { numbers = fetchedNumbers; back = fetchedBack; had = fetched-had }
+
+test : Row → Bool
+test (packs e p) = sameList (packetBytes 1 (e ∷ []) []) p && same fetchedCode (fetched p 0) (Found e (entryPlace 1))
+
+holds : (r : Row) → test r ≡ true → Holds r
+unfolding test
+holds (packs m p) e =
+    let (s, t) = both (sameList (packetBytes 1 (m ∷ []) []) p) (same fetchedCode (fetched p 0) (Found m (entryPlace 1))) e in
+    (list-sound (packetBytes 1 (m ∷ []) []) p s, same-sound fetchedCode (fetched p 0) (Found m (entryPlace 1)) t)
+
+-- the test, computed
+computed : passing Row test rows ≡ true
+unfolding passing test same sameList fetchedCode fetchedNumbers outgoingNumbers messageNumbers rows good entryBytes walk fetchRefusal fetched contents packetBytes
+computed = refl
+
+-- Every row about packets holds.
+pub packets-worked : (r : Row) → List·Memᴰ r rows → Holds r
+packets-worked = every Row test Holds holds rows computed
