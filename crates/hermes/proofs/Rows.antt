@@ -9,9 +9,10 @@ use Rattle.hermes_record.specs.Members.{has, size, lowest, within, othersIn, wi
 use Rattle.hermes_record.specs.Order.{later, sameTimestamp}
 use Rattle.hermes.specs.Store.{padded, place}
 use Rattle.hermes.specs.Event.{numberOf, sentBy, send, refusal, effect}
-use Rattle.hermes.specs.Node.{Node, Outcome, recordOf, apply, start, view, viewed}
-use Rattle.hermes.specs.Worked.{Claim, answers, leaves, stamps, acknowledgedBy, sends, silent, unchanged, Says, SaysAll, Row, row, Holds, before, outcome}
-use Rattle.hermes.specs.Rows.{unstarted, rows}
+use Rattle.hermes.specs.Node.{Node, Outcome, recordOf, apply, admit, start, view, viewed, admissionNumber}
+use Rattle.hermes.specs.Worked.{Claim, answers, leaves, stamps, acknowledgedBy, sends, silent, unchanged, Says, SaysAll, Row, row, asks, asksStart, asksView, Holds, before, outcome}
+use Rattle.hermes.specs.Limits.{limits}
+use Rattle.hermes.specs.Rows.{unstarted, ringing, rows}
 use Rattle.hermes_record.proofs.Tests.{both}
 use Rattle.hermes.proofs.Coded.{same, same-sound, sameList, stateCode, timestampCode, recordCode, recordNumbers, replicaCode, messageNumbers, outgoingNumbers, outgoingCode, sameTable, sameNode, node-sound}
 use Rattle.hermes.proofs.Table.{passing, every}
@@ -46,14 +47,20 @@ says-all (c ∷ cs) n o e = let (p, q) = both (test c n o) (testAll cs n o) e in
 
 testRow : Node → Row → Bool
 testRow n (row earlier deed claims) = testAll claims (before n earlier) (outcome (before n earlier) deed)
+testRow n (asks me count bytes i r e m k) = eqb (refusal me count bytes i r e m) k
+testRow n (asksStart number set count bytes k) = eqb (admissionNumber (admit number set count bytes)) k
+testRow n (asksView me epoch set k) = eqb (admissionNumber (view me epoch set)) k
 
 holds : (n : Node) (r : Row) → testRow n r ≡ true → Holds n r
 unfolding testRow
 holds n (row earlier deed claims) e = says-all claims (before n earlier) (outcome (before n earlier) deed) e
+holds n (asks me count bytes i r d m k) e = eqb-true _ k e
+holds n (asksStart number set count bytes k) e = eqb-true _ k e
+holds n (asksView me epoch set k) e = eqb-true _ k e
 
 -- the test, computed
 computed : passing Row (testRow unstarted) rows ≡ true
-unfolding passing testRow testAll test same sameList sameTable sameNode stateCode timestampCode recordCode recordNumbers replicaCode outgoingCode outgoingNumbers messageNumbers unstarted rows apply effect refusal start view viewed has size lowest within othersIn with later sameTimestamp padded place
+unfolding passing testRow testAll test same sameList sameTable sameNode stateCode timestampCode recordCode recordNumbers replicaCode outgoingCode outgoingNumbers messageNumbers unstarted limits ringing rows apply effect refusal start view viewed has size lowest within othersIn with later sameTimestamp padded place
 computed = refl
 
 -- Every row about the events holds.

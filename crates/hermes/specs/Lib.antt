@@ -14,4 +14,5 @@ pub mod Reads
 pub mod Played
 pub mod Witness
 pub mod Worked
+pub mod Limits
 pub mod Rows

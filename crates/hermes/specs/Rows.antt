@@ -1,6 +1,6 @@
 -- Document 01, "From the ringing table", the rows marked P. Laptop 2, view {1,2,5}, epoch 0 unless said.
 use Prim.Native.Nat.{ℕ}
-use mathlib.Core.List.{List, [], _∷_}
+use mathlib.Core.List.{List, [], _∷_, _++_}
 use lib.ListN.{replicate}
 use Rattle.hermes_record.specs.declared.record.Record.{Record}
 use Rattle.hermes.specs.declared.message.Message.{Message}
@@ -10,6 +10,7 @@ use Rattle.hermes.specs.declared.event.Event.the-variants.{Read, Write, 
 use Rattle.hermes_record.specs.Record.{freshRecord}
 use Rattle.hermes.specs.Node.{Node, newcomer}
 use Rattle.hermes.specs.Worked.{Deed, starts, lays, does, turns, answers, leaves, stamps, acknowledgedBy, sends, silent, unchanged, Row, row}
+use Rattle.hermes.specs.Limits.{limits}
 
 -- the laptop before its start: one record, and memory that holds something else
 unfoldable pub unstarted : Node
@@ -50,8 +51,8 @@ replaying = record {
   len = 1;
 }
 
-unfoldable pub rows : List Row
-rows =
+unfoldable pub ringing : List Row
+ringing =
     -- fresh: (0,1), valid
     row [] (starts 2 group) (answers 0 ∷ leaves state.Valid ∷ stamps 0 1 ∷ acknowledgedBy 0 ∷ silent ∷ [])
     -- write: (1,2), state write
@@ -85,3 +86,7 @@ rows =
     -- epoch 1's VAL at epoch 0: 10
     ∷ row (fresh (inv 1 5 5 0 ∷ [])) (val 1 5 5 1) (answers 10 ∷ unchanged ∷ silent ∷ [])
     ∷ []
+
+-- the paper's rows, and those that pin its numbers and limits
+unfoldable pub rows : List Row
+rows = ringing ++ limits

@@ -12,7 +12,7 @@ use Rattle.hermes.specs.declared.event.Event.{Event}
 use Rattle.hermes_record.specs.Order.{higher}
 use Rattle.hermes.specs.Store.{place}
 use Rattle.hermes.specs.Event.{answerOf, numberOf, sentBy, send, refusal}
-use Rattle.hermes.specs.Node.{Node, Outcome, Start, recordOf, apply, start, view, viewed, identity, admissionNumber}
+use Rattle.hermes.specs.Node.{Node, Outcome, Start, recordOf, apply, admit, start, view, viewed, identity, admissionNumber}
 
 -- ---- a row of deeds: what happens to a laptop, on its one record, and what is said of it
 
@@ -73,7 +73,17 @@ SaysAll (c ∷ cs) n o = Says c n o × SaysAll cs n o
 pub data Row : Type 0 where
   -- earlier deeds, the row's own, and what is said of it
   row : List Deed → Deed → List Claim → Row
+  -- an event: the laptop, its count of records and bytes of store, the record's number and the record, the event and how many bytes come
+  -- with it; the number answered
+  asks : Replica → ℕ → ℕ → ℕ → Record → Event → ℕ → ℕ → Row
+  -- a fresh start: number, view, count of records and bytes of store; the number answered
+  asksStart : ℕ → ℕ → ℕ → ℕ → ℕ → Row
+  -- a view event: the laptop, the new epoch and view; the number answered
+  asksView : Replica → ℕ → ℕ → ℕ → Row
 
--- the row, of a laptop that was lent this memory
+-- what a row says; a row of deeds begins with the laptop n
 abbrev pub Holds : Node → Row → Type 0
 Holds n (row earlier deed claims) = SaysAll claims (before n earlier) (outcome (before n earlier) deed)
+Holds n (asks me count bytes i r e m k) = refusal me count bytes i r e m ≡ k
+Holds n (asksStart number view count bytes k) = admissionNumber (admit number view count bytes) ≡ k
+Holds n (asksView me epoch set k) = admissionNumber (view me epoch set) ≡ k
