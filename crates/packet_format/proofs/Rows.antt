@@ -3,15 +3,17 @@ use Prim.Native.Nat.{ℕ, zero, suc}
 use mathlib.Core.Path.{_≡_, refl}
 use mathlib.Core.Bool.{Bool, true, _&&_}
 use mathlib.Core.List.{List, [], _∷_, List·Memᴰ}
+use lib.Dec.{eqb}
 use lib.ListN.{getD, drop}
+use borrow.Author.Tests.{eqb-true}
 use Rattle.hermes.specs.declared.message.Outgoing.{Outgoing}
 use Rattle.hermes.specs.declared.message.Outgoing.the-variants.{None, Sent}
 use Rattle.packet_format.specs.declared.answer.Fetched.{Fetched}
 use Rattle.packet_format.specs.declared.answer.Fetched.the-variants.{Found, Refused}
 use Rattle.packet_format.specs.Entry.{good, entryBytes}
-use Rattle.packet_format.specs.Reading.{entryPlace, walk, fetchRefusal, fetched}
-use Rattle.packet_format.specs.Writing.{contents, packetBytes}
-use Rattle.packet_format.specs.Rows.{Row, packs, Holds, rows}
+use Rattle.packet_format.specs.Reading.{entryPlace, walk, fetchRefusal, fetched, fetchedNumber}
+use Rattle.packet_format.specs.Writing.{summed, contents, packetBytes, allGood, writeRefusal, packetWritten, writtenNumber}
+use Rattle.packet_format.specs.Rows.{Row, packs, fetches, writes, Holds, rows}
 use Rattle.hermes_record.proofs.Tests.{both}
 use Rattle.hermes.proofs.Coded.{Coded, same, same-sound, sameList, list-sound, messageNumbers, outgoingNumbers, outgoingBack, outgoing-had}
 use Rattle.hermes.proofs.Table.{passing, every}
@@ -38,17 +40,21 @@ fetchedCode : Coded Fetched
 fetchedCode = record { numbers = fetchedNumbers; back = fetchedBack; had = fetched-had }
 
 test : Row → Bool
-test (packs e p) = sameList (packetBytes 1 (e ∷ []) []) p && same fetchedCode (fetched p 0) (Found e (entryPlace 1))
+test (packs e body p) = sameList (packetBytes 1 (e ∷ []) body) p && same fetchedCode (fetched p 0) (Found e (entryPlace 1))
+test (fetches p i k) = eqb (fetchedNumber (fetched p i)) k
+test (writes es count bodies room k) = eqb (writtenNumber (packetWritten es count bodies room)) k
 
 holds : (r : Row) → test r ≡ true → Holds r
 unfolding test
-holds (packs m p) e =
-    let (s, t) = both (sameList (packetBytes 1 (m ∷ []) []) p) (same fetchedCode (fetched p 0) (Found m (entryPlace 1))) e in
-    (list-sound (packetBytes 1 (m ∷ []) []) p s, same-sound fetchedCode (fetched p 0) (Found m (entryPlace 1)) t)
+holds (packs m body p) e =
+    let (s, t) = both (sameList (packetBytes 1 (m ∷ []) body) p) (same fetchedCode (fetched p 0) (Found m (entryPlace 1))) e in
+    (list-sound (packetBytes 1 (m ∷ []) body) p s, same-sound fetchedCode (fetched p 0) (Found m (entryPlace 1)) t)
+holds (fetches p i k) e = eqb-true _ k e
+holds (writes es count bodies room k) e = eqb-true _ k e
 
 -- the test, computed
 computed : passing Row test rows ≡ true
-unfolding passing test same sameList fetchedCode fetchedNumbers outgoingNumbers messageNumbers rows good entryBytes walk fetchRefusal fetched contents packetBytes
+unfolding passing test same sameList fetchedCode fetchedNumbers outgoingNumbers messageNumbers rows good entryBytes walk fetchRefusal fetched contents packetBytes summed allGood writeRefusal packetWritten
 computed = refl
 
 -- Every row about packets holds.

@@ -1,24 +1,176 @@
--- The rows about packets: document 01's own, "From the ringing table".
-use Prim.Native.Nat.{ℕ}
+-- The rows about packets: document 01's own, "From the ringing table", and those that pin the numbers of questions 20 to 25 and both sides of their limits.
+use Prim.Native.Nat.{ℕ, zero, suc, _+_, _/_, _%_}
 use mathlib.Core.Path.{_≡_}
-use mathlib.Core.List.{List, [], _∷_}
-use Rattle.hermes.specs.declared.message.Message.the-variants.{Ack}
+use mathlib.Core.List.{List, [], _∷_, _++_}
+use lib.ListN.{replicate}
+use Rattle.hermes.specs.declared.message.Message.{Message}
+use Rattle.hermes.specs.declared.message.Message.the-variants.{Inv, Ack, Val}
 use Rattle.packet_format.specs.declared.entry.Entry.{Entry}
 use Rattle.packet_format.specs.declared.answer.Fetched.the-variants.{Found}
-use Rattle.packet_format.specs.Reading.{entryPlace, fetched}
-use Rattle.packet_format.specs.Writing.{packetBytes}
+use Rattle.packet_format.specs.Reading.{entryPlace, fetched, fetchedNumber}
+use Rattle.packet_format.specs.Writing.{packetBytes, packetWritten, writtenNumber}
 
 pub data Row : Type 0 where
-  -- a message without a body, and the bytes of its packet
-  packs : Entry → List ℕ → Row
+  -- a message, its body, and the bytes of its packet
+  packs : Entry → List ℕ → List ℕ → Row
+  -- message i of a packet is fetched; the number answered
+  fetches : List ℕ → ℕ → ℕ → Row
+  -- the first so many of these messages are written, with these bodies, into so many bytes of output; the number answered
+  writes : List Entry → ℕ → List ℕ → ℕ → ℕ → Row
 
 -- what a row says
 abbrev pub Holds : Row → Type 0
-Holds (packs e p) = (packetBytes 1 (e ∷ []) [] ≡ p) × (fetched p 0 ≡ Found e (entryPlace 1))
+Holds (packs e body p) = (packetBytes 1 (e ∷ []) body ≡ p) × (fetched p 0 ≡ Found e (entryPlace 1))
+Holds (fetches p i k) = fetchedNumber (fetched p i) ≡ k
+Holds (writes es count bodies room k) = writtenNumber (packetWritten es count bodies room) ≡ k
+
+-- ---- messages and packets; none of this uses the rules that the rows are about
+
+-- a message from this sender about this record, with so long a body
+abbrev message : ℕ → ℕ → Message → ℕ → Entry
+message sender index m len = record { header = record { sender = sender; epoch = 0; index = index }; message = m; len = len }
+
+abbrev inv : ℕ → Message
+inv tie = Inv (record { version = 1; tie = tie })
+
+abbrev ack : ℕ → Message
+ack tie = Ack (record { version = 1; tie = tie })
+
+abbrev val : ℕ → Message
+val tie = Val (record { version = 1; tie = tie })
+
+-- so many bytes of a body
+abbrev body : ℕ → List ℕ
+body n = replicate n 65
+
+-- a packet that claims this count and this total
+abbrev packet : ℕ → ℕ → List ℕ → List ℕ
+packet count total rest = 1 ∷ count ∷ total / 256 ∷ total % 256 ∷ rest
+
+-- an entry of 16 bytes: kind, sender, record, tie-breaker, offset and length; its epoch is 0 and its version 1
+abbrev entry : ℕ → ℕ → ℕ → ℕ → ℕ → ℕ → List ℕ → List ℕ
+entry kind sender index tie offset len rest =
+    kind ∷ sender ∷ 0 ∷ 0 ∷ 0 ∷ 0 ∷ index / 256 ∷ index % 256 ∷ 0 ∷ 0 ∷ 0 ∷ 1 ∷ tie ∷ offset / 256 ∷ offset % 256 ∷ len ∷ rest
+
+-- a packet of one such message, 20 bytes and its body; the body in it is n bytes long
+abbrev single : ℕ → ℕ → ℕ → ℕ → ℕ → ℕ → ℕ → List ℕ
+single kind sender index tie offset len n = packet 1 (20 + n) (entry kind sender index tie offset len (body n))
+
+-- entries of n ACKs whose bodies would begin at `at`
+abbrev acks : ℕ → ℕ → List ℕ
+acks zero at = []
+acks (suc n) at = entry 2 5 7 2 at 0 (acks n at)
+
+-- seven INVs with six bodies of 192 bytes and one of n: 1,268 bytes and n
+abbrev seven : ℕ → List ℕ
+seven n =
+    packet 7 (1268 + n)
+    (entry 1 5 7 2 116 192 (entry 1 5 7 2 308 192 (entry 1 5 7 2 500 192 (entry 1 5 7 2 692 192 (entry 1 5 7 2 884 192 (entry 1 5 7 2 1076 192 (entry 1 5 7 2 1268 n (body (1152 + n)))))))))
+
+-- the same seven to be written
+abbrev sevenOf : ℕ → List Entry
+sevenOf n = replicate 6 (message 5 7 (inv 2) 192) ++ message 5 7 (inv 2) n ∷ []
+
+-- two INVs, of bodies of 3 and 2 bytes, the second of this kind and with this offset and length
+abbrev pair : ℕ → ℕ → ℕ → List ℕ
+pair kind offset len = packet 2 41 (entry 1 5 7 2 36 3 (entry kind 5 7 2 offset len (body 5)))
+
+-- ---- the rows
 
 unfoldable pub rows : List Row
 rows =
     -- ACK of (1,2) for record 7 from 5 at epoch 0 is packet 1,1,0,20,2,5,0,0,0,0,0,7,0,0,0,1,2,0,20,0
-    packs (record { header = record { sender = 5; epoch = 0; index = 7 }; message = Ack (record { version = 1; tie = 2 }); len = 0 })
+    packs (record { header = record { sender = 5; epoch = 0; index = 7 }; message = Ack (record { version = 1; tie = 2 }); len = 0 }) []
     (1 ∷ 1 ∷ 0 ∷ 20 ∷ 2 ∷ 5 ∷ 0 ∷ 0 ∷ 0 ∷ 0 ∷ 0 ∷ 7 ∷ 0 ∷ 0 ∷ 0 ∷ 1 ∷ 2 ∷ 0 ∷ 20 ∷ 0 ∷ [])
+    -- no rows of the paper: INV and VAL, every byte of a number another
+    ∷ packs (record { header = record { sender = 15; epoch = 168496141; index = 258 }; message = Inv (record { version = 16909060; tie = 14 }); len = 3 }) (97 ∷ 98 ∷ 99 ∷ [])
+    (1 ∷ 1 ∷ 0 ∷ 23 ∷ 1 ∷ 15 ∷ 10 ∷ 11 ∷ 12 ∷ 13 ∷ 1 ∷ 2 ∷ 1 ∷ 2 ∷ 3 ∷ 4 ∷ 14 ∷ 0 ∷ 20 ∷ 3 ∷ 97 ∷ 98 ∷ 99 ∷ [])
+    ∷ packs (record { header = record { sender = 5; epoch = 168496141; index = 258 }; message = Val (record { version = 16909060; tie = 2 }); len = 0 }) []
+    (1 ∷ 1 ∷ 0 ∷ 20 ∷ 3 ∷ 5 ∷ 10 ∷ 11 ∷ 12 ∷ 13 ∷ 1 ∷ 2 ∷ 1 ∷ 2 ∷ 3 ∷ 4 ∷ 2 ∷ 0 ∷ 20 ∷ 0 ∷ [])
+    -- 20: at least 4 bytes, byte 0 is 1, count 1 to 64, total equal to the bytes lent and at most 1,400?
+    ∷ fetches [] 0 20
+    ∷ fetches (1 ∷ 1 ∷ 0 ∷ []) 0 20
+    ∷ fetches (1 ∷ 1 ∷ 0 ∷ 4 ∷ []) 0 21
+    ∷ fetches (0 ∷ 1 ∷ 0 ∷ 20 ∷ acks 1 20) 0 20
+    ∷ fetches (1 ∷ 1 ∷ 0 ∷ 20 ∷ acks 1 20) 0 0
+    ∷ fetches (2 ∷ 1 ∷ 0 ∷ 20 ∷ acks 1 20) 0 20
+    ∷ fetches (packet 0 4 []) 0 20
+    ∷ fetches (packet 64 1028 (acks 64 1028)) 0 0
+    ∷ fetches (packet 65 1044 (acks 65 1044)) 0 20
+    ∷ fetches (packet 1 19 (acks 1 20)) 0 20
+    ∷ fetches (packet 1 21 (acks 1 20)) 0 20
+    ∷ fetches (seven 132) 0 0
+    ∷ fetches (seven 133) 0 20
+    -- 21: contents table whole?
+    ∷ fetches (packet 2 36 (acks 2 36)) 0 0
+    ∷ fetches (packet 2 35 (acks 1 36 ++ (2 ∷ 5 ∷ 0 ∷ 0 ∷ 0 ∷ 0 ∷ 0 ∷ 7 ∷ 0 ∷ 0 ∷ 0 ∷ 1 ∷ 2 ∷ 0 ∷ 36 ∷ []))) 0 21
+    -- 22: every entry good: kind known, ..
+    ∷ fetches (single 0 5 7 2 20 0 0) 0 22
+    ∷ fetches (single 1 5 7 2 20 0 0) 0 0
+    ∷ fetches (single 3 5 7 2 20 0 0) 0 0
+    ∷ fetches (single 4 5 7 2 20 0 0) 0 22
+    -- .. sender and tie-breaker at most 15, record at most 4,095, ..
+    ∷ fetches (single 2 15 7 2 20 0 0) 0 0
+    ∷ fetches (single 2 16 7 2 20 0 0) 0 22
+    ∷ fetches (single 2 5 7 15 20 0 0) 0 0
+    ∷ fetches (single 2 5 7 16 20 0 0) 0 22
+    ∷ fetches (single 2 5 4095 2 20 0 0) 0 0
+    ∷ fetches (single 2 5 4096 2 20 0 0) 0 22
+    -- .. length at most 192 and 0 unless INV, ..
+    ∷ fetches (single 1 5 7 2 20 192 192) 0 0
+    ∷ fetches (single 1 5 7 2 20 193 193) 0 22
+    ∷ fetches (single 1 5 7 2 20 1 1) 0 0
+    ∷ fetches (single 2 5 7 2 20 1 1) 0 22
+    ∷ fetches (single 3 5 7 2 20 1 1) 0 22
+    -- .. offsets as ruled, last body ending at the total?
+    ∷ fetches (single 2 5 7 2 19 0 0) 0 22
+    ∷ fetches (single 2 5 7 2 21 0 0) 0 22
+    ∷ fetches (single 1 5 7 2 20 1 2) 0 22
+    ∷ fetches (single 1 5 7 2 20 2 1) 0 22
+    ∷ fetches (pair 1 39 2) 0 0
+    ∷ fetches (pair 1 39 2) 1 0
+    ∷ fetches (pair 1 38 2) 0 22
+    ∷ fetches (pair 1 40 2) 0 22
+    ∷ fetches (pair 1 39 1) 0 22
+    ∷ fetches (pair 1 39 3) 0 22
+    ∷ fetches (pair 4 39 2) 0 22
+    -- 23: i below the count?
+    ∷ fetches (packet 1 20 (acks 1 20)) 1 23
+    ∷ fetches (pair 1 39 2) 2 23
+    ∷ fetches (packet 64 1028 (acks 64 1028)) 63 0
+    ∷ fetches (packet 64 1028 (acks 64 1028)) 64 23
+    -- 24: count 1 to 64, ..
+    ∷ writes (message 5 7 (ack 2) 0 ∷ []) 0 [] 20 24
+    ∷ writes (message 5 7 (ack 2) 0 ∷ []) 1 [] 20 0
+    ∷ writes (replicate 65 (message 5 7 (ack 2) 0)) 64 [] 1400 0
+    ∷ writes (replicate 65 (message 5 7 (ack 2) 0)) 65 [] 1400 24
+    -- .. fields as in 22, ..
+    ∷ writes (message 15 7 (ack 2) 0 ∷ []) 1 [] 20 0
+    ∷ writes (message 16 7 (ack 2) 0 ∷ []) 1 [] 20 24
+    ∷ writes (message 5 7 (ack 15) 0 ∷ []) 1 [] 20 0
+    ∷ writes (message 5 7 (ack 16) 0 ∷ []) 1 [] 20 24
+    ∷ writes (message 5 4095 (ack 2) 0 ∷ []) 1 [] 20 0
+    ∷ writes (message 5 4096 (ack 2) 0 ∷ []) 1 [] 20 24
+    ∷ writes (message 5 7 (inv 2) 192 ∷ []) 1 (body 192) 1400 0
+    ∷ writes (message 5 7 (inv 2) 193 ∷ []) 1 (body 193) 1400 24
+    ∷ writes (message 5 7 (inv 2) 1 ∷ []) 1 (body 1) 1400 0
+    ∷ writes (message 5 7 (ack 2) 1 ∷ []) 1 (body 1) 1400 24
+    ∷ writes (message 5 7 (val 2) 1 ∷ []) 1 (body 1) 1400 24
+    ∷ writes (message 5 7 (ack 2) 0 ∷ message 16 7 (ack 2) 0 ∷ []) 1 [] 1400 0
+    ∷ writes (message 5 7 (ack 2) 0 ∷ message 16 7 (ack 2) 0 ∷ []) 2 [] 1400 24
+    -- .. bodies of exactly the summed length?
+    ∷ writes (message 5 7 (inv 2) 3 ∷ message 5 7 (inv 2) 2 ∷ []) 2 (body 4) 1400 24
+    ∷ writes (message 5 7 (inv 2) 3 ∷ message 5 7 (inv 2) 2 ∷ []) 2 (body 5) 1400 0
+    ∷ writes (message 5 7 (inv 2) 3 ∷ message 5 7 (inv 2) 2 ∷ []) 2 (body 6) 1400 24
+    -- 25: total at most 1,400 and within the lent output?
+    ∷ writes (sevenOf 132) 7 (body 1284) 2000 0
+    ∷ writes (sevenOf 133) 7 (body 1285) 2000 25
+    ∷ writes (sevenOf 132) 7 (body 1284) 1400 0
+    ∷ writes (sevenOf 132) 7 (body 1284) 1399 25
+    ∷ writes (message 5 7 (ack 2) 0 ∷ []) 1 [] 19 25
+    -- where two questions say no, the first of them answers
+    ∷ fetches (2 ∷ 1 ∷ 0 ∷ 4 ∷ []) 0 20
+    ∷ fetches (packet 2 20 (entry 4 5 7 2 20 0 [])) 0 21
+    ∷ fetches (single 4 5 7 2 20 0 0) 1 22
+    ∷ writes [] 0 [] 0 24
     ∷ []
