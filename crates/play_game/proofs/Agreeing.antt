@@ -7,12 +7,13 @@ use native.Mathlib.Omega.{arith}
 use borrow.Author.Tests.{ltb-true}
 use lib.Dec.{ltb}
 use lib.ListN.{length, replicate}
+use Rattle.hermes.specs.declared.event.Admission.{Admission}
 use Rattle.hermes.specs.declared.event.Admission.the-variants.{Admitted}
 use Rattle.hermes_record.specs.Members.{has, size, lowest}
 use Rattle.hermes_record.specs.Order.{higher}
 use Rattle.hermes_record.specs.Record.{freshRecord}
 use Rattle.hermes.specs.Event.{sentBy}
-use Rattle.hermes.specs.Node.{newcomer, Start, start}
+use Rattle.hermes.specs.Node.{newcomer, identity, start}
 use Rattle.hermes.specs.Run.{Entry, Group, Result, nothing, event, result}
 use Rattle.hermes.specs.Agreement.{Started, AsIssued, Entries}
 use Rattle.hermes.proofs.Agreement.{run-append, agreement}
@@ -21,7 +22,8 @@ use Rattle.play_words.specs.declared.command.Command.{Command}
 use Rattle.play_words.specs.declared.command.Command.the-variants.{Read, Write, Replay, Deliver, Validate, Resend, View}
 use Rattle.play_script.specs.declared.command.Line.{Line}
 use Rattle.play_script.specs.declared.command.Line.the-variants as line
-use Rattle.play_member.specs.Member.{hasRoom}
+use Rattle.play_member.specs.Member.{startIn, freshIn, hasRoom}
+use Rattle.play_member.proofs.Members.{fresh-table}
 use Rattle.play_game.specs.Play.{freshNode, freshGroup, played, reply, unknown, actionOf, entryTurn, turnOf, turn, after, entriesOf}
 use Rattle.play_game.specs.Agreed.{Issued, OfLine, OneViewEach, playedOn, PlayedIsRun, PlayedAgrees}
 
@@ -76,10 +78,7 @@ of-script n issued g (s ∷ rest) h =
 
 -- ---- the fresh start of each laptop is accepted
 
-abbrev begun-node : ℕ → ℕ → Type 0
-begun-node n k = start k (2 ^ n - 1) (freshRecord 0 ∷ []) (replicate 192 0) ≡ record { admission = Admitted (newcomer k (2 ^ n - 1)); table = freshRecord 0 ∷ []; store = replicate 192 0 }
-
-pub fresh-start : (n k : ℕ) → 2 ≤ n → n ≤ 4 → k < n → begun-node n k
+pub fresh-start : (n k : ℕ) → 2 ≤ n → n ≤ 4 → k < n → startIn (2 ^ n - 1) k .admission ≡ Admitted (newcomer k (2 ^ n - 1))
 unfolding start has size lowest
 fresh-start zero k l h e = absurd (omega arith)
 fresh-start (suc zero) k l h e = absurd (omega arith)
@@ -98,22 +97,22 @@ fresh-start (suc (suc (suc (suc zero)))) (suc (suc (suc (suc k)))) l h e = absur
 fresh-start (suc (suc (suc (suc (suc n))))) k l h e = absurd (omega arith)
 
 started : (n : ℕ) → 2 ≤ n → n ≤ 4 → (issued : ℕ → ℕ) → issued 0 ≡ 2 ^ n - 1 → Started (λ k. ltb k n) 1 issued (freshGroup n)
-unfolding freshGroup freshNode
+unfolding freshGroup freshNode freshIn
 started n l h issued i = record {
   fresh = λ k e. record {
     table = freshRecord 0 ∷ [];
     store = replicate 192 0;
     records = refl;
-    accepted = ap (λ (x : Start). x .admission) (at k e);
-    tableAfter = sym (ap (λ (x : Start). x .table) (at k e));
-    storeAfter = sym (ap (λ (x : Start). x .store) (at k e));
+    accepted =
+        ap (λ (v : ℕ). startIn v k .admission) i ∙ at k e ∙ ap (λ (x : Admission). Admitted (identity x (newcomer k (2 ^ n - 1)))) (sym (at k e));
+    tableAfter = fresh-table (2 ^ n - 1) k ∙ ap (λ (v : ℕ). startIn v k .table) (sym i);
+    storeAfter = ap (λ (v : ℕ). startIn v k .store) (sym i);
   };
   silent = refl;
 }
   where
-    at : (k : ℕ) → ltb k n ≡ true
-        → start k (issued 0) (freshRecord 0 ∷ []) (replicate 192 0) ≡ record { admission = Admitted (newcomer k (2 ^ n - 1)); table = freshRecord 0 ∷ []; store = replicate 192 0 }
-    at k e = ap (λ (v : ℕ). start k v (freshRecord 0 ∷ []) (replicate 192 0)) i ∙ fresh-start n k l h (ltb-true k n e)
+    at : (k : ℕ) → ltb k n ≡ true → startIn (2 ^ n - 1) k .admission ≡ Admitted (newcomer k (2 ^ n - 1))
+    at k e = fresh-start n k l h (ltb-true k n e)
 
 pub played-agrees : PlayedAgrees
 played-agrees n l h issued i ls v =

@@ -4,10 +4,9 @@ use Prim.Native.Nat.{ℕ, _-_, _^_, _≤_}
 use mathlib.Core.Path.{_≡_}
 use mathlib.Core.Bool.{cond}
 use mathlib.Core.List.{List, [], _∷_}
-use lib.ListN.{length, getD, replicate}
+use lib.ListN.{length, getD}
 use lib.Dec.{ltb, eqb}
-use Rattle.hermes_record.specs.Record.{freshRecord}
-use Rattle.hermes.specs.Node.{Node, newcomer}
+use Rattle.hermes.specs.Node.{Node}
 use Rattle.hermes.specs.Event.{sentBy}
 use Rattle.hermes_record.specs.Order.{higher}
 use Rattle.hermes.specs.Run.{Logged, Group, Result, nothing, event, perform, logged}
@@ -26,9 +25,9 @@ use Rattle.play_log.specs.Log.{logOf, Stored}
 
 -- what an index past the end of the members stands for
 abbrev pub noMember : Member
-noMember = record { me = newcomer 0 0; held = freshRecord 0; store = replicate 192 0 }
+noMember = freshIn 0 0
 
--- the group has no more than four members; the others, which no line can name, have just started
+-- the group has no more than four members; the others, which no line can name, are as their refused start leaves them
 unfoldable pub groupOf : Cluster → List ℕ → List ℕ → Group
 groupOf c heads bodies = record {
   at = λ k. cond (ltb k 4) (nodeOf (getD (c .members) k noMember)) (freshNode (c .count) k);

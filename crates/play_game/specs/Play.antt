@@ -2,15 +2,14 @@
 use Prim.Native.Nat.{ℕ, _-_, _^_}
 use mathlib.Core.Bool.{cond}
 use mathlib.Core.List.{List, [], _∷_, _++_}
-use lib.ListN.{length, replicate}
+use lib.ListN.{length}
 use lib.Dec.{ltb}
 use lib.Seq.{sets}
 use Rattle.hermes.specs.declared.message.Outgoing.{Outgoing}
 use Rattle.hermes.specs.declared.message.Outgoing.the-variants.{None, Sent}
 use Rattle.hermes_record.specs.Order.{higher}
-use Rattle.hermes_record.specs.Record.{freshRecord}
 use Rattle.hermes.specs.Event.{numberOf, sentBy}
-use Rattle.hermes.specs.Node.{Node, recordOf, newcomer}
+use Rattle.hermes.specs.Node.{Node, recordOf}
 use Rattle.hermes.specs.Run.{Action, read, write, replay, deliver, validate, resend, view, Entry, Group, Result, nothing, event, result, run}
 use Rattle.play_script.specs.Text.{lines}
 use Rattle.play_script.specs.Command.{lineOf, textOf, sizeOf}
@@ -20,7 +19,7 @@ use Rattle.play_script.specs.declared.command.Line.{Line}
 use Rattle.play_script.specs.declared.command.Line.the-variants as line
 use Rattle.play_script.specs.declared.line.Size.{Size}
 use Rattle.play_script.specs.declared.line.Size.the-variants.{Of, Wrong}
-use Rattle.play_member.specs.Member.{hasRoom}
+use Rattle.play_member.specs.Member.{nodeOf, freshIn, hasRoom}
 use Rattle.play_lines.specs.declared.print.Left.{Left}
 use Rattle.play_lines.specs.declared.print.Left.the-variants as left
 use Rattle.play_game.specs.declared.game.Played.{Played}
@@ -30,9 +29,9 @@ use Rattle.play_bounds.specs.Bounds.{playable}
 
 -- ---- 01, "laptops from 0, all in the view, one record"
 
--- laptop k of n, just started fresh
+-- laptop k of n, as its fresh start leaves it
 unfoldable pub freshNode : ℕ → ℕ → Node
-freshNode n k = record { me = newcomer k (2 ^ n - 1); table = freshRecord 0 ∷ []; store = replicate 192 0 }
+freshNode n k = nodeOf (freshIn (2 ^ n - 1) k)
 
 unfoldable pub freshGroup : ℕ → Group
 freshGroup n = record { at = freshNode n; log = [] }

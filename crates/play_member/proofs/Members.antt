@@ -4,7 +4,7 @@ use mathlib.Core.Bool.{Bool, true, false}
 use mathlib.Core.List.{List, [], _∷_}
 use Prim.Native.Nat.{ℕ, zero, suc}
 use native.Mathlib.Omega.{arith}
-use lib.ListN.{length}
+use lib.ListN.{length, replicate}
 use Rattle.hermes_record.specs.declared.timestamp.Timestamp.{Timestamp}
 use Rattle.hermes_record.specs.declared.record.Record.{Record}
 use Rattle.hermes_record.specs.declared.record.State.{State}
@@ -21,12 +21,67 @@ use Rattle.hermes.specs.declared.event.Answer.the-variants as answer
 use Rattle.hermes.specs.declared.event.Admission.{Admission}
 use Rattle.hermes.specs.declared.event.Admission.the-variants as admission
 use Rattle.hermes_record.specs.Order.{higher, later}
+use Rattle.hermes_record.specs.Record.{freshRecord}
 use Rattle.hermes.specs.Guards.{firstNo}
 use Rattle.hermes.specs.Event.{step, invStep, resent, deliverStep, refusal, movedBy, effect, answerOf, sentBy}
-use Rattle.hermes.specs.Node.{indexOf, apply, view, viewed, viewQuestions, admissionOf, admissionNumber, identity}
+use Rattle.hermes.specs.Node.{
+  indexOf,
+  apply,
+  view,
+  viewed,
+  viewQuestions,
+  admissionOf,
+  admissionNumber,
+  identity,
+  newcomer,
+  recordAt,
+  firstRecord,
+  startRefusal,
+  admit,
+  begin,
+  start,
+}
 use Rattle.hermes.specs.Run.{event}
-use Rattle.play_member.specs.Member.{nodeOf, resultOf}
+use Rattle.play_member.specs.Member.{nodeOf, startIn, freshIn, resultOf}
 use Rattle.play_member.specs.declared.member.Member.{Member}
+
+-- ---- the start
+
+module _ (view k : ℕ) where
+  -- the member after a start whose first no is z
+  abbrev begunBy : ℕ → Member
+  begunBy z = record {
+    me = identity (begin z (newcomer k view) (freshRecord 0 ∷ []) (replicate 192 0) .admission) (newcomer k view);
+    held = recordAt (begin z (newcomer k view) (freshRecord 0 ∷ []) (replicate 192 0) .table) 0;
+    store = begin z (newcomer k view) (freshRecord 0 ∷ []) (replicate 192 0) .store;
+  }
+
+  pub start-admitted : (me : Replica) (r : Record) → admit k view 1 192 ≡ admission.Admitted me → r ≡ firstRecord view
+      → _≡_ {A = Member} (record { me = me; held = r; store = replicate 192 0 }) (freshIn view k)
+  unfolding start freshIn
+  start-admitted me r e er = go (startRefusal k view 1 192) e
+    where
+      go : (z : ℕ) → admissionOf z (newcomer k view) ≡ admission.Admitted me → _≡_ {A = Member} (record { me = me; held = r; store = replicate 192 0 }) (begunBy z)
+      go zero e = let q : me ≡ newcomer k view = cc in λ i. record { me = q i; held = er i; store = replicate 192 0 }
+      go (suc z) e = let q : _≡_ {A = ℕ} 0 1 = cc in absurd (omega arith)
+
+  pub start-refused : (j : ℕ) (r : Record) → admit k view 1 192 ≡ admission.Refused j → r ≡ freshRecord 0
+      → _≡_ {A = Member} (record { me = newcomer k view; held = r; store = replicate 192 0 }) (freshIn view k)
+  unfolding start freshIn
+  start-refused j r e er = go (startRefusal k view 1 192) e
+    where
+      go : (z : ℕ) → admissionOf z (newcomer k view) ≡ admission.Refused j → _≡_ {A = Member} (record { me = newcomer k view; held = r; store = replicate 192 0 }) (begunBy z)
+      go zero e = let q : _≡_ {A = ℕ} 0 1 = cc in absurd (omega arith)
+      go (suc z) e = λ i. record { me = newcomer k view; held = er i; store = replicate 192 0 }
+
+  -- the one record is the whole table
+  pub fresh-table : nodeOf (freshIn view k) .table ≡ startIn view k .table
+  unfolding start freshIn
+  fresh-table = go (startRefusal k view 1 192)
+    where
+      go : (z : ℕ) → begunBy z .held ∷ [] ≡ begin z (newcomer k view) (freshRecord 0 ∷ []) (replicate 192 0) .table
+      go zero = refl
+      go (suc z) = refl
 
 -- ---- what leaves an event on record 0 is about record 0
 

@@ -7,7 +7,7 @@ use lib.Dec.{ltb}
 use Rattle.hermes.specs.declared.message.Outgoing.{Outgoing}
 use Rattle.hermes.specs.declared.message.Outgoing.the-variants.{None, Sent}
 use Rattle.hermes_record.specs.Record.{freshRecord}
-use Rattle.hermes.specs.Node.{Node, newcomer}
+use Rattle.hermes.specs.Node.{Node, Start, newcomer, identity, recordAt, start}
 use Rattle.hermes.specs.Run.{Result, nothing, event}
 use Rattle.play_member.specs.declared.member.Member.{Member}
 use Rattle.play_member.specs.declared.member.Judged.{Judged}
@@ -16,9 +16,17 @@ use Rattle.play_member.specs.declared.member.Judged.{Judged}
 abbrev pub nodeOf : Member → Node
 nodeOf m = record { me = m .me; table = m .held ∷ []; store = m .store }
 
--- replica k of a group whose first view is this set
-abbrev pub freshIn : ℕ → ℕ → Member
-freshIn view k = record { me = newcomer k view; held = freshRecord 0; store = replicate 192 0 }
+-- a fresh start on the memory that is lent to a member: one record and its 192 bytes
+abbrev pub startIn : ℕ → ℕ → Start
+startIn view k = start k view (freshRecord 0 ∷ []) (replicate 192 0)
+
+-- replica k of a group whose first view is this set, as its fresh start leaves it
+unfoldable pub freshIn : ℕ → ℕ → Member
+freshIn view k = record {
+  me = identity (startIn view k .admission) (newcomer k view);
+  held = recordAt (startIn view k .table) 0;
+  store = startIn view k .store;
+}
 
 -- what an entry came to
 abbrev pub resultOf : Judged → Result

@@ -27,18 +27,26 @@ pub struct Judged {
 }
 
 impl Member {
-    // Replica k of a group whose view is this set, just started.
+    // Replica k of a group whose view is this set, just started. One that is not in the view keeps what was lent.
     pub fn fresh(k: u8, view: u16) -> Member
         ensures { λ r. ⌜ r ≡ freshIn view k ⌝ }
     {
-        Member {
-            me: Replica {
-                number: k,
-                epoch: 0,
-                view: view,
+        let a = replica_membership::admit(k, view, 1, 192);
+        match a {
+            Admission::Admitted(me) => Member {
+                me: me,
+                held: replica_membership::fresh_record(view),
+                store: [0; 192],
             },
-            held: Record::fresh(0),
-            store: [0; 192],
+            Admission::Refused(_) => Member {
+                me: Replica {
+                    number: k,
+                    epoch: 0,
+                    view: view,
+                },
+                held: Record::fresh(0),
+                store: [0; 192],
+            },
         }
     }
 }
