@@ -1,6 +1,7 @@
 // One record, moved by value.
 ghost use mathlib.Core.Path.{_≡_};
 ghost use Rattle.hermes_record.specs.Record.{freshRecord, writtenBy, replayed, invalidatedState, invalidated, acknowledged, validated};
+use crate::members::with;
 use crate::timestamp::Timestamp;
 
 pub enum State {
@@ -111,10 +112,7 @@ impl Record {
     pub fn acknowledge(mut self, sender: u8) -> Record
         ensures { λ r. ⌜ r ≡ acknowledged self sender ⌝ }
     {
-        let old = self.acks;
-        if sender <= Self::NUMBER_MAX {
-            self.acks = old | (1 << sender);
-        }
+        self.acks = with(self.acks, sender);
         self
     }
 

@@ -1,8 +1,11 @@
 // Sets of replica numbers in 16 bits.
 ghost use mathlib.Core.Path.{_≡_};
 ghost use lib.Dec.{leb};
-ghost use Rattle.hermes_record.specs.Members.{has, size, lowest, within, with, without, othersIn};
+ghost use Rattle.hermes_record.specs.Members.{has, size, lowest, within, without, othersIn};
 use hermes::Record;
+
+// The set with a number.
+pub use hermes_record::with;
 
 // Is number n in the set?
 pub fn has(set: u16, n: u8) -> bool
@@ -34,17 +37,6 @@ pub fn within(a: u16, b: u16) -> bool
     ensures { λ r. ⌜ r ≡ within a b ⌝ }
 {
     a & b == a
-}
-
-// The set with number n.
-pub fn with(set: u16, n: u8) -> u16
-    ensures { λ r. ⌜ r ≡ with set n ⌝ }
-{
-    if n <= Record::NUMBER_MAX {
-        set | (1 << n)
-    } else {
-        set
-    }
 }
 
 // The set without number n.

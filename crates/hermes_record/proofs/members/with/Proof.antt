@@ -1,13 +1,13 @@
--- `replica_members::with` meets its contract.
+-- `hermes_record::members::with` meets its contract.
 use borrow.Author.Tests.{lt-ltb, le-ltb}
 use native.Mathlib.Omega.{arith}
 use native.Mathlib.Nat.{one-mul}
 use lib.Dec.{lit<}
 use lib.Pow.{shl-exact}
 use Rattle.hermes_record.specs.Members.{with}
 use borrow.Author.Needs.{needs}
-use Rattle.replica_members.proofs.with.Statement.{statement}
-use Rattle.replica_members.proofs.with.Tie as tie
+use Rattle.hermes_record.proofs.members.with.Statement.{statement}
+use Rattle.hermes_record.proofs.members.with.Tie as tie
 
 shl-result : tie.Need-shl-result
 shl-result c = search needs
