@@ -22,6 +22,8 @@ use Rattle.hermes.specs.declared.event.Answer.the-variants.{Accepted, Refused}
 use Rattle.hermes.specs.declared.event.Event.{Event}
 use Rattle.hermes.specs.declared.event.Event.the-variants.{Read, Write, Replay, Deliver, Validate, Resend}
 use Rattle.hermes_record.specs.Order.{higher, later}
+use Rattle.hermes.specs.Kind.{messageOf}
+use Rattle.hermes.proofs.Kind.{message-back}
 use Rattle.hermes.specs.Event.{sentBy, send, Step, step, movedBy, deliverStep, invStep, resent, refusal, effect}
 use Rattle.hermes.specs.Node.{Node, Outcome, recordOf, leaving, apply}
 use Rattle.hermes.specs.Run.{Logged, received, logged}
@@ -31,7 +33,6 @@ use Rattle.packet_format.specs.declared.answer.Fetched.{Fetched}
 use Rattle.packet_format.specs.declared.answer.Fetched.the-variants.{Found}
 use Rattle.packet_format.specs.declared.answer.Written.{Written}
 use Rattle.packet_format.specs.declared.answer.Written.the-variants as written
-use Rattle.packet_format.specs.Entry.{messageOf}
 use Rattle.packet_format.specs.Reading.{entryPlace, fetched, bodyOf}
 use Rattle.packet_format.specs.Writing.{totalOf, writeRefusal, writtenAs, packetWritten, outputOf}
 use Rattle.packet_words.specs.Words.{wordMessages, packed}
@@ -189,12 +190,6 @@ body-place (s ∷ before) after =
     body-behind s (wordsOf (before ++ after)) (length before) ∙ ap (λ (j : ℕ). length (s .body) + j) (body-place before after) ∙ sym (length-append (s .body) (bodiesOf before))
 
 -- ---- the three calls
-
--- an answer's numbers and a header make up the message again
-message-back : (m : Message) → messageOf (messageOut m .kind) (record { version = messageOut m .version; tie = messageOut m .tie }) ≡ m
-message-back (Inv t) = refl
-message-back (Ack t) = refl
-message-back (Val t) = refl
 
 -- the entry of a message that left
 abbrev pub entryLeft : Logged → Entry

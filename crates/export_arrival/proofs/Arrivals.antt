@@ -10,7 +10,8 @@ use Rattle.packet_format.specs.declared.entry.Entry.{Entry}
 use Rattle.packet_format.specs.declared.entry.Fields.{Fields}
 use Rattle.packet_format.specs.declared.answer.Fetched.{Fetched}
 use Rattle.packet_format.specs.declared.answer.Fetched.the-variants.{Found, Refused}
-use Rattle.packet_format.specs.Entry.{kindOf, timestampOf, fieldsFor}
+use Rattle.hermes.specs.Kind.{kindOf, timestampOf}
+use Rattle.packet_format.specs.Entry.{fieldsFor}
 use Rattle.packet_format.specs.Reading.{fetched, bodyOf}
 use Rattle.export_numbers.specs.declared.numbers.CetskobiReplica.{CetskobiReplica}
 use Rattle.export_numbers.specs.declared.numbers.CetskobiAnswer.{CetskobiAnswer}

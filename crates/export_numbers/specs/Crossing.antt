@@ -1,9 +1,7 @@
 -- How identities, messages and answers cross as numbers.
 use Prim.Native.Nat.{ℕ}
 use mathlib.Core.Bool.{cond}
-use lib.Dec.{eqb}
 use Rattle.hermes.specs.declared.message.Message.{Message}
-use Rattle.hermes.specs.declared.message.Message.the-variants.{Inv, Ack, Val}
 use Rattle.hermes.specs.declared.message.Outgoing.{Outgoing}
 use Rattle.hermes.specs.declared.message.Outgoing.the-variants.{None, Sent}
 use Rattle.hermes.specs.declared.message.Received.{Received}
@@ -12,6 +10,7 @@ use Rattle.hermes.specs.declared.event.Answer.{Answer}
 use Rattle.hermes.specs.declared.event.Answer.the-variants as answer
 use Rattle.hermes.specs.declared.event.Admission.{Admission}
 use Rattle.hermes.specs.declared.event.Admission.the-variants as admission
+use Rattle.hermes.specs.Kind.{kindOf, timestampOf, known, messageOf}
 use Rattle.export_numbers.specs.declared.numbers.CetskobiReplica.{CetskobiReplica}
 use Rattle.export_numbers.specs.declared.numbers.CetskobiAnswer.{CetskobiAnswer}
 use Rattle.export_numbers.specs.declared.numbers.CetskobiAdmission.{CetskobiAdmission}
@@ -30,11 +29,9 @@ identityOf me = record { number = me .number; view = me .view; epoch = me .epoch
 abbrev pub answering : ℕ → ℕ → ℕ → ℕ → CetskobiAnswer
 answering number kind tie version = record { number = number; kind = kind; tie = tie; version = version }
 
--- the kinds are the packets': 1 INV, 2 ACK, 3 VAL
+-- the kinds are the packets'
 abbrev pub messageOut : Message → CetskobiAnswer
-messageOut (Inv t) = answering 0 1 (t .tie) (t .version)
-messageOut (Ack t) = answering 0 2 (t .tie) (t .version)
-messageOut (Val t) = answering 0 3 (t .tie) (t .version)
+messageOut m = answering 0 (kindOf m) (timestampOf m .tie) (timestampOf m .version)
 
 -- nothing leaves: kind 0. The header is not repeated: it has the replica's number and epoch and the record's number
 abbrev pub outgoingOut : Outgoing → CetskobiAnswer
@@ -55,10 +52,7 @@ admissionOut (admission.Refused k) old = record { number = k; replica = old }
 
 -- a kind that is none of the three is taken for VAL with a tie-breaker of 255, which question 12 refuses
 abbrev pub messageIn : ℕ → ℕ → ℕ → Message
-messageIn kind version tie =
-    cond (eqb kind 1) (Inv (record { version = version; tie = tie }))
-    (cond (eqb kind 2) (Ack (record { version = version; tie = tie }))
-    (cond (eqb kind 3) (Val (record { version = version; tie = tie })) (Val (record { version = version; tie = 255 }))))
+messageIn kind version tie = messageOf kind (record { version = version; tie = cond (known kind) tie 255 })
 
 abbrev pub receivedIn : CetskobiMessage → Received
 receivedIn m = record { sender = m .sender; epoch = m .epoch; message = messageIn (m .kind) (m .version) (m .tie) }

@@ -77,9 +77,9 @@ fn message_out(m: Message) -> CetskobiAnswer
     ensures { λ a. ⌜ a ≡ messageOut m ⌝ }
 {
     match m {
-        Message::Inv(t) => answering(0, 1, t.tie, t.version),
-        Message::Ack(t) => answering(0, 2, t.tie, t.version),
-        Message::Val(t) => answering(0, 3, t.tie, t.version),
+        Message::Inv(t) => answering(0, Message::INV, t.tie, t.version),
+        Message::Ack(t) => answering(0, Message::ACK, t.tie, t.version),
+        Message::Val(t) => answering(0, Message::VAL, t.tie, t.version),
     }
 }
 
@@ -137,13 +137,13 @@ fn message_in(kind: u8, version: u32, tie: u8) -> Message
         version: version,
         tie: tie,
     };
-    if kind == 1 {
+    if kind == Message::INV {
         return Message::Inv(t);
     }
-    if kind == 2 {
+    if kind == Message::ACK {
         return Message::Ack(t);
     }
-    if kind == 3 {
+    if kind == Message::VAL {
         return Message::Val(t);
     }
     let beyond = Timestamp {

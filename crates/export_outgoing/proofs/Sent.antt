@@ -22,6 +22,7 @@ use Rattle.hermes.specs.declared.event.Event.{Event}
 use Rattle.hermes.specs.declared.event.Event.the-variants.{Read, Write, Replay, Deliver, Validate, Resend}
 use Rattle.hermes_record.specs.Members.{with, without}
 use Rattle.hermes_record.specs.Order.{higher, later}
+use Rattle.hermes.specs.Kind as kind
 use Rattle.hermes.specs.Store.{valueAt}
 use Rattle.hermes.specs.Event.{leavingBody, recipients, sentBy, send, Step, step, movedBy, deliverStep, invStep, resent, refusal, effect}
 use Rattle.hermes.specs.Node.{Node, recordAt, recordOf, leaving, apply}
@@ -46,32 +47,26 @@ use Rattle.export_calls.proofs.Parts.{whole-part, no-part}
 abbrev stamp : Timestamp
 stamp = record { version = 0; tie = 0 }
 
-abbrev beyond : Timestamp
-beyond = record { version = 0; tie = 255 }
-
 -- an INV and a VAL go to all others
-pub to-others : (me : Replica) (sender : ℕ) (inv val : Bool)
+pub to-others : (me : Replica) (sender : ℕ) (inv : Bool)
     → without (me .view) (me .number)
-    ≡ recipients me (Deliver (fromSender sender)) (Sent (cond inv (Inv stamp) (cond false (Ack stamp) (cond val (Val stamp) (Val beyond)))) (record { sender = 0; epoch = 0; index = 0 }))
-to-others me sender true val = refl
-to-others me sender false true = refl
-to-others me sender false false = refl
+    ≡ recipients me (Deliver (fromSender sender)) (Sent (cond inv (Inv stamp) (cond false (Ack stamp) (Val stamp))) (record { sender = 0; epoch = 0; index = 0 }))
+to-others me sender true = refl
+to-others me sender false = refl
 
 -- what is no INV takes nothing along
-pub nothing-along : (bytes store : List ℕ) (i : ℕ) (left : CetskobiAnswer) → eqb (left .kind) 1 ≡ false → AlongAt store i (alongOf bytes store i left) 0
-nothing-along bytes store i left h = rw h (go (eqb (left .kind) 0) (ltb 3 (left .kind)) (eqb (left .kind) 2) (eqb (left .kind) 3))
+pub nothing-along : (bytes store : List ℕ) (i : ℕ) (left : CetskobiAnswer) → eqb (left .kind) kind.inv ≡ false → AlongAt store i (alongOf bytes store i left) 0
+nothing-along bytes store i left h = rw h (go (kind.known (left .kind)) (eqb (left .kind) kind.ack))
   where
-    go : (none unknown ack val : Bool)
-        → PartAt store i (leavingBody (cond none None (cond unknown None (Sent (cond false (Inv stamp) (cond ack (Ack stamp) (cond val (Val stamp) (Val beyond)))) (record { sender = 0; epoch = 0; index = i })))) (recordAt (tableOf bytes) i) store) 0
-    go true unknown ack val = no-part store i
-    go false true ack val = no-part store i
-    go false false true val = no-part store i
-    go false false false true = no-part store i
-    go false false false false = no-part store i
+    go : (known ack : Bool)
+        → PartAt store i (leavingBody (cond known (Sent (cond false (Inv stamp) (cond ack (Ack stamp) (Val stamp))) (record { sender = 0; epoch = 0; index = i })) None) (recordAt (tableOf bytes) i) store) 0
+    go false ack = no-part store i
+    go true true = no-part store i
+    go true false = no-part store i
 
 -- ---- an INV: the record at its number, r, and whether that holds its text
 
-module _ (bytes store : List ℕ) (i : ℕ) (left : CetskobiAnswer) (inv : left .kind ≡ 1) where
+module _ (bytes store : List ℕ) (i : ℕ) (left : CetskobiAnswer) (inv : left .kind ≡ kind.inv) where
   pub text-gone : holds (tableOf bytes) store i (stampOf left) ≡ false → AlongAt store i (alongOf bytes store i left) 18446744073709551615
   text-gone h = rw (inv, h)
 
@@ -182,7 +177,7 @@ module _ (me : Replica) (i : ℕ) (r : Record) (v : List ℕ) where
 
 -- what left is no INV, or the memory holds its text
 abbrev Held : Answer → ℕ → List Record → List ℕ → Type 0
-Held a i table store = (not (eqb (answerOut a .kind) 1) || holds table store i (stampOf (answerOut a))) ≡ true
+Held a i table store = (not (eqb (answerOut a .kind) kind.inv) || holds table store i (stampOf (answerOut a))) ≡ true
 
 held : (o : Outgoing) (i : ℕ) (table : List Record) (store : List ℕ) (r : Record) → Stamped o r → recordAt table i ≡ r → i < length table → r .len ≤ 192 → 192 * i + 192 ≤ length store
     → Held (Accepted o) i table store

@@ -15,17 +15,17 @@ use Rattle.hermes.specs.declared.event.Replica.{Replica}
 use Rattle.hermes.specs.declared.event.Event.{Event}
 use Rattle.hermes.specs.declared.event.Event.the-variants.{Read, Write, Replay, Deliver, Validate, Resend}
 use Rattle.hermes_record.specs.Order.{sameTimestamp}
+use Rattle.hermes.specs.Kind.{inv, known, messageOf}
 use Rattle.hermes.specs.Event.{leavingBody, recipients}
 use Rattle.hermes.specs.Node.{recordAt}
 use Rattle.export_records.specs.Layout.{tableOf}
 use Rattle.export_numbers.specs.declared.numbers.CetskobiAnswer.{CetskobiAnswer}
-use Rattle.export_numbers.specs.Crossing.{messageIn}
 use Rattle.export_calls.specs.Part.{PartAt}
 
--- a message of this kind about record i, stamped 0; of kind 0 and of an unknown kind nothing
+-- a message of this kind about record i, stamped 0; of a kind that is none of the three nothing
 abbrev pub leftOf : ℕ → ℕ → Outgoing
 leftOf kind i =
-    cond (eqb kind 0) None (cond (ltb 3 kind) None (Sent (messageIn kind 0 0) (record { sender = 0; epoch = 0; index = i })))
+    cond (known kind) (Sent (messageOf kind (record { version = 0; tie = 0 })) (record { sender = 0; epoch = 0; index = i })) None
 
 -- ---- who gets it
 
@@ -71,7 +71,7 @@ holds table store i t =
 -- 01, "an INV leaves with the value": the bytes of what left, about record i, while the record holds them; only an INV takes any
 abbrev pub alongOf : List ℕ → List ℕ → ℕ → CetskobiAnswer → Along
 alongOf bytes store i left =
-    alongIf (not (eqb (left .kind) 1) || holds (tableOf bytes) store i (stampOf left)) (leavingBody (leftOf (left .kind) i) (recordAt (tableOf bytes) i) store)
+    alongIf (not (eqb (left .kind) inv) || holds (tableOf bytes) store i (stampOf left)) (leavingBody (leftOf (left .kind) i) (recordAt (tableOf bytes) i) store)
 
 -- how it crosses: so many bytes from 192 times the record's number on; of what is gone the greatest number, which is no value's length
 abbrev pub AlongAt : List ℕ → ℕ → Along → ℕ → Type 0

@@ -4,6 +4,7 @@ ghost use Rattle.export_numbers.specs.Crossing.{replicaOf};
 ghost use Rattle.export_outgoing.specs.Leaving.{recipientsOf, alongOf, AlongAt};
 use export_numbers::CetskobiAnswer;
 use export_numbers::CetskobiReplica;
+use hermes::Message;
 use hermes::Record;
 use hermes::Timestamp;
 
@@ -15,13 +16,13 @@ const GONE: usize = 18446744073709551615;
 pub extern "C" fn cetskobi_recipients(me: CetskobiReplica, kind: u8, sender: u8) -> u16
     ensures { λ s. ⌜ s ≡ recipientsOf (replicaOf me) kind sender ⌝ }
 {
-    if kind == 0 {
+    if kind < Message::INV {
         return 0;
     }
-    if 3 < kind {
+    if Message::VAL < kind {
         return 0;
     }
-    if kind == 2 {
+    if kind == Message::ACK {
         return replica_members::with(0, sender);
     }
     replica_members::without(me.view, me.number)
@@ -32,7 +33,7 @@ pub extern "C" fn cetskobi_recipients(me: CetskobiReplica, kind: u8, sender: u8)
 pub extern "C" fn cetskobi_body(table: &[u8], store: &[u8], i: usize, left: CetskobiAnswer) -> usize
     ensures { λ n. ⌜ AlongAt (now (store .entry)) i (alongOf (now (table .entry)) (now (store .entry)) i left) n ⌝ }
 {
-    if left.kind != 1 {
+    if left.kind != Message::INV {
         return 0;
     }
     if export_records::count(table.len()) <= i {

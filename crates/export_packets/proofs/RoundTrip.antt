@@ -13,7 +13,7 @@ use Rattle.packet_format.specs.declared.answer.Written.the-variants.{Total}
 use Rattle.packet_format.specs.Entry.{fieldsOf, entryOf, noEntry}
 use Rattle.packet_format.specs.Reading.{countOf, entryPlace, packetMessages, fetchRefusal, fetchedAs, fetched}
 use Rattle.packet_format.specs.Writing.{totalOf, writeRefusal, writtenAs, packetWritten}
-use Rattle.packet_format.proofs.Entries.{stamp-back}
+use Rattle.hermes.proofs.Kind.{stamp-back}
 use Rattle.packet_format.proofs.Contents.{length-entries}
 use Rattle.packet_format.proofs.RoundTrip.{accepted-is-written}
 use Rattle.packet_words.specs.Words.{wordMessages, packed}

@@ -1,4 +1,5 @@
 -- What is proved of the definitions in specs/, lowest first: laws, then the theorems.
+pub mod Kind
 pub mod Members
 pub mod Store
 pub mod Guards

@@ -1,4 +1,5 @@
 -- What is right, rule by rule of document 01, lowest first.
+pub mod Kind
 pub mod Store
 pub mod Guards
 pub mod Event

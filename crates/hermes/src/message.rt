@@ -8,6 +8,15 @@ pub enum Message {
     Val(Timestamp),
 }
 
+impl Message {
+    // The kinds by their numbers: INV is the first, VAL the last.
+    pub const INV: u8 = 1;
+
+    pub const ACK: u8 = 2;
+
+    pub const VAL: u8 = 3;
+}
+
 // Whose message it is, in which epoch it left, and the number of the record that it is about.
 pub struct Header {
     pub sender: u8,

@@ -107,7 +107,7 @@ contents-walk (suc n) q at total h b w =
     let s1 = both (good f && eqb (f .offset) at) (walk n (drop 16 q) (at + f .len) total) w in
     let s2 = both (good f) (eqb (f .offset) at) (s1 .0) in
     let g = good-parts f (s2 .0) in
-    let same : fieldsFor e at ≡ f = message-back f at (g .low) (g .high) (eqb-true (f .offset) at (s2 .1)) in
+    let same : fieldsFor e at ≡ f = message-back f at (g .kind) (eqb-true (f .offset) at (s2 .1)) in
     let r = contents-walk n (drop 16 q) (at + f .len) total (simp length-drop (omega arith)) (bytes-drop 16 q b) (s1 .1) in (
       append-assoc (entryBytes (fieldsFor e at)) (contents (at + f .len) es) (drop (16 * suc n) q)
           ∙ ap (λ (l : List ℕ). entryBytes (fieldsFor e at) ++ l) (ap (λ (l : List ℕ). contents (at + f .len) es ++ l) (sixteen n q) ∙ r .0)

@@ -1,19 +1,19 @@
 -- One entry there and back: its 16 bytes and its fields, its fields and its message.
 use mathlib.Core.Path.{_≡_, refl, sym, _∙_}
-use mathlib.Core.Bool.{Bool, true, false, cond}
+use mathlib.Core.Bool.{true, false}
 use mathlib.Core.List.{List, [], _∷_, _++_}
 use Prim.Native.Nat.{ℕ, _^_, _≤_, _<_}
 use native.Mathlib.Omega.{arith}
-use borrow.Author.Tests.{leb-true, eqb-true, eqb-false}
-use lib.Dec.{leb, eqb}
+use borrow.Author.Tests.{leb-true}
+use lib.Dec.{leb}
 use lib.ListN.{length, drop, getD}
 use Rattle.hermes_record.specs.declared.timestamp.Timestamp.{Timestamp}
-use Rattle.hermes.specs.declared.message.Message.{Message}
-use Rattle.hermes.specs.declared.message.Message.the-variants.{Inv, Ack, Val}
+use Rattle.hermes.specs.Kind.{inv, val, known}
+use Rattle.hermes.proofs.Kind as kind
 use Rattle.packet_format.specs.declared.entry.Entry.{Entry}
 use Rattle.packet_format.specs.declared.entry.Fields.{Fields}
 use Rattle.packet_format.specs.Bytes.{window, Bytes}
-use Rattle.packet_format.specs.Entry.{fieldsOf, entryBytes, kindOf, timestampOf, messageOf, entryOf, fieldsFor, bodied, good, Fits}
+use Rattle.packet_format.specs.Entry.{fieldsOf, entryBytes, entryOf, fieldsFor, bodied, good, Fits}
 use Rattle.hermes_record.proofs.Tests.{both, is-false}
 use Rattle.packet_format.proofs.Width.{num-be, window-drop, be-window, window-lt}
 
@@ -62,17 +62,12 @@ bytes-back q h b =
 
 -- a message made into fields is read from them
 pub entry-back : (e : Entry) (at : ℕ) → entryOf (fieldsFor e at) ≡ e
-entry-back e at = λ i. record { header = e .header; message = go (e .message) i; len = e .len }
-  where
-    go : (m : Message) → messageOf (kindOf m) (timestampOf m) ≡ m
-    go (Inv t) = refl
-    go (Ack t) = refl
-    go (Val t) = refl
+entry-back e at = λ i. record { header = e .header; message = kind.message-back (e .message) i; len = e .len }
 
 -- what `good` tells that the laws use
 pub record Good (f : Fields) : Type 0 where
-  pub low : 1 ≤ f .kind
-  pub high : f .kind ≤ 3
+  pub kind : known (f .kind) ≡ true
+  pub last : f .kind ≤ val
   pub sender : f .sender ≤ 15
   pub tie : f .tie ≤ 15
   pub index : f .index ≤ 4095
@@ -85,11 +80,10 @@ good-parts f h =
     let s5 = both _ (leb (f .len) 192) (s6 .0) in
     let s4 = both _ (leb (f .index) 4095) (s5 .0) in
     let s3 = both _ (leb (f .tie) 15) (s4 .0) in
-    let s2 = both _ (leb (f .sender) 15) (s3 .0) in
-    let s1 = both (leb 1 (f .kind)) (leb (f .kind) 3) (s2 .0) in
+    let s2 = both (known (f .kind)) (leb (f .sender) 15) (s3 .0) in
     record {
-      low = leb-true _ _ (s1 .0);
-      high = leb-true _ _ (s1 .1);
+      kind = s2 .0;
+      last = leb-true _ _ (both (leb inv (f .kind)) (leb (f .kind) val) (s2 .0) .1);
       sender = leb-true _ _ (s2 .1);
       tie = leb-true _ _ (s3 .1);
       index = leb-true _ _ (s4 .1);
@@ -104,34 +98,18 @@ pub good-offset : (e : Entry) (a b : ℕ) → good (fieldsFor e a) ≡ good (fie
 unfolding good
 good-offset e a b = refl
 
-pub kind-back : (k : ℕ) (t : Timestamp) → 1 ≤ k → k ≤ 3 → kindOf (messageOf k t) ≡ k
-kind-back k t a b = go (eqb k 1) refl (eqb k 2) refl
-  where
-    go : (x : Bool) → eqb k 1 ≡ x → (y : Bool) → eqb k 2 ≡ y → kindOf (cond x (Inv t) (cond y (Ack t) (Val t))) ≡ k
-    go true e y f = sym (eqb-true k 1 e)
-    go false e true f = sym (eqb-true k 2 f)
-    go false e false f = omega (arith, a, b, eqb-false k 1 e, eqb-false k 2 f)
-
-pub stamp-back : (k : ℕ) (t : Timestamp) → timestampOf (messageOf k t) ≡ t
-stamp-back k t = go (eqb k 1) (eqb k 2)
-  where
-    go : (x y : Bool) → timestampOf (cond x (Inv t) (cond y (Ack t) (Val t))) ≡ t
-    go true y = refl
-    go false true = refl
-    go false false = refl
-
 -- fields of a known kind that a message is read from are its fields
-pub message-back : (f : Fields) (at : ℕ) → 1 ≤ f .kind → f .kind ≤ 3 → f .offset ≡ at → fieldsFor (entryOf f) at ≡ f
-message-back f at low high o =
+pub message-back : (f : Fields) (at : ℕ) → known (f .kind) ≡ true → f .offset ≡ at → fieldsFor (entryOf f) at ≡ f
+message-back f at k o =
     let t : Timestamp = record { version = f .version; tie = f .tie } in
     λ i.
     record {
-      kind = kind-back (f .kind) t low high i;
+      kind = kind.kind-back (f .kind) t k i;
       sender = f .sender;
       epoch = f .epoch;
       index = f .index;
-      version = stamp-back (f .kind) t i .version;
-      tie = stamp-back (f .kind) t i .tie;
+      version = kind.stamp-back (f .kind) t i .version;
+      tie = kind.stamp-back (f .kind) t i .tie;
       offset = sym o i;
       len = f .len;
     }
@@ -142,7 +120,7 @@ fits-read q b =
     let f = fieldsOf q in
     record {
       epoch = window-lt q 2 4 b;
-      version = rw (stamp-back (f .kind) (record { version = f .version; tie = f .tie })) (window-lt q 8 4 b);
+      version = rw (kind.stamp-back (f .kind) (record { version = f .version; tie = f .tie })) (window-lt q 8 4 b);
     }
 
 pub sized : (e : Entry) (at : ℕ) → Fits e → good (fieldsFor e 0) ≡ true → at < 256 ^ 2 → Sized (fieldsFor e at)

@@ -42,7 +42,7 @@ fetchedCode = record { numbers = fetchedNumbers; back = fetchedBack; had = fetch
 test : Row → Bool
 test (packs e body p) = sameList (packetBytes 1 (e ∷ []) body) p && same fetchedCode (fetched p 0) (Found e (entryPlace 1))
 test (fetches p i k) = eqb (fetchedNumber (fetched p i)) k
-test (writes es count bodies room k) = eqb (writtenNumber (packetWritten es count bodies room)) k
+test (writes es bodies room k) = eqb (writtenNumber (packetWritten es bodies room)) k
 
 holds : (r : Row) → test r ≡ true → Holds r
 unfolding test
@@ -50,7 +50,7 @@ holds (packs m body p) e =
     let (s, t) = both (sameList (packetBytes 1 (m ∷ []) body) p) (same fetchedCode (fetched p 0) (Found m (entryPlace 1))) e in
     (list-sound (packetBytes 1 (m ∷ []) body) p s, same-sound fetchedCode (fetched p 0) (Found m (entryPlace 1)) t)
 holds (fetches p i k) e = eqb-true _ k e
-holds (writes es count bodies room k) e = eqb-true _ k e
+holds (writes es bodies room k) e = eqb-true _ k e
 
 -- the test, computed
 computed : passing Row test rows ≡ true

@@ -1,12 +1,11 @@
 -- An entry of the contents table: its 16 bytes, its fields, and the message that they stand for (01, "Packets").
 use Prim.Native.Nat.{ℕ, zero, suc, _^_, _<_}
-use mathlib.Core.Bool.{Bool, cond, _&&_, _||_}
+use mathlib.Core.Bool.{Bool, _&&_, _||_}
 use mathlib.Core.List.{List, [], _∷_, _++_}
 use lib.Dec.{leb, eqb}
 use lib.ListN.{drop, getD}
-use Rattle.hermes_record.specs.declared.timestamp.Timestamp.{Timestamp}
-use Rattle.hermes.specs.declared.message.Message.{Message}
-use Rattle.hermes.specs.declared.message.Message.the-variants.{Inv, Ack, Val}
+use Rattle.hermes.specs.declared.message.Message.the-variants.{Inv}
+use Rattle.hermes.specs.Kind.{inv, kindOf, timestampOf, known, messageOf}
 use Rattle.packet_format.specs.declared.entry.Entry.{Entry}
 use Rattle.packet_format.specs.declared.entry.Fields.{Fields}
 use Rattle.packet_format.specs.Bytes.{be, num, window}
@@ -29,21 +28,6 @@ unfoldable pub entryBytes : Fields → List ℕ
 entryBytes f =
     f .kind ∷ f .sender ∷ be 4 (f .epoch) ++ be 2 (f .index) ++ be 4 (f .version) ++ f .tie ∷ be 2 (f .offset) ++ f .len ∷ []
 
--- 01, "kind (1 INV, 2 ACK, 3 VAL)"
-abbrev pub kindOf : Message → ℕ
-kindOf (Inv t) = 1
-kindOf (Ack t) = 2
-kindOf (Val t) = 3
-
-abbrev pub timestampOf : Message → Timestamp
-timestampOf (Inv t) = t
-timestampOf (Ack t) = t
-timestampOf (Val t) = t
-
--- the message of a kind that is known
-abbrev pub messageOf : ℕ → Timestamp → Message
-messageOf kind t = cond (eqb kind 1) (Inv t) (cond (eqb kind 2) (Ack t) (Val t))
-
 -- the entry that fields stand for
 abbrev pub entryOf : Fields → Entry
 entryOf f = record {
@@ -65,17 +49,13 @@ fieldsFor e at = record {
   len = e .len;
 }
 
--- 01, question 22: kind known
-abbrev pub known : Fields → Bool
-known f = leb 1 (f .kind) && leb (f .kind) 3
-
 -- 01, question 22: length 0 unless INV
 abbrev pub bodied : Fields → Bool
-bodied f = eqb (f .kind) 1 || eqb (f .len) 0
+bodied f = eqb (f .kind) inv || eqb (f .len) 0
 
 -- 01, question 22: kind known, sender and tie-breaker at most 15, record at most 4,095, length at most 192 and 0 unless INV
 unfoldable pub good : Fields → Bool
-good f = known f && leb (f .sender) 15 && leb (f .tie) 15 && leb (f .index) 4095 && leb (f .len) 192 && bodied f
+good f = known (f .kind) && leb (f .sender) 15 && leb (f .tie) 15 && leb (f .index) 4095 && leb (f .len) 192 && bodied f
 
 -- the first n messages of a contents table
 unfoldable pub entriesOf : ℕ → List ℕ → List Entry

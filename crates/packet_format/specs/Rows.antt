@@ -15,14 +15,14 @@ pub data Row : Type 0 where
   packs : Entry → List ℕ → List ℕ → Row
   -- message i of a packet is fetched; the number answered
   fetches : List ℕ → ℕ → ℕ → Row
-  -- the first so many of these messages are written, with these bodies, into so many bytes of output; the number answered
-  writes : List Entry → ℕ → List ℕ → ℕ → ℕ → Row
+  -- these messages are written, with these bodies, into so many bytes of output; the number answered
+  writes : List Entry → List ℕ → ℕ → ℕ → Row
 
 -- what a row says
 abbrev pub Holds : Row → Type 0
 Holds (packs e body p) = (packetBytes 1 (e ∷ []) body ≡ p) × (fetched p 0 ≡ Found e (entryPlace 1))
 Holds (fetches p i k) = fetchedNumber (fetched p i) ≡ k
-Holds (writes es count bodies room k) = writtenNumber (packetWritten es count bodies room) ≡ k
+Holds (writes es bodies room k) = writtenNumber (packetWritten es bodies room) ≡ k
 
 -- ---- messages and packets; none of this uses the rules that the rows are about
 
@@ -140,37 +140,36 @@ rows =
     ∷ fetches (packet 64 1028 (acks 64 1028)) 63 0
     ∷ fetches (packet 64 1028 (acks 64 1028)) 64 23
     -- 24: count 1 to 64, ..
-    ∷ writes (message 5 7 (ack 2) 0 ∷ []) 0 [] 20 24
-    ∷ writes (message 5 7 (ack 2) 0 ∷ []) 1 [] 20 0
-    ∷ writes (replicate 65 (message 5 7 (ack 2) 0)) 64 [] 1400 0
-    ∷ writes (replicate 65 (message 5 7 (ack 2) 0)) 65 [] 1400 24
+    ∷ writes [] [] 20 24
+    ∷ writes (message 5 7 (ack 2) 0 ∷ []) [] 20 0
+    ∷ writes (replicate 64 (message 5 7 (ack 2) 0)) [] 1400 0
+    ∷ writes (replicate 65 (message 5 7 (ack 2) 0)) [] 1400 24
     -- .. fields as in 22, ..
-    ∷ writes (message 15 7 (ack 2) 0 ∷ []) 1 [] 20 0
-    ∷ writes (message 16 7 (ack 2) 0 ∷ []) 1 [] 20 24
-    ∷ writes (message 5 7 (ack 15) 0 ∷ []) 1 [] 20 0
-    ∷ writes (message 5 7 (ack 16) 0 ∷ []) 1 [] 20 24
-    ∷ writes (message 5 4095 (ack 2) 0 ∷ []) 1 [] 20 0
-    ∷ writes (message 5 4096 (ack 2) 0 ∷ []) 1 [] 20 24
-    ∷ writes (message 5 7 (inv 2) 192 ∷ []) 1 (body 192) 1400 0
-    ∷ writes (message 5 7 (inv 2) 193 ∷ []) 1 (body 193) 1400 24
-    ∷ writes (message 5 7 (inv 2) 1 ∷ []) 1 (body 1) 1400 0
-    ∷ writes (message 5 7 (ack 2) 1 ∷ []) 1 (body 1) 1400 24
-    ∷ writes (message 5 7 (val 2) 1 ∷ []) 1 (body 1) 1400 24
-    ∷ writes (message 5 7 (ack 2) 0 ∷ message 16 7 (ack 2) 0 ∷ []) 1 [] 1400 0
-    ∷ writes (message 5 7 (ack 2) 0 ∷ message 16 7 (ack 2) 0 ∷ []) 2 [] 1400 24
+    ∷ writes (message 15 7 (ack 2) 0 ∷ []) [] 20 0
+    ∷ writes (message 16 7 (ack 2) 0 ∷ []) [] 20 24
+    ∷ writes (message 5 7 (ack 15) 0 ∷ []) [] 20 0
+    ∷ writes (message 5 7 (ack 16) 0 ∷ []) [] 20 24
+    ∷ writes (message 5 4095 (ack 2) 0 ∷ []) [] 20 0
+    ∷ writes (message 5 4096 (ack 2) 0 ∷ []) [] 20 24
+    ∷ writes (message 5 7 (inv 2) 192 ∷ []) (body 192) 1400 0
+    ∷ writes (message 5 7 (inv 2) 193 ∷ []) (body 193) 1400 24
+    ∷ writes (message 5 7 (inv 2) 1 ∷ []) (body 1) 1400 0
+    ∷ writes (message 5 7 (ack 2) 1 ∷ []) (body 1) 1400 24
+    ∷ writes (message 5 7 (val 2) 1 ∷ []) (body 1) 1400 24
+    ∷ writes (message 5 7 (ack 2) 0 ∷ message 16 7 (ack 2) 0 ∷ []) [] 1400 24
     -- .. bodies of exactly the summed length?
-    ∷ writes (message 5 7 (inv 2) 3 ∷ message 5 7 (inv 2) 2 ∷ []) 2 (body 4) 1400 24
-    ∷ writes (message 5 7 (inv 2) 3 ∷ message 5 7 (inv 2) 2 ∷ []) 2 (body 5) 1400 0
-    ∷ writes (message 5 7 (inv 2) 3 ∷ message 5 7 (inv 2) 2 ∷ []) 2 (body 6) 1400 24
+    ∷ writes (message 5 7 (inv 2) 3 ∷ message 5 7 (inv 2) 2 ∷ []) (body 4) 1400 24
+    ∷ writes (message 5 7 (inv 2) 3 ∷ message 5 7 (inv 2) 2 ∷ []) (body 5) 1400 0
+    ∷ writes (message 5 7 (inv 2) 3 ∷ message 5 7 (inv 2) 2 ∷ []) (body 6) 1400 24
     -- 25: total at most 1,400 and within the lent output?
-    ∷ writes (sevenOf 132) 7 (body 1284) 2000 0
-    ∷ writes (sevenOf 133) 7 (body 1285) 2000 25
-    ∷ writes (sevenOf 132) 7 (body 1284) 1400 0
-    ∷ writes (sevenOf 132) 7 (body 1284) 1399 25
-    ∷ writes (message 5 7 (ack 2) 0 ∷ []) 1 [] 19 25
+    ∷ writes (sevenOf 132) (body 1284) 2000 0
+    ∷ writes (sevenOf 133) (body 1285) 2000 25
+    ∷ writes (sevenOf 132) (body 1284) 1400 0
+    ∷ writes (sevenOf 132) (body 1284) 1399 25
+    ∷ writes (message 5 7 (ack 2) 0 ∷ []) [] 19 25
     -- where two questions say no, the first of them answers
     ∷ fetches (2 ∷ 1 ∷ 0 ∷ 4 ∷ []) 0 20
     ∷ fetches (packet 2 20 (entry 4 5 7 2 20 0 [])) 0 21
     ∷ fetches (single 4 5 7 2 20 0 0) 1 22
-    ∷ writes [] 0 [] 0 24
+    ∷ writes [] [] 0 24
     ∷ []

@@ -1,6 +1,7 @@
 // The entries of a packet's contents table.
 ghost use mathlib.Core.Path.{_≡_};
-ghost use Rattle.packet_format.specs.Entry.{messageOf, entryOf, good};
+ghost use Rattle.hermes.specs.Kind.{messageOf};
+ghost use Rattle.packet_format.specs.Entry.{entryOf, good};
 use hermes::Header;
 use hermes::Message;
 use hermes::Record;
@@ -26,13 +27,6 @@ pub struct Fields {
 }
 
 impl Fields {
-    // The kinds: INV is the first, VAL the last.
-    pub const INV: u8 = 1;
-
-    pub const ACK: u8 = 2;
-
-    pub const VAL: u8 = 3;
-
     // The greatest number of a record.
     pub const INDEX_MAX: usize = 4095;
 
@@ -40,13 +34,13 @@ impl Fields {
     pub fn good(self) -> bool
         ensures { λ r. ⌜ r ≡ good self ⌝ }
     {
-        (Self::INV <= self.kind)
-            & (self.kind <= Self::VAL)
+        (Message::INV <= self.kind)
+            & (self.kind <= Message::VAL)
             & (self.sender <= Record::NUMBER_MAX)
             & (self.tie <= Record::NUMBER_MAX)
             & (self.index <= Self::INDEX_MAX)
             & (self.len as usize <= Record::VALUE_MAX)
-            & ((self.kind == Self::INV) | (self.len == 0))
+            & ((self.kind == Message::INV) | (self.len == 0))
     }
 }
 
@@ -54,10 +48,10 @@ impl Fields {
 fn message_of(kind: u8, timestamp: Timestamp) -> Message
     ensures { λ r. ⌜ r ≡ messageOf kind timestamp ⌝ }
 {
-    if kind == Fields::INV {
+    if kind == Message::INV {
         return Message::Inv(timestamp);
     }
-    if kind == Fields::ACK {
+    if kind == Message::ACK {
         return Message::Ack(timestamp);
     }
     Message::Val(timestamp)

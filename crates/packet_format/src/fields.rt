@@ -1,6 +1,7 @@
 // The fields of a message.
 ghost use mathlib.Core.Path.{_≡_};
-ghost use Rattle.packet_format.specs.Entry.{kindOf, timestampOf, fieldsFor};
+ghost use Rattle.hermes.specs.Kind.{kindOf, timestampOf};
+ghost use Rattle.packet_format.specs.Entry.{fieldsFor};
 use crate::entry::Entry;
 use crate::entry::Fields;
 use hermes::Message;
@@ -11,9 +12,9 @@ fn kind_of(message: Message) -> u8
     ensures { λ r. ⌜ r ≡ kindOf message ⌝ }
 {
     match message {
-        Message::Inv(_) => Fields::INV,
-        Message::Ack(_) => Fields::ACK,
-        Message::Val(_) => Fields::VAL,
+        Message::Inv(_) => Message::INV,
+        Message::Ack(_) => Message::ACK,
+        Message::Val(_) => Message::VAL,
     }
 }
 

@@ -5,6 +5,7 @@ ghost use lib.ListN.{length};
 ghost use Rattle.packet_format.specs.Entry.{good};
 ghost use Rattle.packet_words.specs.Words.{fieldsAt, entriesFrom, wordMessages};
 ghost use Rattle.packet_question.specs.Asking.{asked};
+use hermes::Message;
 use hermes::Record;
 use packet_format::Fields;
 use packet_words::WORDS;
@@ -34,10 +35,10 @@ fn good_at(words: &[u32], w: usize) -> bool
     if (Record::VALUE_MAX as u32) < len {
         return false;
     }
-    if kind == Fields::INV as u32 {
+    if kind == Message::INV as u32 {
         return true;
     }
-    (Fields::INV as u32 <= kind) & (kind <= Fields::VAL as u32) & (len == 0)
+    (Message::INV as u32 <= kind) & (kind <= Message::VAL as u32) & (len == 0)
 }
 
 // The question, of the first `count` messages.

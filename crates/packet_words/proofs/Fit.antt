@@ -1,12 +1,13 @@
 -- Question 22 may be asked of the words themselves: where it says yes they are the fields of the message that they stand for.
 use Prim.Native.Nat.{ℕ, _*_, _<_}
-use mathlib.Core.Path.{_≡_, refl, ap, _∙_}
-use mathlib.Core.Bool.{Bool, true, false}
+use mathlib.Core.Path.{_≡_, refl, sym, ap, _∙_}
+use mathlib.Core.Bool.{Bool, true, false, not, false≢true}
 use mathlib.Core.List.{List}
 use native.Mathlib.Omega.{arith}
-use borrow.Author.Tests.{le-ltb, ltb-true, ltb-false}
+use borrow.Author.Tests.{le-ltb, ltb-true}
 use lib.Dec.{ltb}
 use lib.ListN.{getD}
+use Rattle.hermes.specs.Kind.{known}
 use Rattle.packet_format.specs.declared.entry.Entry.{Entry}
 use Rattle.packet_format.specs.declared.entry.Fields.{Fields}
 use Rattle.packet_format.specs.Entry.{entryOf, fieldsFor, good, noEntry}
@@ -17,30 +18,28 @@ use Rattle.packet_words.proofs.Places.{message-at}
 -- question 22 says the same of the words and of their message
 pub good-fit : (f : Fields) → good (fieldsFor (entryIn f) 0) ≡ good f
 unfolding entryIn good
-good-fit f = go (ltb (f .kind) 1) (ltb 3 (f .kind)) (ltb 255 (f .sender)) (ltb 255 (f .tie)) (ltb 255 (f .len)) refl refl refl refl refl
+good-fit f = go (known (f .kind)) (ltb 255 (f .sender)) (ltb 255 (f .tie)) (ltb 255 (f .len)) refl refl refl refl
   where
-    go : (a b c d e : Bool) → ltb (f .kind) 1 ≡ a → ltb 3 (f .kind) ≡ b → ltb 255 (f .sender) ≡ c → ltb 255 (f .tie) ≡ d → ltb 255 (f .len) ≡ e
-        → good (fieldsFor (orUnfit a (orUnfit b (orUnfit c (orUnfit d (orUnfit e (entryOf f)))))) 0) ≡ good f
-    go true b c d e p q r s t = not-good f (λ g. omega (arith, ltb-true (f .kind) 1 p))
-    go false true c d e p q r s t = not-good f (λ g. omega (arith, ltb-true 3 (f .kind) q))
-    go false false true d e p q r s t = not-good f (λ g. omega (arith, ltb-true 255 (f .sender) r))
-    go false false false true e p q r s t = not-good f (λ g. omega (arith, ltb-true 255 (f .tie) s))
-    go false false false false true p q r s t = not-good f (λ g. omega (arith, ltb-true 255 (f .len) t))
-    go false false false false false p q r s t =
-        ap good (message-back f (f .offset) (ltb-false (f .kind) 1 p) (ltb-false 3 (f .kind) q) refl)
+    go : (a b c d : Bool) → known (f .kind) ≡ a → ltb 255 (f .sender) ≡ b → ltb 255 (f .tie) ≡ c → ltb 255 (f .len) ≡ d
+        → good (fieldsFor (orUnfit (not a) (orUnfit b (orUnfit c (orUnfit d (entryOf f))))) 0) ≡ good f
+    go false b c d p q r s = not-good f (λ g. false≢true (sym p ∙ g .kind))
+    go true true c d p q r s = not-good f (λ g. omega (arith, ltb-true 255 (f .sender) q))
+    go true false true d p q r s = not-good f (λ g. omega (arith, ltb-true 255 (f .tie) r))
+    go true false false true p q r s = not-good f (λ g. omega (arith, ltb-true 255 (f .len) s))
+    go true false false false p q r s = ap good (message-back f (f .offset) p refl)
 
 -- where it says yes, fields stand for the message that they would be in a packet
 pub entry-fit : (f : Fields) → good f ≡ true → entryIn f ≡ entryOf f
 unfolding entryIn
 entry-fit f h =
     let g = good-parts f h in
-    simp (le-ltb (f .kind) 1 (g .low), le-ltb 3 (f .kind) (g .high), le-ltb 255 (f .sender) (omega arith), le-ltb 255 (f .tie) (omega arith), le-ltb 255 (f .len) (omega arith))
+    rw (g .kind, le-ltb 255 (f .sender) (omega arith), le-ltb 255 (f .tie) (omega arith), le-ltb 255 (f .len) (omega arith))
 
 -- and words are the fields of their message
 pub fields-fit : (words : List ℕ) (w at : ℕ) → good (fieldsAt words w 0) ≡ true → fieldsFor (entryAt words w) at ≡ fieldsAt words w at
 fields-fit words w at h =
     let g = good-parts (fieldsAt words w 0) h in
-    ap (λ (e : Entry). fieldsFor e at) (entry-fit (fieldsAt words w 0) h) ∙ message-back (fieldsAt words w at) at (g .low) (g .high) refl
+    ap (λ (e : Entry). fieldsFor e at) (entry-fit (fieldsAt words w 0) h) ∙ message-back (fieldsAt words w at) at (g .kind) refl
 
 -- the same of message k of n, at its words
 module _ (n : ℕ) (words : List ℕ) (k : ℕ) (more : k < n) where

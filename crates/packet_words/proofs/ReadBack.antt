@@ -12,12 +12,14 @@ use Rattle.hermes_record.proofs.Tests.{both}
 use Rattle.packet_format.specs.declared.entry.Entry.{Entry}
 use Rattle.packet_format.specs.declared.answer.Fetched.the-variants.{Found}
 use Rattle.packet_format.specs.declared.answer.Written.the-variants.{Total}
-use Rattle.packet_format.specs.Entry.{kindOf, messageOf, entryOf, fieldsFor, good, noEntry, Fits, AllFit}
+use Rattle.hermes.specs.Kind.{kindOf, messageOf}
+use Rattle.hermes.proofs.Kind.{kind-back, stamp-back}
+use Rattle.packet_format.specs.Entry.{entryOf, fieldsFor, good, noEntry, Fits, AllFit}
 use Rattle.packet_format.specs.Reading.{entryPlace, packetMessages, bodiesIn}
 use Rattle.packet_format.specs.Writing.{summed, allGood, outputOf}
 use Rattle.packet_format.specs.RoundTrip.{ReadsBack}
 use Rattle.packet_format.proofs.Writing.{Accepts, accepts, total-yes}
-use Rattle.packet_format.proofs.Entries.{entry-back, kind-back, stamp-back, good-parts}
+use Rattle.packet_format.proofs.Entries.{entry-back, good-parts}
 use Rattle.packet_format.proofs.RoundTrip.{written-reads-back, accepted-is-written}
 use Rattle.packet_words.specs.Words.{entryIn, countIn, fieldsAt, entryAt, entriesFrom, wordMessages, packed}
 use Rattle.packet_words.specs.ReadBack.{manyIn, word, Wide, saidBy, bodyFrom, WordsReadBack, wordsOf, AcceptedIsPacked}
@@ -89,7 +91,7 @@ module _ (words bodies out : List ℕ) (n : ℕ) (wide : Wide words) (e : packed
   kinds k l =
       let g = good-parts (fieldsAt words (7 * k) 0) (fine k l) in
       let z = add-zero (7 * k) in
-      kind-back (word words k 0) (record { version = word words k 4; tie = word words k 5 }) (rw z (g .low)) (rw z (g .high))
+      kind-back (word words k 0) (record { version = word words k 4; tie = word words k 5 }) (rw z (g .kind))
 
   fit : AllFit (wordMessages words)
   fit = all-fit (wordMessages words) (λ k l. rw (says k (omega (arith, size))) (record { epoch = wide (7 * k + 2); version = rw stamp-back (wide (7 * k + 4)) }))

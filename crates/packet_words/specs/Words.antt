@@ -1,10 +1,11 @@
 -- A message as seven words, and several of them: kind, sender, epoch, record, version, tie-breaker, length of its body.
 use Prim.Native.Nat.{ℕ, zero, suc, _+_, _/_, _%_}
-use mathlib.Core.Bool.{Bool, true, false, cond, _&&_}
+use mathlib.Core.Bool.{Bool, true, false, cond, not, _&&_}
 use mathlib.Core.List.{List, [], _∷_}
 use lib.Dec.{ltb, leb, eqb}
 use lib.ListN.{length, getD}
 use Rattle.hermes.specs.declared.message.Message.the-variants.{Val}
+use Rattle.hermes.specs.Kind.{known}
 use Rattle.packet_format.specs.declared.entry.Entry.{Entry}
 use Rattle.packet_format.specs.declared.entry.Fields.{Fields}
 use Rattle.packet_format.specs.declared.answer.Written.{Written}
@@ -25,8 +26,8 @@ orUnfit false e = e
 -- the message that fields stand for, each of them a word; a body's offset is none of them
 unfoldable pub entryIn : Fields → Entry
 entryIn f =
-    orUnfit (ltb (f .kind) 1)
-    (orUnfit (ltb 3 (f .kind)) (orUnfit (ltb 255 (f .sender)) (orUnfit (ltb 255 (f .tie)) (orUnfit (ltb 255 (f .len)) (entryOf f)))))
+    orUnfit (not (known (f .kind)))
+    (orUnfit (ltb 255 (f .sender)) (orUnfit (ltb 255 (f .tie)) (orUnfit (ltb 255 (f .len)) (entryOf f))))
 
 -- ---- several messages
 

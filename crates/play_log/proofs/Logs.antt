@@ -10,11 +10,10 @@ use borrow.Author.Tests.{ltb-true, ltb-false, lt-ltb, leb-true, le-leb, lt-leb, 
 use lib.Dec.{lit<, ltb, leb}
 use lib.ListN.{length, take, drop, getD, set, length-append, length-drop, take-append-drop}
 use lib.Seq.{paste, sets-eq, getD-take, getD-drop, length-take-le, take-append-le, drop-append-le, drop-at, take-at, take-length, length-paste}
-use Rattle.hermes.specs.declared.message.Message.{Message}
-use Rattle.hermes.specs.declared.message.Message.the-variants.{Inv, Ack, Val}
 use Rattle.hermes.specs.Run.{Logged, missing, found, find}
 use Rattle.play_log.specs.declared.memory.Envelope.{Envelope}
-use Rattle.packet_format.specs.Entry.{kindOf, timestampOf, messageOf}
+use Rattle.hermes.specs.Kind.{kindOf, timestampOf, messageOf}
+use Rattle.hermes.proofs.Kind.{message-back}
 use Rattle.play_log.specs.Log.{envelopeWords, decode, decodeAll, Fits, kept, envelopeAt, hasPlace, Appended, loggedAt, upTo, logOf, Stored}
 
 left-true : (a b : Bool) → a && b ≡ true → a ≡ true
@@ -100,11 +99,6 @@ paste-same d s at l =
     ∙ take-at s (drop (at + length s) d) (length s) refl
 
 -- ---- a message as six words
-
-message-back : (m : Message) → messageOf (kindOf m) (timestampOf m) ≡ m
-message-back (Inv t) = refl
-message-back (Ack t) = refl
-message-back (Val t) = refl
 
 envelope-back : (e : Envelope) → Fits e → decodeAll (envelopeWords e) ≡ e
 envelope-back e f = λ i. record {

@@ -9,7 +9,7 @@ use lib.Seq.{paste}
 use Rattle.hermes.specs.declared.message.Header.{Header}
 use Rattle.hermes.specs.declared.message.Message.{Message}
 use Rattle.hermes.specs.Run.{Logged}
-use Rattle.packet_format.specs.Entry.{kindOf, timestampOf, messageOf}
+use Rattle.hermes.specs.Kind.{kindOf, timestampOf, messageOf}
 use Rattle.play_log.specs.declared.memory.Envelope.{Envelope}
 
 -- ---- a message as six words: kind, as in a packet, sender, epoch, version, tie-breaker, length of the body; any number is a kind

@@ -3,7 +3,7 @@ ghost use mathlib.Core.Path.{_≡_};
 ghost use Prim.Native.Nat.{_+_, _*_, _≤_};
 ghost use lib.ListN.{length, take, drop};
 ghost use lib.Seq.{paste};
-ghost use Rattle.packet_format.specs.Entry.{kindOf, timestampOf, messageOf};
+ghost use Rattle.hermes.specs.Kind.{kindOf, timestampOf, messageOf};
 ghost use Rattle.play_log.specs.Log.{decodeAll, envelopeAt, envelopeOf, envelopeWords, Fits, kept, hasPlace, Appended};
 use hermes::Header;
 use hermes::Message;
@@ -26,9 +26,9 @@ fn kind_of(m: Message) -> u32
     ensures { λ r. ⌜ r ≡ kindOf m ⌝ }
 {
     match m {
-        Message::Inv(_) => 1,
-        Message::Ack(_) => 2,
-        Message::Val(_) => 3,
+        Message::Inv(_) => Message::INV as u32,
+        Message::Ack(_) => Message::ACK as u32,
+        Message::Val(_) => Message::VAL as u32,
     }
 }
 
@@ -45,10 +45,10 @@ fn timestamp_of(m: Message) -> Timestamp
 fn message_of(kind: u32, t: Timestamp) -> Message
     ensures { λ r. ⌜ r ≡ messageOf kind t ⌝ }
 {
-    if kind == 1 {
+    if kind == Message::INV as u32 {
         return Message::Inv(t);
     }
-    if kind == 2 {
+    if kind == Message::ACK as u32 {
         return Message::Ack(t);
     }
     Message::Val(t)

@@ -2,7 +2,7 @@
 use native.Mathlib.Omega.{arith}
 use lib.ListN.{length-set}
 use Prim.Native.Nat.{_*_, _<_}
-use Rattle.packet_format.specs.Entry.{kindOf, timestampOf}
+use Rattle.hermes.specs.Kind.{kindOf, timestampOf}
 use Rattle.play_log.proofs.Logs.{six-stores}
 use borrow.Author.Needs.{needs}
 use Rattle.play_log.proofs.memory.put_envelope.Statement.{statement}
