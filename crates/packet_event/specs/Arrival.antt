@@ -2,12 +2,9 @@
 use Prim.Native.Nat.{ℕ}
 use mathlib.Core.Bool.{Bool}
 use mathlib.Core.List.{List}
-use Rattle.hermes_record.specs.declared.record.Record.{Record}
 use Rattle.hermes.specs.declared.message.Received.{Received}
-use Rattle.hermes.specs.declared.event.Replica.{Replica}
 use Rattle.hermes.specs.declared.event.Event.the-variants.{Deliver}
 use Rattle.hermes.specs.declared.event.Answer.the-variants as answer
-use Rattle.hermes.specs.Event.{Effect, effect}
 use Rattle.hermes.specs.Node.{Node, Outcome, apply}
 use Rattle.packet_format.specs.declared.entry.Entry.{Entry}
 use Rattle.packet_format.specs.declared.answer.Fetched.{Fetched}
@@ -18,20 +15,7 @@ use Rattle.packet_format.specs.Reading.{fetched, bodyOf}
 abbrev pub receivedOf : Entry → Received
 receivedOf e = record { sender = e .header .sender; epoch = e .header .epoch; message = e .message }
 
--- ---- on one record: r is the record that the message is about
-
 -- 01, Deliver, by what the fetch answered; a broken packet gives its number and changes nothing
-abbrev pub arrivalOf : (ℕ → ℕ → Bool) → Replica → ℕ → Record → List ℕ → List ℕ → Fetched → Effect
-arrivalOf wins me count r store p (Found e at) = effect wins me count (e .header .index) r store (Deliver (receivedOf e)) (bodyOf p (Found e at))
-arrivalOf wins me count r store p (Refused k) = record { moved = record { answer = answer.Refused k; after = r }; store = store }
-
--- message i of the packet p
-unfoldable pub arrival : (ℕ → ℕ → Bool) → Replica → ℕ → Record → List ℕ → List ℕ → ℕ → Effect
-arrival wins me count r store p i = arrivalOf wins me count r store p (fetched p i)
-
--- ---- on the lent table
-
--- the same on the whole table
 abbrev pub receiptOf : (ℕ → ℕ → Bool) → Node → List ℕ → Fetched → Outcome
 receiptOf wins n p (Found e at) = apply wins n (e .header .index) (Deliver (receivedOf e)) (bodyOf p (Found e at))
 receiptOf wins n p (Refused k) = record { answer = answer.Refused k; node = n }

@@ -1,10 +1,12 @@
 // A fetch as an event on a record of the lent table, for `packet_table`.
 ghost use mathlib.Core.Path.{_≡_};
 ghost use Rattle.packet_format.specs.Reading.{fetched};
+ghost use Rattle.packet_event.specs.Arrival.{receivedOf};
 ghost use Rattle.packet_event.specs.Arriving.{arrivingOf, answerIn};
-use crate::received;
 use hermes::Answer;
 use hermes::Event;
+use hermes::Received;
+use packet_format::Entry;
 use packet_format::Fetched;
 
 // No table that question 2 admits has a record of this number.
@@ -15,6 +17,18 @@ pub struct Arriving {
     pub fetched: Fetched,
     pub index: usize,
     pub event: Event,
+}
+
+// A packet's message as it is delivered.
+fn received(entry: Entry) -> Received
+    ensures { λ m. ⌜ m ≡ receivedOf entry ⌝ }
+{
+    let message = entry.message;
+    Received {
+        sender: entry.header.sender,
+        epoch: entry.header.epoch,
+        message: message,
+    }
 }
 
 // The event of message i: its delivery. A refused packet's is refused too.
