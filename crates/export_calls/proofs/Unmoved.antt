@@ -11,12 +11,12 @@ use Rattle.hermes.specs.declared.message.Received.{Received}
 use Rattle.hermes.specs.declared.event.Event.{Event}
 use Rattle.hermes.specs.declared.event.Event.the-variants.{Deliver, Resend}
 use Rattle.hermes_record.specs.Order.{higher, later}
+use Rattle.hermes.specs.Store.{Bytes}
 use Rattle.hermes.specs.Event.{Step, movedBy, effect}
 use Rattle.hermes.specs.Node.{recordAt, effectOf}
 use Rattle.hermes.proofs.Guards.{event-passed}
 use Rattle.hermes.proofs.Apply.{refusalOf, stepOf}
 use Rattle.export_records.specs.Layout.{tableOf}
-use Rattle.export_storing.specs.Back.{Bytes}
 use Rattle.export_records.proofs.Lent.{length-table}
 use Rattle.export_storing.proofs.Back.{settled-back}
 use Rattle.export_numbers.specs.declared.numbers.CetskobiReplica.{CetskobiReplica}

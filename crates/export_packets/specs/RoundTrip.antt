@@ -3,7 +3,7 @@ use Prim.Native.Nat.{ℕ, zero, suc, _+_, _≤_, _<_}
 use mathlib.Core.Path.{_≡_}
 use mathlib.Core.List.{List, [], _∷_, _++_}
 use lib.ListN.{length, take, drop}
-use Rattle.packet_format.specs.Bytes.{Bytes}
+use Rattle.hermes.specs.Store.{Bytes}
 use Rattle.packet_format.specs.Reading.{countOf, entryPlace, bodiesIn}
 use Rattle.packet_words.specs.ReadBack.{manyIn, word, Wide, bodyFrom}
 use Rattle.export_fields.specs.declared.answers.CetskobiFetched.{CetskobiFetched}

@@ -11,12 +11,13 @@ use lib.Seq.{sets, set-getD}
 use borrow.Author.Tests.{le-ltb, ltb-false}
 use Rattle.hermes_record.specs.declared.record.Record.{Record}
 use Rattle.hermes_record.specs.Record.{code}
+use Rattle.hermes.specs.Store.{Bytes}
 use Rattle.hermes.specs.Event.{Step, movedBy}
 use Rattle.hermes.specs.Node.{recordAt}
 use Rattle.export_decoding.specs.Decoding.{two, four, stateOf, orUnsound, decode}
 use Rattle.export_records.specs.Layout.{countOf, decodeAt, tableOf}
 use Rattle.export_storing.specs.Storing.{inTwo, inFour, recordBytes, put, bytesAfter}
-use Rattle.export_storing.specs.Back.{Bytes, PutBack}
+use Rattle.export_storing.specs.Back.{PutBack}
 use Rattle.export_records.proofs.Lent.{record-in}
 use Rattle.export_storing.proofs.Stores.{settled-in}
 

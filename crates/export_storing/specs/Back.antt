@@ -2,14 +2,11 @@
 use Prim.Native.Nat.{ℕ, _<_, _≤_}
 use mathlib.Core.Path.{_≡_}
 use mathlib.Core.List.{List}
-use lib.ListN.{length, getD}
+use lib.ListN.{length}
+use Rattle.hermes.specs.Store.{Bytes}
 use Rattle.hermes.specs.Node.{recordAt}
 use Rattle.export_records.specs.Layout.{countOf, tableOf}
 use Rattle.export_storing.specs.Storing.{put}
-
--- every element is a byte
-abbrev pub Bytes : List ℕ → Type 0
-Bytes bytes = (k : ℕ) → getD bytes k 0 < 256
 
 -- a record of the table whose length question 5 finds sound, as of every accepted event, leaves every byte as found when it is put back
 abbrev pub PutBack : Type 0

@@ -1,7 +1,11 @@
 -- The lent store: 192 bytes for each record (01, "Laptop and record").
-use Prim.Native.Nat.{ℕ, _+_, _-_, _*_}
+use Prim.Native.Nat.{ℕ, _+_, _-_, _*_, _<_}
 use mathlib.Core.List.{List, _++_}
-use lib.ListN.{length, take, drop, replicate}
+use lib.ListN.{length, take, drop, getD, replicate}
+
+-- every element is a byte
+abbrev pub Bytes : List ℕ → Type 0
+Bytes bytes = (k : ℕ) → getD bytes k 0 < 256
 
 -- the 192 bytes of record i
 abbrev pub slot : ℕ → List ℕ → List ℕ

@@ -9,9 +9,9 @@ use borrow.Author.Tests.{eq-eqb, eqb-true}
 use lib.Dec.{eqb}
 use lib.ListN.{length, take, drop, getD, length-drop, length-append}
 use lib.Seq.{drop-drop, getD-drop}
+use Rattle.hermes.specs.Store.{Bytes}
 use Rattle.packet_format.specs.declared.entry.Entry.{Entry}
 use Rattle.packet_format.specs.declared.entry.Fields.{Fields}
-use Rattle.packet_format.specs.Bytes.{Bytes}
 use Rattle.packet_format.specs.Entry.{fieldsOf, entryBytes, entryOf, fieldsFor, entriesOf, good, noEntry, AllFit}
 use Rattle.packet_format.specs.Reading.{walk}
 use Rattle.packet_format.specs.Writing.{summed, contents, allGood}

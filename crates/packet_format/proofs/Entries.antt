@@ -9,10 +9,11 @@ use lib.Dec.{leb}
 use lib.ListN.{length, drop, getD}
 use Rattle.hermes_record.specs.declared.timestamp.Timestamp.{Timestamp}
 use Rattle.hermes.specs.Kind.{inv, val, known}
+use Rattle.hermes.specs.Store.{Bytes}
 use Rattle.hermes.proofs.Kind as kind
 use Rattle.packet_format.specs.declared.entry.Entry.{Entry}
 use Rattle.packet_format.specs.declared.entry.Fields.{Fields}
-use Rattle.packet_format.specs.Bytes.{window, Bytes}
+use Rattle.packet_format.specs.Bytes.{window}
 use Rattle.packet_format.specs.Entry.{fieldsOf, entryBytes, entryOf, fieldsFor, bodied, good, Fits}
 use Rattle.hermes_record.proofs.Tests.{both, is-false}
 use Rattle.packet_format.proofs.Width.{num-be, window-drop, be-window, window-lt}

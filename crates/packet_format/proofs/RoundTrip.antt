@@ -7,11 +7,12 @@ use native.Mathlib.Omega.{arith}
 use borrow.Author.Tests.{leb-true}
 use lib.ListN.{length, take, drop, getD, length-drop, length-append}
 use lib.Seq.{drop-drop, drop-at, take-at}
+use Rattle.hermes.specs.Store.{Bytes}
 use Rattle.packet_format.specs.declared.entry.Entry.{Entry}
 use Rattle.packet_format.specs.declared.entry.Fields.{Fields}
 use Rattle.packet_format.specs.declared.answer.Fetched.the-variants.{Found}
 use Rattle.packet_format.specs.declared.answer.Written.the-variants.{Total}
-use Rattle.packet_format.specs.Bytes.{be, window, Bytes}
+use Rattle.packet_format.specs.Bytes.{be, window}
 use Rattle.packet_format.specs.Entry.{fieldsOf, fieldsFor, noEntry, AllFit}
 use Rattle.packet_format.specs.Reading.{countOf, entryPlace, packetMessages, bodiesIn, question20, question21, question22, question23, walk, fetchRefusal, fetchedAs, fetched, bodyOf}
 use Rattle.packet_format.specs.Writing.{summed, contents, totalOf, packetBytes, allGood, outputOf}

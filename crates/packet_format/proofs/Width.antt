@@ -7,7 +7,8 @@ use native.Mathlib.Omega.{arith}
 use lib.Arith.{digits-div, digits-mod, digits-lt, lt-one}
 use lib.ListN.{length, getD, drop}
 use lib.Seq.{drop-cons}
-use Rattle.packet_format.specs.Bytes.{be, num, window, Bytes}
+use Rattle.hermes.specs.Store.{Bytes}
+use Rattle.packet_format.specs.Bytes.{be, num, window}
 
 pow-256 : (k : ℕ) → 0 < 256 ^ k
 pow-256 zero = rw pow-zero (omega arith)

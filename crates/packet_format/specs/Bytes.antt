@@ -1,5 +1,5 @@
 -- Big-endian numbers (01, "big-endian").
-use Prim.Native.Nat.{ℕ, zero, suc, _+_, _*_, _/_, _%_, _^_, _<_}
+use Prim.Native.Nat.{ℕ, zero, suc, _+_, _*_, _/_, _%_, _^_}
 use mathlib.Core.List.{List, [], _∷_}
 use lib.ListN.{length, getD}
 
@@ -17,7 +17,3 @@ num (b ∷ bs) = b * 256 ^ length bs + num bs
 abbrev pub window : List ℕ → ℕ → ℕ → List ℕ
 window q j zero = []
 window q j (suc k) = getD q j 0 ∷ window q (suc j) k
-
--- every element is a byte
-abbrev pub Bytes : List ℕ → Type 0
-Bytes q = (i : ℕ) → getD q i 0 < 256

@@ -4,11 +4,11 @@ use Prim.Native.Nat.{ℕ, zero, suc, _+_, _*_, _/_, _^_, _≤_, _<_}
 use mathlib.Core.Path.{_≡_}
 use mathlib.Core.List.{List, [], _∷_, _++_}
 use lib.ListN.{length, take, drop, getD}
+use Rattle.hermes.specs.Store.{Bytes}
 use Rattle.hermes.specs.Kind.{kindOf, timestampOf, messageOf}
 use Rattle.packet_format.specs.declared.entry.Entry.{Entry}
 use Rattle.packet_format.specs.declared.answer.Fetched.the-variants.{Found, Refused}
 use Rattle.packet_format.specs.declared.answer.Written.the-variants.{Total}
-use Rattle.packet_format.specs.Bytes.{Bytes}
 use Rattle.packet_format.specs.Reading.{entryPlace, packetMessages, bodiesIn, fetched, bodyOf}
 use Rattle.packet_format.specs.Writing.{outputOf}
 use Rattle.packet_words.specs.Words.{wordMessages, packed}
