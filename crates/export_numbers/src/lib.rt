@@ -8,6 +8,5 @@ pub use numbers::CetskobiReading;
 pub use numbers::CetskobiReplica;
 pub use numbers::admission_out;
 pub use numbers::answer_out;
-pub use numbers::number_out;
 pub use numbers::received_in;
 pub use numbers::replica_of;

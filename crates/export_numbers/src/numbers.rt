@@ -1,7 +1,6 @@
 // How identities, messages and answers cross as numbers.
 ghost use mathlib.Core.Path.{_≡_};
 ghost use Rattle.export_numbers.specs.Crossing.{replicaOf, identityOf, answering, messageOut, outgoingOut, answerOut, admissionOut, messageIn, receivedIn};
-ghost use Rattle.hermes.specs.Event.{numberOf};
 use hermes::Admission;
 use hermes::Answer;
 use hermes::Message;
@@ -161,15 +160,5 @@ pub fn received_in(m: CetskobiMessage) -> Received
         sender: m.sender,
         epoch: m.epoch,
         message: message,
-    }
-}
-
-// The number of an answer.
-pub fn number_out(a: Answer) -> u8
-    ensures { λ k. ⌜ k ≡ numberOf a ⌝ }
-{
-    match a {
-        Answer::Accepted(_) => 0,
-        Answer::Refused(k) => k,
     }
 }

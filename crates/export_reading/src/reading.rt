@@ -26,7 +26,7 @@ pub extern "C" fn cetskobi_read(
     };
     let count = export_records::count(table.len());
     let answer = replica_reading::read_number(who, count, store.len(), i, r);
-    let number = export_numbers::number_out(answer);
+    let number = replica_outcome::number_of(answer);
     if number != 0 {
         return CetskobiReading {
             number: number,

@@ -149,7 +149,7 @@ fn conclude(
     let held = member.held;
     let next = keep(member, leaving, heads, bodies, sent);
     let to = play_lines::put_answer(
-        play_member::number_of(answer),
+        replica_outcome::number_of(answer),
         held,
         log_number(sent, leaving),
         out,

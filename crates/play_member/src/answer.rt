@@ -1,22 +1,12 @@
-// An answer's number, what leaves with it, and the room of the log for that.
+// What leaves with an answer, and the room of the log for that.
 ghost use mathlib.Core.Path.{_≡_};
-ghost use Rattle.hermes.specs.Event.{numberOf, sentBy};
+ghost use Rattle.hermes.specs.Event.{sentBy};
 ghost use Rattle.play_member.specs.Member.{hasRoom};
 use hermes::Answer;
 use hermes::Outgoing;
 
 // The most messages of the log.
 const MESSAGES_MAX: usize = 256;
-
-// The number of an answer.
-pub fn number_of(a: Answer) -> u8
-    ensures { λ r. ⌜ r ≡ numberOf a ⌝ }
-{
-    match a {
-        Answer::Accepted(_) => 0,
-        Answer::Refused(k) => k,
-    }
-}
 
 // What leaves with an answer.
 pub fn sent_by(a: Answer) -> Outgoing

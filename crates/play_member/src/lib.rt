@@ -3,7 +3,6 @@ mod answer;
 mod member;
 
 pub use answer::has_room;
-pub use answer::number_of;
 pub use answer::sent_by;
 pub use member::Judged;
 pub use member::Member;

@@ -1,6 +1,7 @@
-// The end of an accepted event; that of a refused one is `replica_asking::stopped`.
+// The end of an accepted event, and the number of an answer; the end of a refused event is `replica_asking::stopped`.
 ghost use mathlib.Core.Path.{_≡_};
 ghost use Rattle.hermes.specs.declared.event.Answer.the-variants.{Accepted};
+ghost use Rattle.hermes.specs.Event.{numberOf};
 use hermes::Answer;
 use hermes::Moved;
 use hermes::Outgoing;
@@ -13,5 +14,15 @@ pub fn accepted(out: Outgoing, after: Record) -> Moved
     Moved {
         answer: Answer::Accepted(out),
         after: after,
+    }
+}
+
+// The number of an answer.
+pub fn number_of(a: Answer) -> u8
+    ensures { λ r. ⌜ r ≡ numberOf a ⌝ }
+{
+    match a {
+        Answer::Accepted(_) => 0,
+        Answer::Refused(k) => k,
     }
 }

@@ -3,4 +3,5 @@ mod ends;
 mod value;
 
 pub use ends::accepted;
+pub use ends::number_of;
 pub use value::stored;

@@ -31,19 +31,19 @@ count-requires c κs = search needs
 read-number-requires : tie.Need-read-number-requires
 read-number-requires c κs = search needs
 
-number-out-requires : tie.Need-number-out-requires
-number-out-requires c κs = search needs
+number-of-requires : tie.Need-number-of-requires
+number-of-requires c κs = search needs
 
 returns-2 : tie.Need-returns-2
 returns-2 c = let v = c .before .before .before .before .before .before .before .before .before .before .before .args in
-    read-refused (v .me) (v .table .now) (v .i) _ _ _ (taken-here (v .me) (v .table .now) _ (v .i) _ _ _ _ (c .before .before .before .before .before .before .before .before .replica-of .ensures) (c .before .before .before .count .ensures) (c .before .before .before .before .before .before .before .begin .ensures) (c .before .before .before .before .before .a .given .1)) (v .store .now) _ _ (c .before .before .read-number .ensures) (c .before .number-out .ensures) (omega (arith, c .if1 .taken))
+    read-refused (v .me) (v .table .now) (v .i) _ _ _ (taken-here (v .me) (v .table .now) _ (v .i) _ _ _ _ (c .before .before .before .before .before .before .before .before .replica-of .ensures) (c .before .before .before .count .ensures) (c .before .before .before .before .before .before .before .begin .ensures) (c .before .before .before .before .before .a .given .1)) (v .store .now) _ _ (c .before .before .read-number .ensures) (c .before .number-of .ensures) (omega (arith, c .if1 .taken))
 
 cast-t12 : tie.Need-cast-t12
 cast-t12 c = search needs
 
 returns-3 : tie.Need-returns-3
 returns-3 c = let v = c .before .before .before .before .before .before .before .before .before .before .before .before .args in
-    read-accepted (v .me) (v .table .now) (v .i) _ _ _ (taken-here (v .me) (v .table .now) _ (v .i) _ _ _ _ (c .before .before .before .before .before .before .before .before .before .replica-of .ensures) (c .before .before .before .before .count .ensures) (c .before .before .before .before .before .before .before .before .begin .ensures) (c .before .before .before .before .before .before .a .given .1)) (v .store .now) _ _ (c .before .before .before .read-number .ensures) (c .before .before .number-out .ensures) (omega (arith, c .before .if1 .left))
+    read-accepted (v .me) (v .table .now) (v .i) _ _ _ (taken-here (v .me) (v .table .now) _ (v .i) _ _ _ _ (c .before .before .before .before .before .before .before .before .before .replica-of .ensures) (c .before .before .before .before .count .ensures) (c .before .before .before .before .before .before .before .before .begin .ensures) (c .before .before .before .before .before .before .a .given .1)) (v .store .now) _ _ (c .before .before .before .read-number .ensures) (c .before .before .number-of .ensures) (omega (arith, c .before .if1 .left))
 
 pub cetskobi-read-spec : {M : Type 1} → statement M
 cetskobi-read-spec =
@@ -57,7 +57,7 @@ cetskobi-read-spec =
     returns
     count-requires
     read-number-requires
-    number-out-requires
+    number-of-requires
     returns-2
     cast-t12
     returns-3)
