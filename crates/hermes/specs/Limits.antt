@@ -1,4 +1,5 @@
--- The number that each of questions 1 to 19 answers, and both sides of every limit in it: the last number of a row is the answer.
+-- The number that each of questions 1 to 19 answers, with both sides of every limit in it and the order in which they are asked.
+-- The last number of a row is the answer.
 use Prim.Native.Nat.{ℕ, _+_, _*_, _^_}
 use mathlib.Core.List.{List, [], _∷_}
 use Rattle.hermes_record.specs.declared.timestamp.Timestamp.{Timestamp}
@@ -23,10 +24,10 @@ set (k ∷ ks) = 2 ^ k + set ks
 abbrev laptop : ℕ → ℕ → Replica
 laptop number view = record { number = number; epoch = 7; view = view }
 
--- laptop 2, view {1,2,5}: whose events these are unless said
 abbrev group : ℕ
 group = set (1 ∷ 2 ∷ 5 ∷ [])
 
+-- laptop 2, view {1,2,5}: whose events these are unless said
 abbrev two : Replica
 two = laptop 2 group
 
@@ -42,18 +43,19 @@ held s t writer w acks len = record { state = s; timestamp = t; writer = writer;
 abbrev sound : State → Record
 sound s = held s (stamp 4 5) 5 (stamp 3 2) 0 10
 
--- the same and not sound: 193 bytes long
+-- the same, and not sound: 193 bytes long
 abbrev unsound : State → Record
 unsound s = held s (stamp 4 5) 5 (stamp 3 2) 0 193
 
--- the same with this last writer; acknowledged by these
+-- a sound one with this last writer
 abbrev lastBy : ℕ → State → Record
 lastBy writer s = held s (stamp 4 5) writer (stamp 3 2) 0 10
 
+-- a sound one that these have acknowledged, if the laptop is none of them
 abbrev countedBy : List ℕ → State → Record
 countedBy ks s = held s (stamp 4 5) 5 (stamp 3 2) (set ks) 10
 
--- an event on the one record of laptop 2, with so many bytes
+-- an event on the one record of laptop 2, with so many bytes of a value
 abbrev event : Event → Record → ℕ → ℕ → Row
 event e r n k = asks two 1 192 0 r e n k
 

@@ -1,4 +1,4 @@
--- Document 01, "From the ringing table", the rows marked P. Laptop 2, view {1,2,5}, epoch 0 unless said.
+-- The rows about events: document 01's own, "From the ringing table", marked P, of laptop 2 with view {1,2,5} at epoch 0 unless said; and those of `Limits`.
 use Prim.Native.Nat.{ℕ}
 use mathlib.Core.List.{List, [], _∷_, _++_}
 use lib.ListN.{replicate}
@@ -51,6 +51,7 @@ replaying = record {
   len = 1;
 }
 
+-- 01, "From the ringing table"
 unfoldable pub ringing : List Row
 ringing =
     -- fresh: (0,1), valid

@@ -1,4 +1,5 @@
--- The rows about packets: document 01's own, "From the ringing table", and those that pin the numbers of questions 20 to 25 and both sides of their limits.
+-- The rows about packets: document 01's own, "From the ringing table"; and the number that each of questions 20 to 25 answers, with both sides
+-- of every limit in it and the order in which they are asked.
 use Prim.Native.Nat.{ℕ, zero, suc, _+_, _/_, _%_}
 use mathlib.Core.Path.{_≡_}
 use mathlib.Core.List.{List, [], _∷_, _++_}
@@ -71,7 +72,7 @@ seven n =
 abbrev sevenOf : ℕ → List Entry
 sevenOf n = replicate 6 (message 5 7 (inv 2) 192) ++ message 5 7 (inv 2) n ∷ []
 
--- two INVs, of bodies of 3 and 2 bytes, the second of this kind and with this offset and length
+-- two entries over 5 bytes of bodies: an INV of 3 bytes, and one of this kind, offset and length
 abbrev pair : ℕ → ℕ → ℕ → List ℕ
 pair kind offset len = packet 2 41 (entry 1 5 7 2 36 3 (entry kind 5 7 2 offset len (body 5)))
 
