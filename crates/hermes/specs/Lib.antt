@@ -11,6 +11,7 @@ pub mod Recipients
 pub mod Source
 pub mod Conformance
 pub mod Agreement
+pub mod SecondReading
 pub mod Reads
 pub mod Played
 pub mod Witness
