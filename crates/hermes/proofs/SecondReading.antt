@@ -2,7 +2,7 @@
 -- a list of entries of the first reading, and a run of that list leaves every laptop as the history does.
 use Prim.Native.Nat.{ℕ, zero, suc, _+_, _*_, _<_}
 use mathlib.Core.Path.{_≡_, refl, sym, ap, subst, _∙_}
-use mathlib.Core.Bool.{Bool, true, false, cond, _&&_, _||_, false≢true}
+use mathlib.Core.Bool.{Bool, true, false, cond, _&&_}
 use mathlib.Core.Logic.{_⊎_, inl, inr, ⊎-elim, ⊎-map, _≢_}
 use mathlib.Core.List.{List, [], _∷_, _++_, append-assoc}
 use native.Mathlib.Omega.{arith}
@@ -66,30 +66,27 @@ agree i a b k = record {
 
 -- ---- the laptops of a list, by number
 
+-- the laptop with number k; where there is none, one with another number
+abbrev at : List Node → ℕ → Node
+at [] k = lent (newcomer (suc k) 0) [] []
+at (n ∷ rest) k = cond (eqb (n .me .number) k) n (at rest k)
+
 -- one of them has number k
 abbrev member : List Node → ℕ → Bool
-member [] k = false
-member (n ∷ rest) k = eqb k (n .me .number) || member rest k
+member list k = eqb (at list k .me .number) k
 
--- the first that has it
-abbrev at : List Node → ℕ → Node
-at [] k = lent (newcomer 0 0) [] []
-at (n ∷ rest) k = cond (eqb k (n .me .number)) n (at rest k)
-
--- that is one of the list, with that number
-sought : (list : List Node) (k : ℕ) → member list k ≡ true → Among (at list k) list × (at list k .me .number ≡ k)
-sought [] k e = absurd (false≢true e)
-sought (n ∷ rest) k e = go (eqb k (n .me .number)) refl e (sought rest k)
+sought : (list : List Node) (k : ℕ) → at list k .me .number ≡ k → Among (at list k) list
+sought [] k e = absurd (omega arith)
+sought (n ∷ rest) k e = go (eqb (n .me .number) k) e (sought rest k)
   where
-    go : (b : Bool) → eqb k (n .me .number) ≡ b → (b || member rest k) ≡ true → (member rest k ≡ true → Among (at rest k) rest × (at rest k .me .number ≡ k))
-        → Among (cond b n (at rest k)) (n ∷ rest) × (cond b n (at rest k) .me .number ≡ k)
-    go true q e later-on = (first, sym (eqb-true k (n .me .number) q))
-    go false q e later-on = let (a, s) = later-on e in (further a, s)
+    go : (b : Bool) → cond b n (at rest k) .me .number ≡ k → (at rest k .me .number ≡ k → Among (at rest k) rest) → Among (cond b n (at rest k)) (n ∷ rest)
+    go true e others = first
+    go false e others = further (others e)
 
 -- where numbers differ, each of the list is the one with its number
-standing : (list : List Node) → Different list → (n : Node) → Among n list → (member list (n .me .number) ≡ true) × (at list (n .me .number) ≡ n)
-standing (o ∷ rest) d n first = rw (eq-eqb (n .me .number) (n .me .number) refl) (refl, refl)
-standing (o ∷ rest) d n (further a) = rw (ne-eqb (n .me .number) (o .me .number) (d .0 n a)) (standing rest (d .1) n a)
+standing : (list : List Node) → Different list → (n : Node) → Among n list → at list (n .me .number) ≡ n
+standing (o ∷ rest) d n first = rw (eq-eqb (n .me .number) (n .me .number) refl)
+standing (o ∷ rest) d n (further a) = rw (ne-eqb (o .me .number) (n .me .number) (λ e. d .0 n a (sym e))) (standing rest (d .1) n a)
 
 module _ {old new : Node} where
   -- the laptop that an entry replaces was one of the group
@@ -202,7 +199,7 @@ module _ (issued : ℕ → ℕ) (begun : List Node) (p : Premises issued begun) 
 
   started : Started (member begun) (p .count) issued group
   started = record {
-    fresh = λ k e. let (a, s) = sought begun k e in fresh-start (p .count) issued k (at begun k) s (p .fresh (at begun k) a);
+    fresh = λ k e. let s = eqb-true (at begun k .me .number) k e in fresh-start (p .count) issued k (at begun k) s (p .fresh (at begun k) (sought begun k s));
     silent = refl;
   }
 
@@ -299,7 +296,13 @@ module _ (issued : ℕ → ℕ) (begun : List Node) (p : Premises issued begun) 
     one-more = record { entries = list; due = due; different = differ r number (m .different); held = λ n b. held n (stands r (m .different) n b); past = past }
 
   matched : {list : List Entry} {now : List Node} → History issued begun list now → Matched list now
-  matched empty = record { entries = []; due = tt; different = p .different; held = standing begun (p .different); past = λ e. elim [ ] }
+  matched empty = record {
+    entries = [];
+    due = tt;
+    different = p .different;
+    held = λ n a. let q = standing begun (p .different) n a in (eq-eqb _ _ (ap (λ (x : Node). x .me .number) q), q);
+    past = λ e. elim [ ];
+  }
   matched (next e h o r) = one-more e (matched h) o r
 
   -- ---- the claim
