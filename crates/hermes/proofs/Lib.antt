@@ -13,6 +13,7 @@ pub mod Refine
 pub mod Agreement
 pub mod Sound
 pub mod SecondReading
+pub mod SecondPremises
 pub mod Premises
 pub mod Frame
 pub mod Locality

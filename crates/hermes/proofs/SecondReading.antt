@@ -1,5 +1,5 @@
--- The second reading of demand 3 follows from the first, of whose proof nothing is used. The idea: the entries of a history, oldest first, are
--- a list of entries of the first reading, and a run of that list leaves every laptop as the history does.
+-- The second reading of demand 3 follows from the first (`agreement`) and from the laptops' staying sound. The idea: the entries of a history,
+-- oldest first, are a list of entries of the first reading, and a run of that list leaves every laptop as the history does.
 use Prim.Native.Nat.{ℕ, zero, suc, _+_, _*_, _<_}
 use mathlib.Core.Path.{_≡_, refl, sym, ap, subst, _∙_}
 use mathlib.Core.Bool.{Bool, true, false, cond, _&&_}
