@@ -1,0 +1,62 @@
+#!/bin/sh
+# docs/TRUST.md has the right numbers: for each demand, the definitions that its statement rests on, down to the kit's, and their lines.
+# `--write` puts the numbers there; `--read N` prints every definition that row N of the table rests on, with its comments.
+cd "$(dirname "$0")/.." || exit 2
+page=docs/TRUST.md
+dir=$(mktemp -d) || exit 2
+trap 'rm -rf "$dir"' EXIT
+
+# DEMAND|WHAT IT SAYS|STATEMENT ..|PROOF ..: statements as CRATE.MODULE.NAME, and for each FILE:NAME of its proof.
+exported=$(grep -lr '^#\[no_mangle\]' crates/export_*/src | sort | tr '\n' ' ')
+cat >"$dir/roots" <<END
+1|what every function answers and leaves behind|$exported|
+1|what an event may change, and what it looks at|hermes.Locality.Demand1|crates/hermes/proofs/Locality.antt:confinement
+2|each event is the source's action|hermes.Conformance.Demand2|crates/hermes/proofs/Conformance.antt:conformance
+2|packets|packet_format.RoundTrip.WrittenReadsBack packet_format.RoundTrip.AcceptedIsWritten|crates/packet_format/proofs/RoundTrip.antt:written-reads-back crates/packet_format/proofs/RoundTrip.antt:accepted-is-written
+3|agreement|hermes.Agreement.Demand3|crates/hermes/proofs/Agreement.antt:agreement
+END
+
+grep -nE '^(pub )?(struct|enum) ' crates/*/src/*.rt >"$dir/types"
+# the kit's folder is where its guide is; without it its lines are not counted
+guide=$(rt doc 2>/dev/null) && kit=$(cd "$(dirname "$guide")/.." && pwd) || kit=''
+[ -d "$kit/logic" ] || kit=''
+
+count() { LC_ALL=C awk -v roots="$dir/roots" -v types="$dir/types" -v kit="$kit" "$@" -f tests/trust.awk; }
+
+case ${1-} in
+--read)
+    count -v mode=read -v row="${2-}"
+    exit
+    ;;
+--write | '') ;;
+*)
+    echo "usage: sh tests/trust.sh [--write | --read ROW]"
+    exit 2
+    ;;
+esac
+
+count -v mode=table >"$dir/table" && count -v mode=kit >"$dir/kit" || exit 1
+# the page with both blocks anew: what stands between <!-- NAME --> and <!-- end NAME -->
+if [ -n "$kit" ]; then blocks='table kit'; else blocks=table; fi
+cp "$page" "$dir/page" || exit 1
+for block in $blocks; do
+    if ! grep -q "^<!-- $block -->\$" "$page" || ! grep -q "^<!-- end $block -->\$" "$page"; then
+        echo "$page has no block $block"
+        exit 1
+    fi
+    awk -v block="$block" -v text="$dir/$block" '
+        $0 == "<!-- end " block " -->" { skip = 0 }
+        !skip { print }
+        $0 == "<!-- " block " -->" { while ((getline line < text) > 0) print line; skip = 1 }' "$dir/page" >"$dir/next" && mv "$dir/next" "$dir/page"
+done
+if [ "${1-}" = --write ]; then
+    cp "$dir/page" "$page"
+    exit
+fi
+if ! cmp -s "$page" "$dir/page"; then
+    echo "$page is out of date: sh tests/trust.sh --write. < the page, > what is counted:"
+    diff "$page" "$dir/page"
+    exit 1
+fi
+[ -n "$kit" ] || echo "trust: the kit's text is not there, and its lines are not counted"
+echo "trust: $(wc -l <"$dir/roots") statements, and what each rests on, as $page has it"
