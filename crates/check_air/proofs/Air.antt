@@ -1,10 +1,9 @@
 -- What left a call, packed and delivered from the packet, is the delivery of the message that left.
-use Prim.Native.Nat.{ℕ, zero, suc, _+_, _*_, _/_, _^_, _<_, _≤_}
-use mathlib.Core.Path.{_≡_, refl, sym, ap, ap₂, _∙_}
-use mathlib.Core.Bool.{Bool, true, false, cond}
+use Prim.Native.Nat.{ℕ, zero, suc, _+_, _*_, _<_}
+use mathlib.Core.Path.{_≡_, refl, sym, ap, _∙_}
+use mathlib.Core.Bool.{Bool, true, false}
 use mathlib.Core.List.{List, [], _∷_, _++_, append-assoc}
 use native.Mathlib.Omega.{arith}
-use lib.Dec.{eqb}
 use lib.ListN.{length, take, drop, getD, length-append}
 use lib.Seq.{getD-append-add, take-append-seam, drop-append-seam}
 use Rattle.hermes_record.specs.declared.timestamp.Timestamp.{Timestamp}
@@ -13,7 +12,6 @@ use Rattle.hermes_record.specs.declared.record.State.{State}
 use Rattle.hermes_record.specs.declared.record.State.the-variants as state
 use Rattle.hermes.specs.declared.message.Message.{Message}
 use Rattle.hermes.specs.declared.message.Message.the-variants.{Inv, Ack, Val}
-use Rattle.hermes.specs.declared.message.Header.{Header}
 use Rattle.hermes.specs.declared.message.Outgoing.{Outgoing}
 use Rattle.hermes.specs.declared.message.Outgoing.the-variants.{None, Sent}
 use Rattle.hermes.specs.declared.event.Replica.{Replica}
@@ -24,31 +22,23 @@ use Rattle.hermes.specs.declared.event.Event.the-variants.{Read, Write, Replay,
 use Rattle.hermes_record.specs.Order.{higher, later}
 use Rattle.hermes.specs.Kind.{messageOf}
 use Rattle.hermes.proofs.Kind.{message-back}
-use Rattle.hermes.specs.Event.{sentBy, send, Step, step, movedBy, deliverStep, invStep, resent, refusal, effect}
+use Rattle.hermes.specs.Event.{sentBy, step, deliverStep, invStep, resent}
 use Rattle.hermes.specs.Node.{Node, Outcome, recordOf, leaving, apply}
-use Rattle.hermes.specs.Run.{Logged, received, logged}
-use Rattle.hermes.proofs.Apply.{Applied, refused, accepted, applied, stepOf}
+use Rattle.hermes.specs.Run.{Logged, logged}
+use Rattle.hermes.proofs.Apply.{Applied, refused, accepted, applied}
 use Rattle.packet_format.specs.declared.entry.Entry.{Entry}
-use Rattle.packet_format.specs.declared.answer.Fetched.{Fetched}
 use Rattle.packet_format.specs.declared.answer.Fetched.the-variants.{Found}
-use Rattle.packet_format.specs.declared.answer.Written.{Written}
-use Rattle.packet_format.specs.declared.answer.Written.the-variants as written
 use Rattle.packet_format.specs.Reading.{entryPlace, fetched, bodyOf}
-use Rattle.packet_format.specs.Writing.{totalOf, writeRefusal, writtenAs, packetWritten, outputOf}
-use Rattle.packet_words.specs.Words.{wordMessages, packed}
 use Rattle.packet_words.specs.ReadBack.{manyIn, word, saidBy, bodyFrom, ReadsAs}
-use Rattle.packet_words.proofs.ReadBack.{words-read-back}
+use Rattle.export_packets.proofs.RoundTrip.{packed-reads}
 use Rattle.packet_event.specs.Arrival.{receivedOf}
-use Rattle.export_numbers.specs.declared.numbers.CetskobiReplica.{CetskobiReplica}
 use Rattle.export_numbers.specs.declared.numbers.CetskobiAnswer.{CetskobiAnswer}
 use Rattle.export_numbers.specs.Crossing.{messageOut, answerOut}
 use Rattle.export_calls.specs.Calls.{nodeOf, Done}
-use Rattle.export_outgoing.specs.Leaving.{Along, along, gone, alongOf, Delivered}
+use Rattle.export_outgoing.specs.Leaving.{Along, along, gone, Delivered}
 use Rattle.export_outgoing.proofs.Sent.{body-after}
-use Rattle.export_fields.specs.declared.answers.CetskobiWritten.{CetskobiWritten}
-use Rattle.export_fields.specs.Answers.{writtenOut}
 use Rattle.export_arrival.specs.Arrival.{Arrived}
-use Rattle.check_air.specs.Air.{Sending, sevenOf, wordsOf, bodiesOf, Leaves, Called, Packed, ThroughTheAir}
+use Rattle.check_air.specs.Air.{Sending, sevenOf, wordsOf, bodiesOf, Called, Packed, ThroughTheAir}
 
 -- ---- what leaves an event has the laptop's header and crosses as its answer
 
@@ -218,31 +208,15 @@ module _ (before after : List Sending) (s : Sending) (x : Logged) (c : Called x 
   body-said : take (word words (length before) 6) (drop (bodyFrom words (length before)) (bodiesOf (before ++ s ∷ after))) ≡ x .body
   body-said = rw (word-at before after s 6, body-place before (s ∷ after)) (body-at before after s) ∙ bytes-left x s c
 
--- `cetskobi_pack` answered 0: the packet's total length
-total : (es : List Entry) (bodies : List ℕ) (room : ℕ) → writtenOut (packetWritten es bodies room) .number ≡ 0
-    → packetWritten es bodies room ≡ written.Total (writtenOut (packetWritten es bodies room) .len)
-unfolding packetWritten
-total es bodies room h = go (writeRefusal es bodies room) h
-  where
-    go : (k : ℕ) → writtenOut (writtenAs k (totalOf (length es) bodies)) .number ≡ 0 → writtenAs k (totalOf (length es) bodies) ≡ written.Total (writtenOut (writtenAs k (totalOf (length es) bodies)) .len)
-    go zero e = refl
-    go (suc k) e = absurd (omega arith)
-
 -- what a fetch found is delivered with its bytes
 delivers : (n : Node) (table p : List ℕ) (e : Entry) (at : ℕ) (v : List ℕ) (a : CetskobiAnswer) (table′ store′ : List ℕ) → bodyOf p (Found e at) ≡ v
     → Arrived n table p (Found e at) a table′ store′ → Done n table (e .header .index) (Deliver (receivedOf e)) v a table′ store′
 delivers n table p e at v a table′ store′ brings h =
     rw (sym brings) (record { answer = h .answer; bytes = h .bytes; table = h .table; store = h .store })
 
+-- a packet reads back as what was sent
 reads : (ss : List Sending) (packet : List ℕ) → Packed ss packet → ReadsAs packet (wordsOf ss) (bodiesOf ss)
-reads ss packet p =
-    let w = packed (wordsOf ss) (bodiesOf ss) (length (p .out)) in
-    let n = writtenOut w .len in
-    let accepted : writtenOut w .number ≡ 0 = sym (ap (λ (r : CetskobiWritten). r .number) (p .answer)) ∙ p .accepted in
-    let all : w ≡ written.Total n = total (wordMessages (wordsOf ss)) (bodiesOf ss) (length (p .out)) accepted in
-    let front : packet ≡ take n (outputOf (written.Total n) (wordMessages (wordsOf ss)) (bodiesOf ss) (p .out)) =
-    p .front ∙ ap₂ take (ap (λ (r : CetskobiWritten). r .len) (p .answer)) (p .output ∙ ap (λ (x : Written). outputOf x (wordMessages (wordsOf ss)) (bodiesOf ss) (p .out)) all) in
-    rw front (words-read-back (wordsOf ss) (bodiesOf ss) (p .out) n (p .words) all)
+reads ss packet p = rw (p .front) (packed-reads (wordsOf ss) (bodiesOf ss) (p .out) (p .words) (p .accepted))
 
 module _ (before after : List Sending) (s : Sending) (x : Logged) (packet : List ℕ) (c : Called x s) (p : Packed (before ++ s ∷ after) packet) where
   -- what the packet's reader finds

@@ -9,20 +9,18 @@ use lib.Dec.{eqb}
 use lib.ListN.{length}
 use lib.Seq.{set-getD}
 use borrow.Author.Tests.{eqb-true}
-use Rattle.hermes.specs.declared.event.Replica.{Replica}
 use Rattle.hermes.specs.declared.event.Answer.{Answer}
 use Rattle.hermes.specs.declared.event.Answer.the-variants.{Accepted, Refused}
 use Rattle.hermes.specs.declared.event.Admission.{Admission}
 use Rattle.hermes.specs.declared.event.Admission.the-variants as admission
 use Rattle.hermes.specs.declared.event.Event.{Event}
 use Rattle.hermes.specs.declared.event.Event.the-variants.{Read, Write, Replay, Deliver, Validate, Resend}
-use Rattle.hermes.specs.declared.message.Outgoing.{Outgoing}
 use Rattle.hermes.specs.declared.message.Outgoing.the-variants.{None, Sent}
 use Rattle.hermes.specs.declared.message.Message.the-variants.{Inv, Ack, Val}
 use Rattle.hermes_record.specs.declared.record.Record.{Record}
 use Rattle.hermes_record.specs.Order.{higher, NotAfter}
 use Rattle.hermes_record.specs.Record.{freshRecord}
-use Rattle.hermes.specs.Event.{numberOf, sentBy}
+use Rattle.hermes.specs.Event.{numberOf}
 use Rattle.hermes.specs.Node.{Node, Outcome, identity, newcomer, startRefusal, begin, start, apply, viewed, recordOf}
 use Rattle.hermes.specs.Node as hermes
 use Rattle.hermes.specs.Run as run
@@ -40,39 +38,8 @@ use Rattle.export_numbers.specs.declared.numbers.CetskobiReplica.{CetskobiRepli
 use Rattle.export_numbers.specs.declared.numbers.CetskobiAnswer.{CetskobiAnswer}
 use Rattle.export_numbers.specs.declared.numbers.CetskobiAdmission.{CetskobiAdmission}
 use Rattle.export_numbers.specs.Crossing.{replicaOf, identityOf, answerOut, admissionOut, receivedIn}
-use Rattle.check_air.specs.Air.{Sending, Called, Packed}
-use Rattle.check_air.specs.Calls.{
-  Laptop,
-  node,
-  Call,
-  read,
-  write,
-  replay,
-  deliver,
-  deliverPacket,
-  validate,
-  resend,
-  view,
-  Moves,
-  Returns,
-  Hut,
-  Step,
-  outcome,
-  logOf,
-  next,
-  after,
-  Honest,
-  Broken,
-  Repeated,
-  Fair,
-  Follows,
-  Begun,
-  AllBegun,
-  laptop,
-  CallsAgree,
-  CalledDemand3,
-}
-use Rattle.check_air.proofs.Air.{entryLeft, found-left}
+use Rattle.check_air.specs.Calls.{Laptop, node, Call, read, write, replay, deliver, deliverPacket, validate, resend, view, Moves, Returns, Hut, Step, outcome, logOf, next, after, Fair, Follows, Begun, AllBegun, laptop, CallsAgree, CalledDemand3}
+use Rattle.check_air.proofs.Air.{found-left}
 
 -- ---- the log
 
@@ -205,7 +172,7 @@ record Match (g : Group) (h : Hut) : Type 0 where
   logs : g .log ≡ h .log
 
 -- the number of an answer crosses as it is
-number-out : (a : Answer) → answerOut a .number ≡ numberOf a
+pub number-out : (a : Answer) → answerOut a .number ≡ numberOf a
 number-out (Accepted None) = refl
 number-out (Accepted (Sent (Inv t) h)) = refl
 number-out (Accepted (Sent (Ack t) h)) = refl

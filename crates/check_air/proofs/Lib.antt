@@ -1,2 +1,5 @@
+-- What is proved of the statements in specs/.
 pub mod Air
 pub mod Calls
+pub mod Answered
+pub mod Morning

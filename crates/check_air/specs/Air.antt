@@ -11,15 +11,12 @@ use Rattle.hermes.specs.Event.{sentBy}
 use Rattle.hermes.specs.Node.{Node, apply}
 use Rattle.hermes.specs.Run.{Logged, received, logged}
 use Rattle.packet_format.specs.Reading.{fetched}
-use Rattle.packet_format.specs.Writing.{outputOf}
-use Rattle.packet_words.specs.Words.{wordMessages, packed}
 use Rattle.packet_words.specs.ReadBack.{Wide}
 use Rattle.export_numbers.specs.declared.numbers.CetskobiReplica.{CetskobiReplica}
 use Rattle.export_numbers.specs.declared.numbers.CetskobiAnswer.{CetskobiAnswer}
 use Rattle.export_calls.specs.Calls.{nodeOf, Done}
 use Rattle.export_outgoing.specs.Leaving.{along, alongOf}
-use Rattle.export_fields.specs.declared.answers.CetskobiWritten.{CetskobiWritten}
-use Rattle.export_fields.specs.Answers.{writtenOut}
+use Rattle.export_packets.specs.Calls.{packAnswer, packOutput}
 use Rattle.export_arrival.specs.Arrival.{Arrived}
 
 -- ---- what a caller packs
@@ -63,17 +60,13 @@ pub record Called (x : Logged) (s : Sending) : Type 0 where
   pub bytes : alongOf table′ store′ (s .index) (s .left) ≡ along (s .body)
   pub leaves : Leaves (nodeOf (s .from) table store) (s .index) event value x
 
--- the second: `cetskobi_pack` made a packet of what was sent, at the front of the output
+-- the second: `cetskobi_pack` was called with an output, answered 0, and left the packet at its front
 pub record Packed (ss : List Sending) (packet : List ℕ) : Type 0 where
   -- every word is a uint32_t
   pub words : Wide (wordsOf ss)
   pub out : List ℕ
-  pub out′ : List ℕ
-  pub written : CetskobiWritten
-  pub answer : written ≡ writtenOut (packed (wordsOf ss) (bodiesOf ss) (length out))
-  pub output : out′ ≡ outputOf (packed (wordsOf ss) (bodiesOf ss) (length out)) (wordMessages (wordsOf ss)) (bodiesOf ss) out
-  pub accepted : written .number ≡ 0
-  pub front : packet ≡ take (written .len) out′
+  pub accepted : packAnswer (wordsOf ss) (bodiesOf ss) out .number ≡ 0
+  pub front : packet ≡ take (packAnswer (wordsOf ss) (bodiesOf ss) out .len) (packOutput (wordsOf ss) (bodiesOf ss) out)
 
 -- The third: `cetskobi_deliver_packet`, of that message of the packet, is exactly the delivery of the message that left, with the bytes that it left with.
 abbrev pub ThroughTheAir : Type 0

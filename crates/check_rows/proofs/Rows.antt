@@ -1,6 +1,6 @@
 -- Every row of the table holds: each is one about an event or one about a packet, and those hold where their definitions stand.
-use mathlib.Core.Path.{_≡_, sym}
-use mathlib.Core.List.{List, map, _++_, List·Memᴰ, List·Memᴰ·append-cases, Memᴰ·of-map}
+use mathlib.Core.Path.{sym}
+use mathlib.Core.List.{map, List·Memᴰ, List·Memᴰ·append-cases, Memᴰ·of-map}
 use mathlib.Core.Logic.{_⊎_, inl, inr}
 use Rattle.hermes.specs.Rows as events
 use Rattle.packet_format.specs.Rows as packets

@@ -22,7 +22,7 @@ use Rattle.hermes_record.specs.Members.{has, with, without}
 use Rattle.hermes_record.specs.Order.{later}
 use Rattle.hermes.specs.Guards.{AllYes}
 use Rattle.hermes.specs.Event.{invStep, deliverStep, resent, step, own, sentBy, recipients}
-use Rattle.hermes.specs.Node.{Node, Outcome, recordOf, apply}
+use Rattle.hermes.specs.Node.{Outcome, recordOf, apply}
 use Rattle.hermes.specs.Recipients.{Exactly, Other, ForItsSender, GoesTo, leaves, WhoGets, OthersOnly}
 use Rattle.hermes_record.proofs.Tests.{both, and-both}
 use Rattle.hermes.proofs.Members.{Has, has-small, has-zero, has-without, with-members, members-with}

@@ -1,0 +1,112 @@
+-- Every call on every laptop has its answer.
+use Prim.Native.Nat.{ℕ, zero, suc, _*_, _<_}
+use mathlib.Core.Path.{_≡_, refl, sym, ap, _∙_}
+use mathlib.Core.List.{List, [], _∷_}
+use native.Mathlib.Omega.{arith}
+use native.Mathlib.Decide.{decLt}
+use lib.ListN.{length, take, drop}
+use borrow.Author.Tests.{lt-ltb, le-ltb}
+use Rattle.hermes.specs.declared.message.Outgoing.the-variants.{None}
+use Rattle.hermes.specs.declared.event.Answer.{Answer}
+use Rattle.hermes.specs.declared.event.Answer.the-variants.{Accepted, Refused}
+use Rattle.hermes.specs.declared.event.Admission.{Admission}
+use Rattle.hermes.specs.declared.event.Admission.the-variants as admission
+use Rattle.hermes.specs.declared.event.Event.{Event}
+use Rattle.hermes.specs.declared.event.Event.the-variants.{Read, Write, Replay, Deliver, Validate, Resend}
+use Rattle.hermes.specs.declared.event.Moved.{Moved}
+use Rattle.hermes_record.specs.Order.{higher}
+use Rattle.hermes.specs.Store.{valueAt}
+use Rattle.hermes.specs.Event as event
+use Rattle.hermes.specs.Event.{answerOf, refusal, step, effect, partOf, readPart}
+use Rattle.hermes.specs.Node as hermes
+use Rattle.hermes.specs.Node.{recordAt, recordOf, effectOf, apply, viewed, identity, admissionNumber}
+use Rattle.packet_format.specs.declared.answer.Fetched.{Fetched}
+use Rattle.packet_format.specs.declared.answer.Fetched.the-variants as fetch
+use Rattle.packet_format.specs.Reading.{fetched, bodyOf}
+use Rattle.packet_event.specs.Arrival.{receivedOf, receiptOf, receipt}
+use Rattle.export_records.specs.Layout.{countOf, tableOf}
+use Rattle.export_storing.specs.Storing.{bytesAfter, tableAfter}
+use Rattle.export_storing.proofs.Table.{settled-table, settled-nowhere, settled-step}
+use Rattle.export_numbers.specs.Crossing.{replicaOf, identityOf, answerOut, admissionOut, receivedIn}
+use Rattle.export_arrival.specs.Arrival.{bytesArrived}
+use Rattle.check_air.specs.Calls.{Laptop, node, read, write, replay, deliver, deliverPacket, validate, resend, view, Moves, Returns}
+use Rattle.check_air.specs.Answered.{numberOf, moved, leftBy, EveryCallAnswers}
+use Rattle.check_air.proofs.Calls.{number-out}
+
+-- the bytes after an event hold the table after it
+after-bytes : (m : Moved) (a : Answer) (bytes : List ℕ) (i : ℕ) → m .answer ≡ a → tableOf (bytesAfter m bytes i) ≡ tableAfter m (tableOf bytes) i
+after-bytes m (Accepted o) bytes i e = go (decLt i (countOf (length bytes)))
+  where
+    go : Dec (i < countOf (length bytes)) → tableOf (bytesAfter m bytes i) ≡ tableAfter m (tableOf bytes) i
+    go (yes l) = rw (e, lt-ltb i (countOf (length bytes)) l) (rw e at (settled-table m o bytes i e l))
+    go (no n) = rw (e, le-ltb i (countOf (length bytes)) (omega arith)) (rw e at (settled-nowhere m o bytes i e (omega arith)))
+after-bytes m (Refused k) bytes i e = rw e
+
+after-table : (l : Laptop) (i : ℕ) (e : Event) (v : List ℕ) → tableOf (moved l i e v .table) ≡ apply higher (node l) i e v .node .table
+unfolding apply effect
+after-table l i e v =
+    let table = tableOf (l .table) in
+    let m = effectOf higher (node l) i e v .moved in
+    after-bytes m (m .answer) (l .table) i refl
+    ∙ settled-step (refusal (replicaOf (l .me)) (length table) (length (l .store)) i (recordAt table i) e (length v)) table i (step higher (replicaOf (l .me)) i (recordAt table i) e v)
+
+moves : (l : Laptop) (i : ℕ) (e : Event) (v : List ℕ) → Moves l i e v (event.numberOf (apply higher (node l) i e v .answer)) (moved l i e v)
+moves l i e v =
+    let a = apply higher (node l) i e v .answer in
+    (answerOut a, record { answer = refl; bytes = refl; table = after-table l i e v; store = refl }, number-out a, refl)
+
+-- a delivery from a packet
+arrives : (l : Laptop) (p : List ℕ) (i : ℕ) → Returns (deliverPacket p i) l (numberOf (deliverPacket p i) l) (leftBy (deliverPacket p i) l)
+unfolding receipt
+arrives l p i = (answerOut a, record { answer = refl; bytes = refl; table = go (fetched p i); store = refl }, number-out a, refl)
+  where
+    a : Answer
+    a = receiptOf higher (node l) p (fetched p i) .answer
+
+    go : (f : Fetched) → tableOf (bytesArrived (node l) (l .table) p f) ≡ receiptOf higher (node l) p f .node .table
+    go (fetch.Found e at) = after-table l (e .header .index) (Deliver (receivedOf e)) (bodyOf p (fetch.Found e at))
+    go (fetch.Refused k) = refl
+
+-- a part as long as it is
+own-length : (n : ℕ) (xs : List ℕ) → take (length (take n xs)) xs ≡ take n xs
+own-length zero xs = refl
+own-length (suc n) [] = refl
+own-length (suc n) (x ∷ xs) = ap (λ (l : List ℕ). x ∷ l) (own-length n xs)
+
+reads : (l : Laptop) (i : ℕ) → Returns (read i) l (numberOf (read i) l) l
+unfolding readPart
+reads l i = (record { number = numberOf (read i) l; len = length (hermes.read (node l) i) }, record { number = refl; part = record { len = refl; part = go (refusal (node l .me) (length (node l .table)) (length (l .store)) i (recordOf i (node l)) Read 0) } }, refl, refl)
+  where
+    go : (k : ℕ) → take (length (partOf k (valueAt i (recordOf i (node l) .len) (l .store)))) (drop (192 * i) (l .store)) ≡ partOf k (valueAt i (recordOf i (node l) .len) (l .store))
+    go zero = own-length (recordOf i (node l) .len) (drop (192 * i) (l .store))
+    go (suc k) = refl
+
+-- a change of view
+views : (l : Laptop) (epoch set : ℕ) → Returns (view epoch set) l (numberOf (view epoch set) l) (leftBy (view epoch set) l)
+unfolding viewed
+views l epoch set = (admissionOut a (l .me), refl, said a, left a)
+  where
+    a : Admission
+    a = hermes.view (replicaOf (l .me)) epoch set
+
+    zeros : (k : ℕ) → event.numberOf (answerOf k None) ≡ k
+    zeros zero = refl
+    zeros (suc k) = refl
+
+    said : (a : Admission) → admissionOut a (l .me) .number ≡ event.numberOf (answerOf (admissionNumber a) None)
+    said (admission.Admitted x) = refl
+    said (admission.Refused k) = sym (zeros k)
+
+    left : (a : Admission) → _≡_ {A = Laptop} (record { me = identityOf (identity a (replicaOf (l .me))); table = l .table; store = l .store }) (record { me = admissionOut a (l .me) .replica; table = l .table; store = l .store })
+    left (admission.Admitted x) = refl
+    left (admission.Refused k) = refl
+
+pub every-call-answers : EveryCallAnswers
+every-call-answers (read i) l = reads l i
+every-call-answers (write i v) l = moves l i Write v
+every-call-answers (replay i) l = moves l i Replay []
+every-call-answers (deliver i m v) l = moves l i (Deliver (receivedIn m)) v
+every-call-answers (deliverPacket p i) l = arrives l p i
+every-call-answers (validate i) l = moves l i Validate []
+every-call-answers (resend i) l = moves l i Resend []
+every-call-answers (view epoch set) l = views l epoch set
