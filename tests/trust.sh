@@ -12,8 +12,13 @@ cat >"$dir/roots" <<END
 1|what every function answers and leaves behind|$exported|
 1|what an event may change, and what it looks at|hermes.Locality.Demand1|crates/hermes/proofs/Locality.antt:confinement
 2|each event is the source's action|hermes.Conformance.Demand2|crates/hermes/proofs/Conformance.antt:conformance
+2|who gets what leaves|hermes.Recipients.WhoGets|crates/hermes/proofs/Recipients.antt:who-gets
 2|packets|packet_format.RoundTrip.WrittenReadsBack packet_format.RoundTrip.AcceptedIsWritten|crates/packet_format/proofs/RoundTrip.antt:written-reads-back crates/packet_format/proofs/RoundTrip.antt:accepted-is-written
+2|packets, over the words that a caller passes|packet_words.ReadBack.WordsReadBack packet_words.ReadBack.AcceptedIsPacked|crates/packet_words/proofs/ReadBack.antt:words-read-back crates/packet_words/proofs/ReadBack.antt:accepted-is-packed
+2|packets, as C calls the functions|export_packets.RoundTrip.PackedIsFetched export_packets.RoundTrip.FetchedIsPacked|crates/export_packets/proofs/RoundTrip.antt:packed-is-fetched crates/export_packets/proofs/RoundTrip.antt:fetched-is-packed
 3|agreement|hermes.Agreement.Demand3|crates/hermes/proofs/Agreement.antt:agreement
+3|the same, stated a second time from the papers alone|hermes.SecondReading.SecondDemand3|crates/hermes/proofs/SecondReading.antt:second-demand3
+3|from one call to another, and lists of calls|check_air.Air.ThroughTheAir check_air.Calls.CalledDemand3|crates/check_air/proofs/Air.antt:through-the-air crates/check_air/proofs/Calls.antt:called-demand3
 END
 
 grep -nE '^(pub )?(struct|enum) ' crates/*/src/*.rt >"$dir/types"
