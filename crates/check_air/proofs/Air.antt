@@ -38,7 +38,7 @@ use Rattle.export_calls.specs.Calls.{nodeOf, Done}
 use Rattle.export_outgoing.specs.Leaving.{Along, along, gone, Delivered}
 use Rattle.export_outgoing.proofs.Sent.{body-after}
 use Rattle.export_arrival.specs.Arrival.{Arrived}
-use Rattle.check_air.specs.Air.{Sending, sevenOf, wordsOf, bodiesOf, Called, Packed, ThroughTheAir}
+use Rattle.check_air.specs.Air.{Sending, sevenOf, wordsSent, bodiesSent, Called, Packed, ThroughTheAir}
 
 -- ---- what leaves an event has the laptop's header and crosses as its answer
 
@@ -147,24 +147,24 @@ module _ (x : Logged) (s : Sending) (c : Called x s) where
 -- ---- the packet
 
 -- the seven words of message k stand at 7 * k, its bytes behind those of the messages before it
-length-wordsOf : (ss : List Sending) → length (wordsOf ss) ≡ 7 * length ss
-length-wordsOf [] = refl
-length-wordsOf (s ∷ ss) = omega (arith, length-wordsOf ss)
+length-words : (ss : List Sending) → length (wordsSent ss) ≡ 7 * length ss
+length-words [] = refl
+length-words (s ∷ ss) = omega (arith, length-words ss)
 
-wordsOf-append : (before after : List Sending) → wordsOf (before ++ after) ≡ wordsOf before ++ wordsOf after
-wordsOf-append [] after = refl
-wordsOf-append (s ∷ before) after = ap (λ (l : List ℕ). sevenOf s ++ l) (wordsOf-append before after)
+words-append : (before after : List Sending) → wordsSent (before ++ after) ≡ wordsSent before ++ wordsSent after
+words-append [] after = refl
+words-append (s ∷ before) after = ap (λ (l : List ℕ). sevenOf s ++ l) (words-append before after)
 
-word-at : (before after : List Sending) (s : Sending) (j : ℕ) → getD (wordsOf (before ++ s ∷ after)) (7 * length before + j) 0 ≡ getD (sevenOf s ++ wordsOf after) j 0
+word-at : (before after : List Sending) (s : Sending) (j : ℕ) → getD (wordsSent (before ++ s ∷ after)) (7 * length before + j) 0 ≡ getD (sevenOf s ++ wordsSent after) j 0
 word-at before after s j =
-    rw (wordsOf-append before (s ∷ after), ← length-wordsOf before) (getD-append-add (wordsOf before) (sevenOf s ++ wordsOf after) j 0)
+    rw (words-append before (s ∷ after), ← length-words before) (getD-append-add (wordsSent before) (sevenOf s ++ wordsSent after) j 0)
 
-bodiesOf-append : (before after : List Sending) → bodiesOf (before ++ after) ≡ bodiesOf before ++ bodiesOf after
-bodiesOf-append [] after = refl
-bodiesOf-append (s ∷ before) after = ap (λ (l : List ℕ). s .body ++ l) (bodiesOf-append before after) ∙ sym (append-assoc (s .body) (bodiesOf before) (bodiesOf after))
+bodies-append : (before after : List Sending) → bodiesSent (before ++ after) ≡ bodiesSent before ++ bodiesSent after
+bodies-append [] after = refl
+bodies-append (s ∷ before) after = ap (λ (l : List ℕ). s .body ++ l) (bodies-append before after) ∙ sym (append-assoc (s .body) (bodiesSent before) (bodiesSent after))
 
-body-at : (before after : List Sending) (s : Sending) → take (length (s .body)) (drop (length (bodiesOf before)) (bodiesOf (before ++ s ∷ after))) ≡ s .body
-body-at before after s = rw (bodiesOf-append before (s ∷ after), drop-append-seam (bodiesOf before) (bodiesOf (s ∷ after))) (take-append-seam (s .body) (bodiesOf after))
+body-at : (before after : List Sending) (s : Sending) → take (length (s .body)) (drop (length (bodiesSent before)) (bodiesSent (before ++ s ∷ after))) ≡ s .body
+body-at before after s = rw (bodies-append before (s ∷ after), drop-append-seam (bodiesSent before) (bodiesSent (s ∷ after))) (take-append-seam (s .body) (bodiesSent after))
 
 -- one message more in front
 body-behind : (s : Sending) (words : List ℕ) (k : ℕ) → bodyFrom (sevenOf s ++ words) (suc k) ≡ length (s .body) + bodyFrom words k
@@ -174,10 +174,10 @@ body-behind s words (suc k) =
     let next : word (sevenOf s ++ words) (suc k) 6 ≡ word words k 6 = ap (λ (j : ℕ). getD (sevenOf s ++ words) j 0) place ∙ getD-append-add (sevenOf s) words (7 * k + 6) 0 in
     omega (arith, body-behind s words k)
 
-body-place : (before after : List Sending) → bodyFrom (wordsOf (before ++ after)) (length before) ≡ length (bodiesOf before)
+body-place : (before after : List Sending) → bodyFrom (wordsSent (before ++ after)) (length before) ≡ length (bodiesSent before)
 body-place [] after = refl
 body-place (s ∷ before) after =
-    body-behind s (wordsOf (before ++ after)) (length before) ∙ ap (λ (j : ℕ). length (s .body) + j) (body-place before after) ∙ sym (length-append (s .body) (bodiesOf before))
+    body-behind s (wordsSent (before ++ after)) (length before) ∙ ap (λ (j : ℕ). length (s .body) + j) (body-place before after) ∙ sym (length-append (s .body) (bodiesSent before))
 
 -- ---- the three calls
 
@@ -187,7 +187,7 @@ entryLeft x = record { header = x .header; message = x .message; len = length (x
 
 module _ (before after : List Sending) (s : Sending) (x : Logged) (c : Called x s) where
   abbrev words : List ℕ
-  words = wordsOf (before ++ s ∷ after)
+  words = wordsSent (before ++ s ∷ after)
 
   -- its words stand for the message that left
   said : saidBy words (length before) ≡ entryLeft x
@@ -205,7 +205,7 @@ module _ (before after : List Sending) (s : Sending) (x : Logged) (c : Called x 
       let len : saidBy words (length before) .len ≡ length (x .body) = w 6 ∙ ap length (bytes-left x s c) in
       λ i. record { header = header i; message = message i; len = len i }
 
-  body-said : take (word words (length before) 6) (drop (bodyFrom words (length before)) (bodiesOf (before ++ s ∷ after))) ≡ x .body
+  body-said : take (word words (length before) 6) (drop (bodyFrom words (length before)) (bodiesSent (before ++ s ∷ after))) ≡ x .body
   body-said = rw (word-at before after s 6, body-place before (s ∷ after)) (body-at before after s) ∙ bytes-left x s c
 
 -- what a fetch found is delivered with its bytes
@@ -215,17 +215,17 @@ delivers n table p e at v a table′ store′ brings h =
     rw (sym brings) (record { answer = h .answer; bytes = h .bytes; table = h .table; store = h .store })
 
 -- a packet reads back as what was sent
-reads : (ss : List Sending) (packet : List ℕ) → Packed ss packet → ReadsAs packet (wordsOf ss) (bodiesOf ss)
-reads ss packet p = rw (p .front) (packed-reads (wordsOf ss) (bodiesOf ss) (p .out) (p .words) (p .accepted))
+reads : (ss : List Sending) (packet : List ℕ) → Packed ss packet → ReadsAs packet (wordsSent ss) (bodiesSent ss)
+reads ss packet p = rw (p .front) (packed-reads (wordsSent ss) (bodiesSent ss) (p .out) (p .words) (p .accepted))
 
 module _ (before after : List Sending) (s : Sending) (x : Logged) (packet : List ℕ) (c : Called x s) (p : Packed (before ++ s ∷ after) packet) where
   -- what the packet's reader finds
   pub found-left : (at : ℕ) × (fetched packet (length before) ≡ Found (entryLeft x) at) × (bodyOf packet (Found (entryLeft x) at) ≡ x .body)
   found-left =
       let ss = before ++ s ∷ after in
-      let r : ReadsAs packet (wordsOf ss) (bodiesOf ss) = reads ss packet p in
-      let k : length before < manyIn (wordsOf ss) = omega (arith, length-wordsOf ss, length-append before (s ∷ after)) in
-      let at = entryPlace (manyIn (wordsOf ss)) + bodyFrom (wordsOf ss) (length before) in
+      let r : ReadsAs packet (wordsSent ss) (bodiesSent ss) = reads ss packet p in
+      let k : length before < manyIn (wordsSent ss) = omega (arith, length-words ss, length-append before (s ∷ after)) in
+      let at = entryPlace (manyIn (wordsSent ss)) + bodyFrom (wordsSent ss) (length before) in
       let found : fetched packet (length before) ≡ Found (entryLeft x) at = r .message (length before) k ∙ ap (λ (e : Entry). Found e at) (said before after s x c) in
       (at, found, sym (ap (bodyOf packet) found) ∙ r .body (length before) k ∙ body-said before after s x c)
 

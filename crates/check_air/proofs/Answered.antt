@@ -29,9 +29,9 @@ use Rattle.export_storing.specs.Storing.{bytesAfter, tableAfter}
 use Rattle.export_storing.proofs.Table.{settled-table, settled-nowhere, settled-step}
 use Rattle.export_numbers.specs.Crossing.{replicaOf, identityOf, answerOut, admissionOut, receivedIn}
 use Rattle.export_arrival.specs.Arrival.{bytesArrived}
-use Rattle.check_air.specs.Calls.{Laptop, node, read, write, replay, deliver, deliverPacket, validate, resend, view, Moves, Returns}
-use Rattle.check_air.specs.Answered.{numberOf, moved, leftBy, EveryCallAnswers}
-use Rattle.check_air.proofs.Calls.{number-out}
+use Rattle.check_air.specs.Callers.{Laptop, node, read, write, replay, deliver, deliverPacket, validate, resend, view, Moves, Returns}
+use Rattle.check_air.specs.Answered.{callNumber, afterEvent, afterCall, EveryCallAnswers}
+use Rattle.check_air.proofs.Callers.{number-out}
 
 -- the bytes after an event hold the table after it
 after-bytes : (m : Moved) (a : Answer) (bytes : List ℕ) (i : ℕ) → m .answer ≡ a → tableOf (bytesAfter m bytes i) ≡ tableAfter m (tableOf bytes) i
@@ -42,7 +42,7 @@ after-bytes m (Accepted o) bytes i e = go (decLt i (countOf (length bytes)))
     go (no n) = rw (e, le-ltb i (countOf (length bytes)) (omega arith)) (rw e at (settled-nowhere m o bytes i e (omega arith)))
 after-bytes m (Refused k) bytes i e = rw e
 
-after-table : (l : Laptop) (i : ℕ) (e : Event) (v : List ℕ) → tableOf (moved l i e v .table) ≡ apply higher (node l) i e v .node .table
+pub after-table : (l : Laptop) (i : ℕ) (e : Event) (v : List ℕ) → tableOf (afterEvent l i e v .table) ≡ apply higher (node l) i e v .node .table
 unfolding apply effect
 after-table l i e v =
     let table = tableOf (l .table) in
@@ -50,13 +50,13 @@ after-table l i e v =
     after-bytes m (m .answer) (l .table) i refl
     ∙ settled-step (refusal (replicaOf (l .me)) (length table) (length (l .store)) i (recordAt table i) e (length v)) table i (step higher (replicaOf (l .me)) i (recordAt table i) e v)
 
-moves : (l : Laptop) (i : ℕ) (e : Event) (v : List ℕ) → Moves l i e v (event.numberOf (apply higher (node l) i e v .answer)) (moved l i e v)
+moves : (l : Laptop) (i : ℕ) (e : Event) (v : List ℕ) → Moves l i e v (event.numberOf (apply higher (node l) i e v .answer)) (afterEvent l i e v)
 moves l i e v =
     let a = apply higher (node l) i e v .answer in
     (answerOut a, record { answer = refl; bytes = refl; table = after-table l i e v; store = refl }, number-out a, refl)
 
 -- a delivery from a packet
-arrives : (l : Laptop) (p : List ℕ) (i : ℕ) → Returns (deliverPacket p i) l (numberOf (deliverPacket p i) l) (leftBy (deliverPacket p i) l)
+arrives : (l : Laptop) (p : List ℕ) (i : ℕ) → Returns (deliverPacket p i) l (callNumber (deliverPacket p i) l) (afterCall (deliverPacket p i) l)
 unfolding receipt
 arrives l p i = (answerOut a, record { answer = refl; bytes = refl; table = go (fetched p i); store = refl }, number-out a, refl)
   where
@@ -73,16 +73,16 @@ own-length zero xs = refl
 own-length (suc n) [] = refl
 own-length (suc n) (x ∷ xs) = ap (λ (l : List ℕ). x ∷ l) (own-length n xs)
 
-reads : (l : Laptop) (i : ℕ) → Returns (read i) l (numberOf (read i) l) l
+reads : (l : Laptop) (i : ℕ) → Returns (read i) l (callNumber (read i) l) l
 unfolding readPart
-reads l i = (record { number = numberOf (read i) l; len = length (hermes.read (node l) i) }, record { number = refl; part = record { len = refl; part = go (refusal (node l .me) (length (node l .table)) (length (l .store)) i (recordOf i (node l)) Read 0) } }, refl, refl)
+reads l i = (record { number = callNumber (read i) l; len = length (hermes.read (node l) i) }, record { number = refl; part = record { len = refl; part = go (refusal (node l .me) (length (node l .table)) (length (l .store)) i (recordOf i (node l)) Read 0) } }, refl, refl)
   where
     go : (k : ℕ) → take (length (partOf k (valueAt i (recordOf i (node l) .len) (l .store)))) (drop (192 * i) (l .store)) ≡ partOf k (valueAt i (recordOf i (node l) .len) (l .store))
     go zero = own-length (recordOf i (node l) .len) (drop (192 * i) (l .store))
     go (suc k) = refl
 
 -- a change of view
-views : (l : Laptop) (epoch set : ℕ) → Returns (view epoch set) l (numberOf (view epoch set) l) (leftBy (view epoch set) l)
+views : (l : Laptop) (epoch set : ℕ) → Returns (view epoch set) l (callNumber (view epoch set) l) (afterCall (view epoch set) l)
 unfolding viewed
 views l epoch set = (admissionOut a (l .me), refl, said a, left a)
   where

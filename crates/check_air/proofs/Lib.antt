@@ -1,5 +1,5 @@
 -- What is proved of the statements in specs/.
 pub mod Air
-pub mod Calls
+pub mod Callers
 pub mod Answered
 pub mod Morning

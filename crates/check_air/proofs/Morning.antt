@@ -2,14 +2,14 @@
 use Prim.Native.Nat.{ℕ, zero, suc, _^_}
 use mathlib.Core.Path.{_≡_, refl}
 use mathlib.Core.Bool.{Bool, true, _&&_}
-use mathlib.Core.List.{List, [], _∷_, List·Memᴰ·head, List·Memᴰ·tail}
+use mathlib.Core.List.{List, [], _∷_, List·Memᴰ, List·Memᴰ·head, List·Memᴰ·tail}
 use mathlib.Core.Logic.{inl, inr}
 use native.Mathlib.Omega.{arith}
 use lib.Dec.{ltb}
 use lib.ListN.{replicate}
 use borrow.Author.Tests.{ltb-true}
 use Rattle.hermes_record.specs.Members.{has, size, lowest, within, othersIn, with}
-use Rattle.hermes_record.specs.Order.{later, sameTimestamp}
+use Rattle.hermes_record.specs.Order.{higher, later, sameTimestamp}
 use Rattle.hermes_record.proofs.Tests as tests
 use Rattle.hermes.specs.Store.{padded, place}
 use Rattle.hermes.specs.Event.{refusal, effect}
@@ -23,18 +23,20 @@ use Rattle.packet_event.specs.Arrival.{receipt}
 use Rattle.export_decoding.specs.Decoding.{decode}
 use Rattle.export_records.specs.Layout.{tableOf}
 use Rattle.hermes.specs.declared.message.Message.the-variants.{Inv, Ack, Val}
-use Rattle.hermes.specs.declared.event.Event.the-variants.{Write, Deliver}
+use Rattle.hermes.specs.declared.event.Event.{Event}
+use Rattle.hermes.specs.declared.event.Event.the-variants.{Write, Deliver, Validate}
 use Rattle.hermes.specs.Node.{newcomer}
 use Rattle.hermes.specs.Run.{Logged, received}
 use Rattle.export_numbers.specs.declared.numbers.CetskobiAdmission.{CetskobiAdmission}
-use Rattle.export_numbers.specs.Crossing.{identityOf}
+use Rattle.export_numbers.specs.Crossing.{identityOf, answerOut}
+use Rattle.export_outgoing.specs.Leaving.{along, alongOf}
 use Rattle.export_packets.specs.Calls.{packAnswer}
-use Rattle.check_air.specs.Air.{Sending, wordsOf, bodiesOf, Called, Packed}
-use Rattle.check_air.specs.Calls.{Begun, AllBegun, Hut, Fair, Follows, Honest, next}
-use Rattle.check_air.specs.Morning.{two, both, lentTable, lentStore, fresh, hut, inv, ack, packetOf, Turn, step, turns, stepsOf, morning, Morning}
-use Rattle.check_air.specs.Answered.{moved}
-use Rattle.check_air.proofs.Calls.{called-demand3}
-use Rattle.check_air.proofs.Answered.{every-call-answers}
+use Rattle.check_air.specs.Air.{Sending, wordsSent, bodiesSent, Leaves, Called, Packed}
+use Rattle.check_air.specs.Callers.{Laptop, node, Broken, AsNumbers, Begun, AllBegun, Hut, Fair, Follows, FromAir, next}
+use Rattle.check_air.specs.Morning.{val, valNumbers, two, both, lentTable, lentStore, fresh, hut, inv, ack, packetOf, Plan, turn, plans, turnsOf, morning, Morning}
+use Rattle.check_air.specs.Answered.{afterEvent}
+use Rattle.check_air.proofs.Callers.{called-demand3}
+use Rattle.check_air.proofs.Answered.{after-table, every-call-answers}
 
 -- words of 32 bits
 narrow : List ℕ → Bool
@@ -66,38 +68,48 @@ ackLogged = record { header = record { sender = 1; epoch = 0; index = 0 }; messa
 abbrev valLogged : Logged
 valLogged = record { header = record { sender = 0; epoch = 0; index = 0 }; message = Val (record { version = 1; tie = 0 }); body = [] }
 
--- the calls that they left
+-- the calls that they left: each on a laptop, with an event and a value
+record Leaving (x : Logged) (s : Sending) (l : Laptop) (e : Event) (v : List ℕ) : Type 0 where
+  who : l .me ≡ s .from
+  answer : s .left ≡ answerOut (apply higher (node l) (s .index) e v .answer)
+  bytes : alongOf (afterEvent l (s .index) e v .table) (afterEvent l (s .index) e v .store) (s .index) (s .left) ≡ along (s .body)
+  leaves : Leaves (node l) (s .index) e v x
+
+call : (x : Logged) (s : Sending) (l : Laptop) (e : Event) (v : List ℕ) → Leaving x s l e v → Called x s
+call x s l e v h = record {
+  table = l .table;
+  store = l .store;
+  event = e;
+  value = v;
+  table′ = afterEvent l (s .index) e v .table;
+  store′ = afterEvent l (s .index) e v .store;
+  called = rw (← h .who) (record { answer = h .answer; bytes = refl; table = after-table l (s .index) e v; store = refl });
+  bytes = h .bytes;
+  leaves = rw (← h .who) (h .leaves);
+}
+
+-- laptop 0 after its write, and then after the ACK
+abbrev written : Laptop
+written = afterEvent (fresh 0) 0 Write (65 ∷ 49 ∷ [])
+
+abbrev acknowledged : Laptop
+acknowledged = afterEvent written 0 (Deliver (received ackLogged)) []
+
 called-inv : Called invLogged inv
 unfolding has size lowest within othersIn with later sameTimestamp padded place refusal effect start apply view viewed good entryBytes walk fetchRefusal fetched summed contents packetBytes allGood writeRefusal packetWritten outputOf entryIn wordMessages receipt decode tableOf
-called-inv = record {
-  table = fresh 0 .table;
-  store = fresh 0 .store;
-  event = Write;
-  value = 65 ∷ 49 ∷ [];
-  table′ = moved (fresh 0) 0 Write (65 ∷ 49 ∷ []) .table;
-  store′ = moved (fresh 0) 0 Write (65 ∷ 49 ∷ []) .store;
-  called = record { answer = refl; bytes = refl; table = refl; store = refl };
-  bytes = refl;
-  leaves = refl;
-}
+called-inv = call invLogged inv (fresh 0) Write (65 ∷ 49 ∷ []) (record { who = refl; answer = refl; bytes = refl; leaves = refl })
 
 called-ack : Called ackLogged ack
 unfolding has size lowest within othersIn with later sameTimestamp padded place refusal effect start apply view viewed good entryBytes walk fetchRefusal fetched summed contents packetBytes allGood writeRefusal packetWritten outputOf entryIn wordMessages receipt decode tableOf
-called-ack = record {
-  table = fresh 1 .table;
-  store = fresh 1 .store;
-  event = Deliver (received invLogged);
-  value = 65 ∷ 49 ∷ [];
-  table′ = moved (fresh 1) 0 (Deliver (received invLogged)) (65 ∷ 49 ∷ []) .table;
-  store′ = moved (fresh 1) 0 (Deliver (received invLogged)) (65 ∷ 49 ∷ []) .store;
-  called = record { answer = refl; bytes = refl; table = refl; store = refl };
-  bytes = refl;
-  leaves = refl;
-}
+called-ack = call ackLogged ack (fresh 1) (Deliver (received invLogged)) (65 ∷ 49 ∷ []) (record { who = refl; answer = refl; bytes = refl; leaves = refl })
+
+called-val : Called valLogged val
+unfolding has size lowest within othersIn with later sameTimestamp padded place refusal effect start apply view viewed good entryBytes walk fetchRefusal fetched summed contents packetBytes allGood writeRefusal packetWritten outputOf entryIn wordMessages receipt decode tableOf
+called-val = call valLogged val acknowledged Validate [] (record { who = refl; answer = refl; bytes = refl; leaves = refl })
 
 -- packed together
-packs : (ss : List Sending) → narrow (wordsOf ss) ≡ true → packAnswer (wordsOf ss) (bodiesOf ss) (replicate 60 0) .number ≡ 0 → Packed ss (packetOf ss)
-packs ss h e = record { words = wide (wordsOf ss) h; out = replicate 60 0; accepted = e; front = refl }
+packs : (ss : List Sending) → narrow (wordsSent ss) ≡ true → packAnswer (wordsSent ss) (bodiesSent ss) (replicate 60 0) .number ≡ 0 → Packed ss (packetOf ss)
+packs ss h e = record { words = wide (wordsSent ss) h; out = replicate 60 0; accepted = e; front = refl }
 
 inv-packed : Packed (inv ∷ []) (packetOf (inv ∷ []))
 unfolding narrow has size lowest within othersIn with later sameTimestamp padded place refusal effect start apply view viewed good entryBytes walk fetchRefusal fetched summed contents packetBytes allGood writeRefusal packetWritten outputOf entryIn wordMessages receipt decode tableOf
@@ -107,69 +119,55 @@ ack-packed : Packed (inv ∷ ack ∷ []) (packetOf (inv ∷ ack ∷ []))
 unfolding narrow has size lowest within othersIn with later sameTimestamp padded place refusal effect start apply view viewed good entryBytes walk fetchRefusal fetched summed contents packetBytes allGood writeRefusal packetWritten outputOf entryIn wordMessages receipt decode tableOf
 ack-packed = packs (inv ∷ ack ∷ []) refl refl
 
--- what a delivery from a packet rests on
-inv-honest : Honest (invLogged ∷ []) (packetOf (inv ∷ [])) 0
-inv-honest = record { message = invLogged; earlier = List·Memᴰ·head refl; sending = inv; called = called-inv; before = []; after = []; packed = inv-packed; place = refl }
+val-packed : Packed (val ∷ []) (packetOf (val ∷ []))
+unfolding narrow has size lowest within othersIn with later sameTimestamp padded place refusal effect start apply view viewed good entryBytes walk fetchRefusal fetched summed contents packetBytes allGood writeRefusal packetWritten outputOf entryIn wordMessages receipt decode tableOf
+val-packed = packs (val ∷ []) refl refl
 
-ack-honest : Honest (invLogged ∷ ackLogged ∷ []) (packetOf (inv ∷ ack ∷ [])) 1
-ack-honest = record { message = ackLogged; earlier = List·Memᴰ·tail (List·Memᴰ·head refl); sending = ack; called = called-ack; before = inv ∷ []; after = []; packed = ack-packed; place = refl }
+-- what a delivery rests on: the three messages in their packets, the VAL as numbers, a broken packet
+inv-came : FromAir (invLogged ∷ []) (packetOf (inv ∷ [])) 0
+inv-came = record { message = invLogged; earlier = List·Memᴰ·head refl; sending = inv; called = called-inv; before = []; after = []; packed = inv-packed; place = refl }
 
--- each call is answered as its function's contract has it, so that it is enough that the turns are fair
-abbrev AllFair : Hut → List Turn → Type 0
+ack-came : FromAir (invLogged ∷ ackLogged ∷ []) (packetOf (inv ∷ ack ∷ [])) 1
+ack-came = record {
+  message = ackLogged;
+  earlier = List·Memᴰ·tail (List·Memᴰ·head refl);
+  sending = ack;
+  called = called-ack;
+  before = inv ∷ [];
+  after = [];
+  packed = ack-packed;
+  place = refl;
+}
+
+abbrev log : List Logged
+log = invLogged ∷ ackLogged ∷ valLogged ∷ valLogged ∷ []
+
+val-earlier : List·Memᴰ valLogged log
+val-earlier = List·Memᴰ·tail (List·Memᴰ·tail (List·Memᴰ·head refl))
+
+val-came : FromAir log (packetOf (val ∷ [])) 0
+val-came = record { message = valLogged; earlier = val-earlier; sending = val; called = called-val; before = []; after = []; packed = val-packed; place = refl }
+
+val-numbers : AsNumbers log 0 valNumbers []
+val-numbers = record { message = valLogged; earlier = val-earlier; index = refl; same = refl; bytes = refl }
+
+broken : Broken (1 ∷ 1 ∷ 0 ∷ []) 0
+unfolding fetched fetchRefusal walk
+broken = record { number = 20; refused = refl }
+
+-- each call is answered as its function's contract has it, so that it is enough that each is fair
+abbrev AllFair : Hut → List Plan → Type 0
 AllFair h [] = Unit
-AllFair h (t ∷ rest) = (two (t .who) ≡ true) × Fair both (h .log) (t .call) × AllFair (next h (step h t)) rest
+AllFair h (t ∷ rest) = (two (t .who) ≡ true) × Fair both (h .log) (t .call) × AllFair (next h (turn h t)) rest
 
-follow : (h : Hut) (ts : List Turn) → AllFair h ts → Follows two both h (stepsOf h ts)
+follow : (h : Hut) (ts : List Plan) → AllFair h ts → Follows two both h (turnsOf h ts)
 follow h [] f = tt
-follow h (t ∷ rest) (m, fair, f) = (m, fair, every-call-answers (t .call) (h .at (t .who)), follow (next h (step h t)) rest f)
+follow h (t ∷ rest) (m, fair, f) = (m, fair, every-call-answers (t .call) (h .at (t .who)), follow (next h (turn h t)) rest f)
 
-fair : AllFair hut turns
+fair : AllFair hut plans
 unfolding has size lowest within othersIn with later sameTimestamp padded place refusal effect start apply view viewed good entryBytes walk fetchRefusal fetched summed contents packetBytes allGood writeRefusal packetWritten outputOf entryIn wordMessages receipt decode tableOf
-fair = (
-  refl,
-  tt,
-  (
-    refl,
-    tt,
-    (
-      refl,
-      tt,
-      (
-        refl,
-        inl inv-honest,
-        (
-          refl,
-          inr (record { number = 20; refused = refl }),
-          (
-            refl,
-            inl ack-honest,
-            (
-              refl,
-              tt,
-              (
-                refl,
-                tt,
-                (
-                  refl,
-                  tt,
-                  (
-                    refl,
-                    record { message = valLogged; earlier = List·Memᴰ·tail (List·Memᴰ·tail (List·Memᴰ·head refl)); index = refl; same = refl; bytes = refl },
-                    (
-                      refl,
-                      refl,
-                      (refl, tt, tt),
-                    ),
-                  ),
-                ),
-              ),
-            ),
-          ),
-        ),
-      ),
-    ),
-  ),
-)
+fair =
+    (refl, tt, (refl, tt, (refl, tt, (refl, inl inv-came, (refl, inr broken, (refl, inl ack-came, (refl, tt, (refl, tt, (refl, tt, (refl, inl val-came, (refl, val-numbers, (refl, refl, (refl, tt, tt)))))))))))))
 
 begun : AllBegun two 1 both hut
 begun = record { fresh = begins; silent = refl }
@@ -178,8 +176,8 @@ pub morning-holds : Morning
 unfolding has size lowest within othersIn with later sameTimestamp padded place refusal effect start apply view viewed good entryBytes walk fetchRefusal fetched summed contents packetBytes allGood writeRefusal packetWritten outputOf entryIn wordMessages receipt decode tableOf
 morning-holds = record {
   begun = begun;
-  follows = follow hut turns fair;
-  agrees = called-demand3 two 1 both hut begun morning (follow hut turns fair);
+  follows = follow hut plans fair;
+  agrees = called-demand3 two 1 both hut begun morning (follow hut plans fair);
   numbers = refl;
   sees = refl;
   seen = refl;

@@ -34,13 +34,13 @@ sevenOf s =
     s .left .kind ∷ s .from .number ∷ s .from .epoch ∷ s .index ∷ s .left .version ∷ s .left .tie ∷ length (s .body) ∷ []
 
 -- of several calls: words and bodies end to end
-abbrev pub wordsOf : List Sending → List ℕ
-wordsOf [] = []
-wordsOf (s ∷ ss) = sevenOf s ++ wordsOf ss
+abbrev pub wordsSent : List Sending → List ℕ
+wordsSent [] = []
+wordsSent (s ∷ ss) = sevenOf s ++ wordsSent ss
 
-abbrev pub bodiesOf : List Sending → List ℕ
-bodiesOf [] = []
-bodiesOf (s ∷ ss) = s .body ++ bodiesOf ss
+abbrev pub bodiesSent : List Sending → List ℕ
+bodiesSent [] = []
+bodiesSent (s ∷ ss) = s .body ++ bodiesSent ss
 
 -- ---- the three calls
 
@@ -63,10 +63,10 @@ pub record Called (x : Logged) (s : Sending) : Type 0 where
 -- the second: `cetskobi_pack` was called with an output, answered 0, and left the packet at its front
 pub record Packed (ss : List Sending) (packet : List ℕ) : Type 0 where
   -- every word is a uint32_t
-  pub words : Wide (wordsOf ss)
+  pub words : Wide (wordsSent ss)
   pub out : List ℕ
-  pub accepted : packAnswer (wordsOf ss) (bodiesOf ss) out .number ≡ 0
-  pub front : packet ≡ take (packAnswer (wordsOf ss) (bodiesOf ss) out .len) (packOutput (wordsOf ss) (bodiesOf ss) out)
+  pub accepted : packAnswer (wordsSent ss) (bodiesSent ss) out .number ≡ 0
+  pub front : packet ≡ take (packAnswer (wordsSent ss) (bodiesSent ss) out .len) (packOutput (wordsSent ss) (bodiesSent ss) out)
 
 -- The third: `cetskobi_deliver_packet`, of that message of the packet, is exactly the delivery of the message that left, with the bytes that it left with.
 abbrev pub ThroughTheAir : Type 0

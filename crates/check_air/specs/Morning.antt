@@ -1,4 +1,4 @@
--- A morning of two laptops with one record each, as their callers make it: calls of every kind, accepted and refused, that meet the premises of `CalledDemand3`.
+-- A morning of two laptops with one record each, as their callers make it: calls of every kind, some of them refused, that meet the premises of `CalledDemand3`.
 use Prim.Native.Nat.{ℕ}
 use mathlib.Core.Path.{_≡_}
 use mathlib.Core.Bool.{Bool}
@@ -12,9 +12,9 @@ use Rattle.export_numbers.specs.declared.numbers.CetskobiMessage.{CetskobiMessa
 use Rattle.export_numbers.specs.Crossing.{identityOf, answering}
 use Rattle.export_membership.specs.Admission.{filledBy}
 use Rattle.export_packets.specs.Calls.{packAnswer, packOutput}
-use Rattle.check_air.specs.Air.{Sending, wordsOf, bodiesOf}
-use Rattle.check_air.specs.Answered.{numberOf, leftBy}
-use Rattle.check_air.specs.Calls.{
+use Rattle.check_air.specs.Air.{Sending, wordsSent, bodiesSent}
+use Rattle.check_air.specs.Answered.{callNumber, afterCall}
+use Rattle.check_air.specs.Callers.{
   Laptop,
   Call,
   read,
@@ -26,7 +26,7 @@ use Rattle.check_air.specs.Calls.{
   resend,
   view,
   Hut,
-  Step,
+  Turn,
   next,
   Follows,
   AllBegun,
@@ -36,10 +36,11 @@ use Rattle.check_air.specs.Calls.{
 
 -- ---- the group
 
+-- the numbers of its laptops
 abbrev pub two : ℕ → Bool
 two k = ltb k 2
 
--- laptops 0 and 1, in every epoch
+-- both of them are in the view of every epoch
 abbrev pub both : ℕ → ℕ
 both epoch = 3
 
@@ -50,6 +51,7 @@ lentTable = replicate 16 9
 abbrev pub lentStore : List ℕ
 lentStore = replicate 192 7
 
+-- laptop k as `cetskobi_start` leaves it there
 abbrev pub fresh : ℕ → Laptop
 fresh k = record {
   me = identityOf (newcomer k 3);
@@ -62,27 +64,30 @@ hut = record { at = fresh; log = [] }
 
 -- ---- its calls
 
--- a call of laptop k
-pub record Turn : Type 0 where
+-- a call that laptop k is to make
+pub record Plan : Type 0 where
   pub who : ℕ
   pub call : Call
 
-abbrev pub by : ℕ → Call → Turn
+-- laptop k does that
+abbrev pub by : ℕ → Call → Plan
 by k c = record { who = k; call = c }
 
-abbrev pub step : Hut → Turn → Step
-step h t = record {
+-- the call made, with what it answers and leaves
+abbrev pub turn : Hut → Plan → Turn
+turn h t = record {
   who = t .who;
   call = t .call;
-  number = numberOf (t .call) (h .at (t .who));
-  left = leftBy (t .call) (h .at (t .who));
+  number = callNumber (t .call) (h .at (t .who));
+  left = afterCall (t .call) (h .at (t .who));
 }
 
-abbrev pub stepsOf : Hut → List Turn → List Step
-stepsOf h [] = []
-stepsOf h (t ∷ rest) = step h t ∷ stepsOf (next h (step h t)) rest
+abbrev pub turnsOf : Hut → List Plan → List Turn
+turnsOf h [] = []
+turnsOf h (t ∷ rest) = turn h t ∷ turnsOf (next h (turn h t)) rest
 
-abbrev pub numbersOf : List Step → List ℕ
+-- the numbers that the calls answer
+abbrev pub numbersOf : List Turn → List ℕ
 numbersOf [] = []
 numbersOf (s ∷ rest) = s .number ∷ numbersOf rest
 
@@ -100,7 +105,7 @@ val = record { from = identityOf (newcomer 0 3); index = 0; left = answering 0 3
 
 -- the packet that `cetskobi_pack` makes, in an output of 60 bytes
 abbrev pub packetOf : List Sending → List ℕ
-packetOf ss = take (packAnswer (wordsOf ss) (bodiesOf ss) (replicate 60 0) .len) (packOutput (wordsOf ss) (bodiesOf ss) (replicate 60 0))
+packetOf ss = take (packAnswer (wordsSent ss) (bodiesSent ss) (replicate 60 0) .len) (packOutput (wordsSent ss) (bodiesSent ss) (replicate 60 0))
 
 -- the VAL as numbers
 abbrev pub valNumbers : CetskobiMessage
@@ -108,8 +113,8 @@ valNumbers = record { kind = 3; sender = 0; tie = 0; epoch = 0; version = 1 }
 
 -- ---- the morning
 
-abbrev pub turns : List Turn
-turns =
+abbrev pub plans : List Plan
+plans =
     by 0 (read 0)  -- the fresh record
     ∷ by 0 (write 0 (65 ∷ 49 ∷ []))  -- the INV leaves
     ∷ by 0 (read 0)  -- 6: its write is under way
@@ -119,20 +124,21 @@ turns =
     ∷ by 0 (validate 0)  -- the VAL leaves
     ∷ by 0 (resend 0)  -- and once more
     ∷ by 0 (replay 0)  -- 16: the record is valid
-    ∷ by 1 (deliver 0 valNumbers [])
+    ∷ by 1 (deliverPacket (packetOf (val ∷ [])) 0)
+    ∷ by 1 (deliver 0 valNumbers [])  -- 14: it has come already
     ∷ by 1 (view 0 3)  -- 18: the epoch that it has
     ∷ by 1 (read 0)
     ∷ []
 
-abbrev pub morning : List Step
-morning = stepsOf hut turns
+abbrev pub morning : List Turn
+morning = turnsOf hut plans
 
 -- what it shows; `proofs/Morning` computes it
 pub record Morning : Type 0 where
   pub begun : AllBegun two 1 both hut
   pub follows : Follows two both hut morning
   pub agrees : CallsAgree two 1 hut morning
-  pub numbers : numbersOf morning ≡ 0 ∷ 0 ∷ 6 ∷ 0 ∷ 20 ∷ 0 ∷ 0 ∷ 0 ∷ 16 ∷ 0 ∷ 18 ∷ 0 ∷ []
+  pub numbers : numbersOf morning ≡ 0 ∷ 0 ∷ 6 ∷ 0 ∷ 20 ∷ 0 ∷ 0 ∷ 0 ∷ 16 ∷ 0 ∷ 14 ∷ 18 ∷ 0 ∷ []
   -- the premises of `alike`
   pub sees : Sees (laptop hut morning 0) 1
   pub seen : Sees (laptop hut morning 1) 0

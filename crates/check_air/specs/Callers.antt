@@ -80,7 +80,7 @@ pub record Hut : Type 0 where
   pub log : List Logged
 
 -- one call: whose, which, what it answered, and the laptop as it left it
-pub record Step : Type 0 where
+pub record Turn : Type 0 where
   pub who : ℕ
   pub call : Call
   pub number : ℕ
@@ -101,20 +101,20 @@ outcome (view epoch set) n = viewed n epoch set
 abbrev pub logOf : List Logged → Outcome → List Logged
 logOf log o = logged log (o .node) (sentBy (o .answer))
 
-abbrev pub next : Hut → Step → Hut
+abbrev pub next : Hut → Turn → Hut
 next h s = record {
   at = λ k. cond (eqb k (s .who)) (s .left) (h .at k);
   log = logOf (h .log) (outcome (s .call) (node (h .at (s .who))));
 }
 
-abbrev pub after : Hut → List Step → Hut
+abbrev pub after : Hut → List Turn → Hut
 after h [] = h
 after h (s ∷ rest) = after (next h s) rest
 
 -- ---- the premises
 
 -- 01, "A delivered message left an earlier entry": message i of the packet is one that left, packed by `cetskobi_pack`
-pub record Honest (log : List Logged) (p : List ℕ) (i : ℕ) : Type 0 where
+pub record FromAir (log : List Logged) (p : List ℕ) (i : ℕ) : Type 0 where
   pub message : Logged
   pub earlier : List·Memᴰ message log
   pub sending : Sending
@@ -130,7 +130,7 @@ pub record Broken (p : List ℕ) (i : ℕ) : Type 0 where
   pub refused : fetched p i ≡ Refused number
 
 -- numbers and bytes of a message that left
-pub record Repeated (log : List Logged) (i : ℕ) (m : CetskobiMessage) (v : List ℕ) : Type 0 where
+pub record AsNumbers (log : List Logged) (i : ℕ) (m : CetskobiMessage) (v : List ℕ) : Type 0 where
   pub message : Logged
   pub earlier : List·Memᴰ message log
   pub index : i ≡ message .header .index
@@ -142,14 +142,14 @@ abbrev pub Fair : (ℕ → ℕ) → List Logged → Call → Type 0
 Fair issued log (read i) = Unit
 Fair issued log (write i v) = Unit
 Fair issued log (replay i) = Unit
-Fair issued log (deliver i m v) = Repeated log i m v
-Fair issued log (deliverPacket p i) = Honest log p i ⊎ Broken p i
+Fair issued log (deliver i m v) = AsNumbers log i m v
+Fair issued log (deliverPacket p i) = FromAir log p i ⊎ Broken p i
 Fair issued log (validate i) = Unit
 Fair issued log (resend i) = Unit
 Fair issued log (view epoch set) = set ≡ issued epoch
 
 -- each call is of a laptop of the group, which it finds as that laptop's last call left it
-abbrev pub Follows : (ℕ → Bool) → (ℕ → ℕ) → Hut → List Step → Type 0
+abbrev pub Follows : (ℕ → Bool) → (ℕ → ℕ) → Hut → List Turn → Type 0
 Follows member issued h [] = Unit
 Follows member issued h (s ∷ rest) =
     (member (s .who) ≡ true) × Fair issued (h .log) (s .call) × Returns (s .call) (h .at (s .who)) (s .number) (s .left) × Follows member issued (next h s) rest
@@ -172,20 +172,20 @@ pub record AllBegun (member : ℕ → Bool) (count : ℕ) (issued : ℕ → ℕ)
 -- ---- the claim
 
 -- laptop k after a list of calls
-abbrev pub laptop : Hut → List Step → ℕ → Node
-laptop h steps k = node (after h steps .at k)
+abbrev pub laptop : Hut → List Turn → ℕ → Node
+laptop h turns k = node (after h turns .at k)
 
 -- demand 3, both halves, as `Agreement` of hermes has them
-pub record CallsAgree (member : ℕ → Bool) (count : ℕ) (h : Hut) (steps : List Step) : Type 0 where
+pub record CallsAgree (member : ℕ → Bool) (count : ℕ) (h : Hut) (turns : List Turn) : Type 0 where
   pub alike : (i k m : ℕ) → i < count → member k ≡ true → member m ≡ true
-      → Sees (laptop h steps k) m → Sees (laptop h steps m) k → Shows (laptop h steps k) i → Shows (laptop h steps m) i
-      → Alike i (laptop h steps k) (laptop h steps m)
-  pub lasting : (i m : ℕ) (before rest : List Step) (s : Step) → i < count → member m ≡ true
-      → steps ≡ before ++ s ∷ rest → s .call ≡ validate i → s .number ≡ 0
-      → Sees (laptop h before (s .who)) m → Shows (laptop h steps m) i
-      → NotAfter higher (recordOf i (laptop h before (s .who)) .timestamp) (recordOf i (laptop h steps m) .timestamp)
+      → Sees (laptop h turns k) m → Sees (laptop h turns m) k → Shows (laptop h turns k) i → Shows (laptop h turns m) i
+      → Alike i (laptop h turns k) (laptop h turns m)
+  pub lasting : (i m : ℕ) (before rest : List Turn) (s : Turn) → i < count → member m ≡ true
+      → turns ≡ before ++ s ∷ rest → s .call ≡ validate i → s .number ≡ 0
+      → Sees (laptop h before (s .who)) m → Shows (laptop h turns m) i
+      → NotAfter higher (recordOf i (laptop h before (s .who)) .timestamp) (recordOf i (laptop h turns m) .timestamp)
 
--- demand 3 of the exported functions; `proofs/Calls` proves it
+-- demand 3 of the exported functions; `proofs/Callers` proves it
 abbrev pub CalledDemand3 : Type 0
 CalledDemand3 = (member : ℕ → Bool) (count : ℕ) (issued : ℕ → ℕ) (h : Hut) → AllBegun member count issued h
-    → (steps : List Step) → Follows member issued h steps → CallsAgree member count h steps
+    → (turns : List Turn) → Follows member issued h turns → CallsAgree member count h turns

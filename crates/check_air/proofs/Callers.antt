@@ -38,7 +38,7 @@ use Rattle.export_numbers.specs.declared.numbers.CetskobiReplica.{CetskobiRepli
 use Rattle.export_numbers.specs.declared.numbers.CetskobiAnswer.{CetskobiAnswer}
 use Rattle.export_numbers.specs.declared.numbers.CetskobiAdmission.{CetskobiAdmission}
 use Rattle.export_numbers.specs.Crossing.{replicaOf, identityOf, answerOut, admissionOut, receivedIn}
-use Rattle.check_air.specs.Calls.{Laptop, node, Call, read, write, replay, deliver, deliverPacket, validate, resend, view, Moves, Returns, Hut, Step, outcome, logOf, next, after, Fair, Follows, Begun, AllBegun, laptop, CallsAgree, CalledDemand3}
+use Rattle.check_air.specs.Callers.{Laptop, node, Call, read, write, replay, deliver, deliverPacket, validate, resend, view, Moves, Returns, Hut, Turn, outcome, logOf, next, after, Fair, Follows, Begun, AllBegun, laptop, CallsAgree, CalledDemand3}
 use Rattle.check_air.proofs.Air.{found-left}
 
 -- ---- the log
@@ -180,14 +180,14 @@ number-out (Accepted (Sent (Val t) h)) = refl
 number-out (Refused k) = refl
 
 module _ (member : ℕ → Bool) (issued : ℕ → ℕ) where
-  abbrev entry : (h : Hut) (s : Step) → Fair issued (h .log) (s .call) → Entry
+  abbrev entry : (h : Hut) (s : Turn) → Fair issued (h .log) (s .call) → Entry
   entry h s f = record { who = s .who; what = action issued (h .log) (s .call) f }
 
   -- one call, one entry
-  step-matches : (g : Group) (h : Hut) (s : Step) (f : Fair issued (h .log) (s .call)) → Returns (s .call) (h .at (s .who)) (s .number) (s .left)
+  turn-matches : (g : Group) (h : Hut) (s : Turn) (f : Fair issued (h .log) (s .call)) → Returns (s .call) (h .at (s .who)) (s .number) (s .left)
       → Match g h → Match (advance higher g (entry h s f)) (next h s)
   unfolding advance result
-  step-matches g h s f r e = record { nodes = λ k. at k (eqb k (s .who)) refl; logs = ap₂ logAfter same (e .logs) ∙ d .logs }
+  turn-matches g h s f r e = record { nodes = λ k. at k (eqb k (s .who)) refl; logs = ap₂ logAfter same (e .logs) ∙ d .logs }
     where
       n : Node
       n = node (h .at (s .who))
@@ -207,30 +207,30 @@ module _ (member : ℕ → Bool) (issued : ℕ → ℕ) where
           ap₂ nodeAfter same (ap (g .at) (eqb-true k (s .who) q) ∙ e .nodes (s .who)) ∙ d .leaves ∙ sym (lands (s .call) (h .at (s .who)) (s .left) (s .number) r)
       at k false q = e .nodes k
 
-  entries : (h : Hut) (steps : List Step) → Follows member issued h steps → List Entry
+  entries : (h : Hut) (turns : List Turn) → Follows member issued h turns → List Entry
   entries h [] f = []
   entries h (s ∷ rest) (m, fair, r, f) = entry h s fair ∷ entries (next h s) rest f
 
-  are-entries : (h : Hut) (steps : List Step) (f : Follows member issued h steps) → Entries member issued (entries h steps f)
+  are-entries : (h : Hut) (turns : List Turn) (f : Follows member issued h turns) → Entries member issued (entries h turns f)
   unfolding entries
   are-entries h [] f = tt
   are-entries h (s ∷ rest) (m, fair, r, f) = (m, as-issued issued (h .log) (s .call) fair, are-entries (next h s) rest f)
 
-  matches : (g : Group) (h : Hut) (steps : List Step) (f : Follows member issued h steps) → Match g h → Match (run.run higher g (entries h steps f)) (after h steps)
+  matches : (g : Group) (h : Hut) (turns : List Turn) (f : Follows member issued h turns) → Match g h → Match (run.run higher g (entries h turns f)) (after h turns)
   unfolding entries
   matches g h [] f e = e
-  matches g h (s ∷ rest) (m, fair, r, f) e = matches (advance higher g (entry h s fair)) (next h s) rest f (step-matches g h s fair r e)
+  matches g h (s ∷ rest) (m, fair, r, f) e = matches (advance higher g (entry h s fair)) (next h s) rest f (turn-matches g h s fair r e)
 
   -- a list of calls, cut in two
-  first-part : (h : Hut) (before rest : List Step) → Follows member issued h (before ++ rest) → Follows member issued h before
+  first-part : (h : Hut) (before rest : List Turn) → Follows member issued h (before ++ rest) → Follows member issued h before
   first-part h [] rest f = tt
   first-part h (s ∷ before) rest (m, fair, r, f) = (m, fair, r, first-part (next h s) before rest f)
 
-  second-part : (h : Hut) (before rest : List Step) → Follows member issued h (before ++ rest) → Follows member issued (after h before) rest
+  second-part : (h : Hut) (before rest : List Turn) → Follows member issued h (before ++ rest) → Follows member issued (after h before) rest
   second-part h [] rest f = f
   second-part h (s ∷ before) rest (m, fair, r, f) = second-part (next h s) before rest f
 
-  both-parts : (h : Hut) (before rest : List Step) (f : Follows member issued h (before ++ rest))
+  both-parts : (h : Hut) (before rest : List Turn) (f : Follows member issued h (before ++ rest))
       → entries h (before ++ rest) f ≡ entries h before (first-part h before rest f) ++ entries (after h before) rest (second-part h before rest f)
   unfolding entries first-part second-part
   both-parts h [] rest f = refl
@@ -286,28 +286,28 @@ module _ (member : ℕ → Bool) (count : ℕ) (issued : ℕ → ℕ) (h : Hut) 
   started = record { fresh = λ k m. begins count issued k (h .at k) (begun .fresh k m); silent = begun .silent }
 
   -- the run's laptops are the callers'
-  abbrev entriesOf : (steps : List Step) → Follows member issued h steps → List Entry
-  entriesOf steps f = entries member issued h steps f
+  abbrev entriesOf : (turns : List Turn) → Follows member issued h turns → List Entry
+  entriesOf turns f = entries member issued h turns f
 
-  match : (steps : List Step) (f : Follows member issued h steps) → Match (run.run higher (groupOf h) (entriesOf steps f)) (after h steps)
-  match steps f = matches member issued (groupOf h) h steps f (record { nodes = λ k. refl; logs = refl })
+  match : (turns : List Turn) (f : Follows member issued h turns) → Match (run.run higher (groupOf h) (entriesOf turns f)) (after h turns)
+  match turns f = matches member issued (groupOf h) h turns f (record { nodes = λ k. refl; logs = refl })
 
-  same : (steps : List Step) (f : Follows member issued h steps) (k : ℕ) → run.run higher (groupOf h) (entriesOf steps f) .at k ≡ laptop h steps k
-  same steps f = match steps f .nodes
+  same : (turns : List Turn) (f : Follows member issued h turns) (k : ℕ) → run.run higher (groupOf h) (entriesOf turns f) .at k ≡ laptop h turns k
+  same turns f = match turns f .nodes
 
-  agree : (steps : List Step) (f : Follows member issued h steps) → Agreement higher member count (groupOf h) (entriesOf steps f)
-  agree steps f = agreement member count issued (groupOf h) started (entriesOf steps f) (are-entries member issued h steps f)
+  agree : (turns : List Turn) (f : Follows member issued h turns) → Agreement higher member count (groupOf h) (entriesOf turns f)
+  agree turns f = agreement member count issued (groupOf h) started (entriesOf turns f) (are-entries member issued h turns f)
 
-  alike : (steps : List Step) (f : Follows member issued h steps) (i k m : ℕ) → i < count → member k ≡ true → member m ≡ true
-      → Sees (laptop h steps k) m → Sees (laptop h steps m) k → Shows (laptop h steps k) i → Shows (laptop h steps m) i
-      → Alike i (laptop h steps k) (laptop h steps m)
-  alike steps f i k m l mk mm sk sm vk vm =
-      let p = same steps f k in
-      let q = same steps f m in
-      rw (← p, ← q) (agree steps f .alike i k m l mk mm (rw p sk) (rw q sm) (rw p vk) (rw q vm))
+  alike : (turns : List Turn) (f : Follows member issued h turns) (i k m : ℕ) → i < count → member k ≡ true → member m ≡ true
+      → Sees (laptop h turns k) m → Sees (laptop h turns m) k → Shows (laptop h turns k) i → Shows (laptop h turns m) i
+      → Alike i (laptop h turns k) (laptop h turns m)
+  alike turns f i k m l mk mm sk sm vk vm =
+      let p = same turns f k in
+      let q = same turns f m in
+      rw (← p, ← q) (agree turns f .alike i k m l mk mm (rw p sk) (rw q sm) (rw p vk) (rw q vm))
 
   -- an accepted validation among the calls is one among the entries
-  valid : (i : ℕ) (before : List Step) (s : Step) (f : Follows member issued h before) (fair : Fair issued (after h before .log) (s .call))
+  valid : (i : ℕ) (before : List Turn) (s : Turn) (f : Follows member issued h before) (fair : Fair issued (after h before .log) (s .call))
       → Returns (s .call) (after h before .at (s .who)) (s .number) (s .left) → s .call ≡ validate i → s .number ≡ 0
       → Validation higher (run.run higher (groupOf h) (entriesOf before f)) (entry member issued (after h before) s fair) i
   unfolding result
@@ -320,7 +320,7 @@ module _ (member : ℕ → Bool) (count : ℕ) (issued : ℕ → ℕ) (h : Hut) 
       λ j. perform higher (is j) (e .logs j) (e .nodes (s .who) j) in
       validates is (subst IsAccepted (sym same) (is-accepted issued log i l (s .left) (s .number) said (s .call) what r))
 
-  lasting : (i m : ℕ) (before rest : List Step) (s : Step) (f : Follows member issued h (before ++ s ∷ rest)) → i < count → member m ≡ true
+  lasting : (i m : ℕ) (before rest : List Turn) (s : Turn) (f : Follows member issued h (before ++ s ∷ rest)) → i < count → member m ≡ true
       → s .call ≡ validate i → s .number ≡ 0
       → Sees (laptop h before (s .who)) m → Shows (laptop h (before ++ s ∷ rest) m) i
       → NotAfter higher (recordOf i (laptop h before (s .who)) .timestamp) (recordOf i (laptop h (before ++ s ∷ rest) m) .timestamp)
@@ -335,12 +335,12 @@ module _ (member : ℕ → Bool) (count : ℕ) (issued : ℕ → ℕ) (h : Hut) 
       (both-parts member issued h before (s ∷ rest) f) (valid i before s f1 (f2 .1) (f2 .2) what said) (rw p sees) (rw q shows) in
       rw (p, q) at kept
 
-  agreeing : (steps : List Step) → Follows member issued h steps → CallsAgree member count h steps
-  agreeing steps f = record {
-    alike = alike steps f;
+  agreeing : (turns : List Turn) → Follows member issued h turns → CallsAgree member count h turns
+  agreeing turns f = record {
+    alike = alike turns f;
     lasting = λ i m before rest s l mm e what said sees shows.
-        subst (λ (all : List Step). NotAfter higher (recordOf i (laptop h before (s .who)) .timestamp) (recordOf i (laptop h all m) .timestamp)) (sym e)
-        (lasting i m before rest s (subst (Follows member issued h) e f) l mm what said sees (subst (λ (all : List Step). Shows (laptop h all m) i) e shows));
+        subst (λ (all : List Turn). NotAfter higher (recordOf i (laptop h before (s .who)) .timestamp) (recordOf i (laptop h all m) .timestamp)) (sym e)
+        (lasting i m before rest s (subst (Follows member issued h) e f) l mm what said sees (subst (λ (all : List Turn). Shows (laptop h all m) i) e shows));
   }
 
 pub called-demand3 : CalledDemand3
