@@ -1,6 +1,6 @@
 -- What left a call, packed and delivered from the packet, is the delivery of the message that left.
 use Prim.Native.Nat.{ℕ, zero, suc, _+_, _*_, _<_}
-use mathlib.Core.Path.{_≡_, refl, sym, ap, _∙_}
+use mathlib.Core.Path.{_≡_, refl, sym, ap, subst, _∙_}
 use mathlib.Core.Bool.{Bool, true, false}
 use mathlib.Core.List.{List, [], _∷_, _++_, append-assoc}
 use native.Mathlib.Omega.{arith}
@@ -35,7 +35,8 @@ use Rattle.packet_event.specs.Arrival.{receivedOf}
 use Rattle.export_numbers.specs.declared.numbers.CetskobiAnswer.{CetskobiAnswer}
 use Rattle.export_numbers.specs.Crossing.{messageOut, answerOut}
 use Rattle.export_calls.specs.Calls.{nodeOf, Done}
-use Rattle.export_outgoing.specs.Leaving.{Along, along, gone, Delivered}
+use Rattle.export_calls.specs.Part.{PartAt}
+use Rattle.export_outgoing.specs.Leaving.{Along, along, alongOf, AlongAt, Delivered}
 use Rattle.export_outgoing.proofs.Sent.{body-after}
 use Rattle.export_arrival.specs.Arrival.{Arrived}
 use Rattle.check_air.specs.Air.{Sending, sevenOf, wordsSent, bodiesSent, Called, Packed, ThroughTheAir}
@@ -115,10 +116,6 @@ from-someone (Deliver m) = refl
 from-someone Validate = tt
 from-someone Resend = tt
 
-bytesIn : List ℕ → Along → List ℕ
-bytesIn d (along v) = v
-bytesIn d gone = d
-
 -- the same of a call, by its contract
 module _ (x : Logged) (s : Sending) (c : Called x s) where
   abbrev n : Node
@@ -139,10 +136,12 @@ module _ (x : Logged) (s : Sending) (c : Called x s) where
 
   -- `cetskobi_body` told the bytes that it left with
   bytes-left : s .body ≡ x .body
-  unfolding bytesIn
   bytes-left =
-      let told = body-after n (s .index) (c .event) (c .value) (someone (c .event)) (from-someone (c .event)) (c .table) (s .left) (c .table′) (c .store′) (c .called) in
-      ap (bytesIn (s .body)) (sym (c .bytes) ∙ told) ∙ sym (crossed .body)
+      let left = leaving (sentBy (o .answer)) (o .node .table) (o .node .store) in
+      let here : alongOf (c .table′) (c .store′) (s .index) (s .left) ≡ along left =
+      body-after n (s .index) (c .event) (c .value) (someone (c .event)) (from-someone (c .event)) (c .table) (s .left) (c .table′) (c .store′) (c .called) in
+      let part : PartAt (c .store′) (s .index) left (c .told) = subst (λ (a : Along). AlongAt (c .store′) (s .index) a (c .told)) here (c .asked) in
+      c .copied ∙ part .part ∙ sym (crossed .body)
 
 -- ---- the packet
 

@@ -1,7 +1,7 @@
 -- Every list of calls on a group is a list of entries of the run that demand 3 speaks of: so what holds after those holds after the calls.
 use Prim.Native.Nat.{ℕ, zero, suc, _<_}
 use mathlib.Core.Path.{_≡_, refl, sym, ap, ap₂, subst, _∙_}
-use mathlib.Core.Bool.{Bool, true, false, cond}
+use mathlib.Core.Bool.{Bool, true, false, cond, false≢true}
 use mathlib.Core.List.{List, [], _∷_, _++_, List·Memᴰ, List·Memᴰ·cases-cons, List·Memᴰ·not-nil}
 use mathlib.Core.Logic.{_⊎_, inl, inr}
 use native.Mathlib.Omega.{arith}
@@ -20,13 +20,15 @@ use Rattle.hermes.specs.declared.message.Message.the-variants.{Inv, Ack, Val}
 use Rattle.hermes_record.specs.declared.record.Record.{Record}
 use Rattle.hermes_record.specs.Order.{higher, NotAfter}
 use Rattle.hermes_record.specs.Record.{freshRecord}
+use Rattle.hermes.specs.Kind.{inv, ack, known}
+use Rattle.hermes.specs.Guards.{shapely}
 use Rattle.hermes.specs.Event.{numberOf}
 use Rattle.hermes.specs.Node.{Node, Outcome, identity, newcomer, startRefusal, begin, start, apply, viewed, recordOf}
 use Rattle.hermes.specs.Node as hermes
 use Rattle.hermes.specs.Run as run
 use Rattle.hermes.specs.Run.{Logged, received, logged, Action, Entry, Group, Result, Found, found, missing, find, perform, nodeAfter, logAfter, result, advance}
 use Rattle.hermes.specs.Agreement.{FreshStart, Started, AsIssued, Entries, IsAccepted, Validation, validates, Agreement, Shows, Sees, Alike}
-use Rattle.hermes.proofs.Apply.{Applied, refused, accepted, applied}
+use Rattle.hermes.proofs.Apply.{Applied, refused, accepted, applied, its-own}
 use Rattle.hermes.proofs.Agreement.{agreement}
 use Rattle.packet_format.specs.declared.answer.Fetched.{Fetched}
 use Rattle.packet_format.specs.declared.answer.Fetched.the-variants as fetch
@@ -37,7 +39,8 @@ use Rattle.export_records.proofs.Lent.{length-table}
 use Rattle.export_numbers.specs.declared.numbers.CetskobiReplica.{CetskobiReplica}
 use Rattle.export_numbers.specs.declared.numbers.CetskobiAnswer.{CetskobiAnswer}
 use Rattle.export_numbers.specs.declared.numbers.CetskobiAdmission.{CetskobiAdmission}
-use Rattle.export_numbers.specs.Crossing.{replicaOf, identityOf, answerOut, admissionOut, receivedIn}
+use Rattle.export_numbers.specs.declared.numbers.CetskobiMessage.{CetskobiMessage}
+use Rattle.export_numbers.specs.Crossing.{replicaOf, identityOf, answerOut, admissionOut, messageIn, receivedIn}
 use Rattle.check_air.specs.Callers.{Laptop, node, Call, read, write, replay, deliver, deliverPacket, validate, resend, view, Moves, Returns, Hut, Turn, outcome, logOf, next, after, Fair, Follows, Begun, AllBegun, laptop, CallsAgree, CalledDemand3}
 use Rattle.check_air.proofs.Air.{found-left}
 
@@ -64,7 +67,8 @@ action : (issued : ℕ → ℕ) (log : List Logged) (c : Call) → Fair issued l
 action issued log (read i) f = run.read i
 action issued log (write i v) f = run.write i v
 action issued log (replay i) f = run.replay i
-action issued log (deliver i m v) f = run.deliver (log-number (f .message) log (f .earlier) .0)
+action issued log (deliver i m v) (inl f) = run.deliver (log-number (f .message) log (f .earlier) .0)
+action issued log (deliver i m v) (inr f) = run.deliver (length log)
 action issued log (deliverPacket p i) (inl f) = run.deliver (log-number (f .message) log (f .earlier) .0)
 action issued log (deliverPacket p i) (inr f) = run.deliver (length log)
 action issued log (validate i) f = run.validate i
@@ -76,7 +80,8 @@ unfolding action
 as-issued issued log (read i) f = tt
 as-issued issued log (write i v) f = tt
 as-issued issued log (replay i) f = tt
-as-issued issued log (deliver i m v) f = tt
+as-issued issued log (deliver i m v) (inl f) = tt
+as-issued issued log (deliver i m v) (inr f) = tt
 as-issued issued log (deliverPacket p i) (inl f) = tt
 as-issued issued log (deliverPacket p i) (inr f) = tt
 as-issued issued log (validate i) f = tt
@@ -98,26 +103,49 @@ sent-does : (log : List Logged) (n : Node) (x : Logged) (m : List·Memᴰ x log)
 sent-does log n x m o e =
     event-does log n (run.deliver (log-number x log m .0)) o (ap (λ (f : Found). run.delivery higher f n) (log-number x log m .1) ∙ ap run.event (sym e))
 
+-- what is refused for itself is the entry of a message that there is not
+nothing-does : (log : List Logged) (n : Node) (k : ℕ) (o : Outcome) → o ≡ record { answer = Refused k; node = n } → Does log n (run.deliver (length log)) o
+nothing-does log n k o e = record {
+  leaves = ap (λ (r : Result). nodeAfter r n) nothing ∙ sym (ap (λ (x : Outcome). x .node) e);
+  logs = ap (λ (r : Result). logAfter r log) nothing ∙ sym (ap (logOf log) e);
+}
+  where
+    nothing : perform higher (run.deliver (length log)) log n ≡ run.nothing
+    nothing = ap (λ (x : Found). run.delivery higher x n) (no-number log)
+
+-- a message of an unknown kind has a tie-breaker of 255, and question 12 says no
+unknown-shape : (kind version tie n : ℕ) → known kind ≡ false → shapely (messageIn kind version tie) n ≡ false
+unknown-shape kind version tie n e = rw e (go (eqb kind inv) (eqb kind ack))
+  where
+    go : (x y : Bool) → shapely (cond x (Inv (record { version = version; tie = 255 })) (cond y (Ack (record { version = version; tie = 255 })) (Val (record { version = version; tie = 255 })))) n ≡ false
+    go true y = refl
+    go false true = refl
+    go false false = refl
+
+unknown-refused : (n : Node) (i : ℕ) (m : CetskobiMessage) (v : List ℕ) → known (m .kind) ≡ false
+    → (k : ℕ) × (apply higher n i (Deliver (receivedIn m)) v ≡ record { answer = Refused k; node = n })
+unknown-refused n i m v e = go (applied higher n i (Deliver (receivedIn m)) v)
+  where
+    go : Applied higher n i (Deliver (receivedIn m)) v (apply higher n i (Deliver (receivedIn m)) v)
+        → (k : ℕ) × (apply higher n i (Deliver (receivedIn m)) v ≡ record { answer = Refused k; node = n })
+    go (refused k z p) = (suc k, p)
+    go (accepted y c p) = absurd (false≢true (sym (unknown-shape (m .kind) (m .version) (m .tie) (length v) e) ∙ its-own n i (Deliver (receivedIn m)) v y .1 .1 .0))
+
 module _ (issued : ℕ → ℕ) (log : List Logged) where
   does : (c : Call) (f : Fair issued log c) (n : Node) → Does log n (action issued log c f) (outcome c n)
   unfolding action receipt
   does (read i) f n = event-does log n (run.read i) _ refl
   does (write i v) f n = event-does log n (run.write i v) _ refl
   does (replay i) f n = event-does log n (run.replay i) _ refl
-  does (deliver i m v) f n = sent-does log n (f .message) (f .earlier) (outcome (deliver i m v) n) (rw (f .index, f .same, f .bytes))
+  does (deliver i m v) (inl f) n = sent-does log n (f .message) (f .earlier) (outcome (deliver i m v) n) (rw (f .index, f .same, f .bytes))
+  does (deliver i m v) (inr f) n = let (k, e) = unknown-refused n i m v f in nothing-does log n k (outcome (deliver i m v) n) e
   does (deliverPacket p i) (inl f) n = sent-does log n (f .message) (f .earlier) (receipt higher n p i) carried
     where
       carried : receipt higher n p i ≡ apply higher n (f .message .header .index) (Deliver (received (f .message))) (f .message .body)
       carried =
           let (at, finds, brings) = found-left (f .before) (f .after) (f .sending) (f .message) p (f .called) (f .packed) in
           ap (λ (j : ℕ). receiptOf higher n p (fetched p j)) (f .place) ∙ ap (receiptOf higher n p) finds ∙ ap (apply higher n (f .message .header .index) (Deliver (received (f .message)))) brings
-  does (deliverPacket p i) (inr f) n = record { leaves = ap (λ (r : Result). nodeAfter r n) nothing ∙ sym (ap (λ (o : Outcome). o .node) refuses); logs = ap (λ (r : Result). logAfter r log) nothing ∙ sym (ap (logOf log) refuses) }
-    where
-      nothing : perform higher (run.deliver (length log)) log n ≡ run.nothing
-      nothing = ap (λ (x : Found). run.delivery higher x n) (no-number log)
-
-      refuses : receipt higher n p i ≡ record { answer = Refused (f .number); node = n }
-      refuses = ap (receiptOf higher n p) (f .refused)
+  does (deliverPacket p i) (inr f) n = nothing-does log n (f .number) (receipt higher n p i) (ap (receiptOf higher n p) (f .refused))
   does (validate i) f n = event-does log n (run.validate i) _ refl
   does (resend i) f n = event-does log n (run.resend i) _ refl
   does (view epoch set) f n = event-does log n (run.view epoch set) _ refl

@@ -1,12 +1,12 @@
 -- The premises of demand 3 of the exported functions can be met: a morning of two laptops, computed.
-use Prim.Native.Nat.{ℕ, zero, suc, _^_}
-use mathlib.Core.Path.{_≡_, refl}
+use Prim.Native.Nat.{ℕ, zero, suc, _*_, _^_}
+use mathlib.Core.Path.{_≡_, refl, sym, subst}
 use mathlib.Core.Bool.{Bool, true, _&&_}
 use mathlib.Core.List.{List, [], _∷_, List·Memᴰ, List·Memᴰ·head, List·Memᴰ·tail}
 use mathlib.Core.Logic.{inl, inr}
 use native.Mathlib.Omega.{arith}
 use lib.Dec.{ltb}
-use lib.ListN.{replicate}
+use lib.ListN.{length, take, drop, replicate}
 use borrow.Author.Tests.{ltb-true}
 use Rattle.hermes_record.specs.Members.{has, size, lowest, within, othersIn, with}
 use Rattle.hermes_record.specs.Order.{higher, later, sameTimestamp}
@@ -29,7 +29,7 @@ use Rattle.hermes.specs.Node.{newcomer}
 use Rattle.hermes.specs.Run.{Logged, received}
 use Rattle.export_numbers.specs.declared.numbers.CetskobiAdmission.{CetskobiAdmission}
 use Rattle.export_numbers.specs.Crossing.{identityOf, answerOut}
-use Rattle.export_outgoing.specs.Leaving.{along, alongOf}
+use Rattle.export_outgoing.specs.Leaving.{Along, along, alongOf, AlongAt}
 use Rattle.export_packets.specs.Calls.{packAnswer}
 use Rattle.check_air.specs.Air.{Sending, wordsSent, bodiesSent, Leaves, Called, Packed}
 use Rattle.check_air.specs.Callers.{Laptop, node, Broken, AsNumbers, Begun, AllBegun, Hut, Fair, Follows, FromAir, next}
@@ -73,6 +73,7 @@ record Leaving (x : Logged) (s : Sending) (l : Laptop) (e : Event) (v : List ℕ
   who : l .me ≡ s .from
   answer : s .left ≡ answerOut (apply higher (node l) (s .index) e v .answer)
   bytes : alongOf (afterEvent l (s .index) e v .table) (afterEvent l (s .index) e v .store) (s .index) (s .left) ≡ along (s .body)
+  there : take (length (s .body)) (drop (192 * s .index) (afterEvent l (s .index) e v .store)) ≡ s .body
   leaves : Leaves (node l) (s .index) e v x
 
 call : (x : Logged) (s : Sending) (l : Laptop) (e : Event) (v : List ℕ) → Leaving x s l e v → Called x s
@@ -84,7 +85,9 @@ call x s l e v h = record {
   table′ = afterEvent l (s .index) e v .table;
   store′ = afterEvent l (s .index) e v .store;
   called = rw (← h .who) (record { answer = h .answer; bytes = refl; table = after-table l (s .index) e v; store = refl });
-  bytes = h .bytes;
+  told = length (s .body);
+  asked = subst (λ (a : Along). AlongAt (afterEvent l (s .index) e v .store) (s .index) a (length (s .body))) (sym (h .bytes)) (record { len = refl; part = h .there });
+  copied = sym (h .there);
   leaves = rw (← h .who) (h .leaves);
 }
 
@@ -97,23 +100,23 @@ acknowledged = afterEvent written 0 (Deliver (received ackLogged)) []
 
 called-inv : Called invLogged inv
 unfolding has size lowest within othersIn with later sameTimestamp padded place refusal effect start apply view viewed good entryBytes walk fetchRefusal fetched summed contents packetBytes allGood writeRefusal packetWritten outputOf entryIn wordMessages receipt decode tableOf
-called-inv = call invLogged inv (fresh 0) Write (65 ∷ 49 ∷ []) (record { who = refl; answer = refl; bytes = refl; leaves = refl })
+called-inv = call invLogged inv (fresh 0) Write (65 ∷ 49 ∷ []) (record { who = refl; answer = refl; bytes = refl; there = refl; leaves = refl })
 
 called-ack : Called ackLogged ack
 unfolding has size lowest within othersIn with later sameTimestamp padded place refusal effect start apply view viewed good entryBytes walk fetchRefusal fetched summed contents packetBytes allGood writeRefusal packetWritten outputOf entryIn wordMessages receipt decode tableOf
-called-ack = call ackLogged ack (fresh 1) (Deliver (received invLogged)) (65 ∷ 49 ∷ []) (record { who = refl; answer = refl; bytes = refl; leaves = refl })
+called-ack = call ackLogged ack (fresh 1) (Deliver (received invLogged)) (65 ∷ 49 ∷ []) (record { who = refl; answer = refl; bytes = refl; there = refl; leaves = refl })
 
 called-val : Called valLogged val
 unfolding has size lowest within othersIn with later sameTimestamp padded place refusal effect start apply view viewed good entryBytes walk fetchRefusal fetched summed contents packetBytes allGood writeRefusal packetWritten outputOf entryIn wordMessages receipt decode tableOf
-called-val = call valLogged val acknowledged Validate [] (record { who = refl; answer = refl; bytes = refl; leaves = refl })
+called-val = call valLogged val acknowledged Validate [] (record { who = refl; answer = refl; bytes = refl; there = refl; leaves = refl })
 
 -- packed together
 packs : (ss : List Sending) → narrow (wordsSent ss) ≡ true → packAnswer (wordsSent ss) (bodiesSent ss) (replicate 60 0) .number ≡ 0 → Packed ss (packetOf ss)
 packs ss h e = record { words = wide (wordsSent ss) h; out = replicate 60 0; accepted = e; front = refl }
 
-inv-packed : Packed (inv ∷ []) (packetOf (inv ∷ []))
+inv-packed : Packed (inv ∷ inv ∷ []) (packetOf (inv ∷ inv ∷ []))
 unfolding narrow has size lowest within othersIn with later sameTimestamp padded place refusal effect start apply view viewed good entryBytes walk fetchRefusal fetched summed contents packetBytes allGood writeRefusal packetWritten outputOf entryIn wordMessages receipt decode tableOf
-inv-packed = packs (inv ∷ []) refl refl
+inv-packed = packs (inv ∷ inv ∷ []) refl refl
 
 ack-packed : Packed (inv ∷ ack ∷ []) (packetOf (inv ∷ ack ∷ []))
 unfolding narrow has size lowest within othersIn with later sameTimestamp padded place refusal effect start apply view viewed good entryBytes walk fetchRefusal fetched summed contents packetBytes allGood writeRefusal packetWritten outputOf entryIn wordMessages receipt decode tableOf
@@ -124,8 +127,8 @@ unfolding narrow has size lowest within othersIn with later sameTimestamp padded
 val-packed = packs (val ∷ []) refl refl
 
 -- what a delivery rests on: the three messages in their packets, the VAL as numbers, a broken packet
-inv-came : FromAir (invLogged ∷ []) (packetOf (inv ∷ [])) 0
-inv-came = record { message = invLogged; earlier = List·Memᴰ·head refl; sending = inv; called = called-inv; before = []; after = []; packed = inv-packed; place = refl }
+inv-came : FromAir (invLogged ∷ []) (packetOf (inv ∷ inv ∷ [])) 0
+inv-came = record { message = invLogged; earlier = List·Memᴰ·head refl; sending = inv; called = called-inv; before = []; after = inv ∷ []; packed = inv-packed; place = refl }
 
 ack-came : FromAir (invLogged ∷ ackLogged ∷ []) (packetOf (inv ∷ ack ∷ [])) 1
 ack-came = record {
@@ -155,19 +158,29 @@ broken : Broken (1 ∷ 1 ∷ 0 ∷ []) 0
 unfolding fetched fetchRefusal walk
 broken = record { number = 20; refused = refl }
 
--- each call is answered as its function's contract has it, so that it is enough that each is fair
+-- each call is answered as its function's contract has it, so that it is enough that each is fair and a laptop's of the group
 abbrev AllFair : Hut → List Plan → Type 0
 AllFair h [] = Unit
-AllFair h (t ∷ rest) = (two (t .who) ≡ true) × Fair both (h .log) (t .call) × AllFair (next h (turn h t)) rest
+AllFair h (t ∷ rest) = Fair both (h .log) (t .call) × AllFair (next h (turn h t)) rest
 
-follow : (h : Hut) (ts : List Plan) → AllFair h ts → Follows two both h (turnsOf h ts)
-follow h [] f = tt
-follow h (t ∷ rest) (m, fair, f) = (m, fair, every-call-answers (t .call) (h .at (t .who)), follow (next h (turn h t)) rest f)
+members : List Plan → Bool
+members [] = true
+members (t ∷ rest) = two (t .who) && members rest
+
+follow : (h : Hut) (ts : List Plan) → members ts ≡ true → AllFair h ts → Follows two both h (turnsOf h ts)
+unfolding members
+follow h [] m f = tt
+follow h (t ∷ rest) m (fair, f) =
+    let (a, b) = tests.both (two (t .who)) (members rest) m in (a, fair, every-call-answers (t .call) (h .at (t .who)), follow (next h (turn h t)) rest b f)
 
 fair : AllFair hut plans
 unfolding has size lowest within othersIn with later sameTimestamp padded place refusal effect start apply view viewed good entryBytes walk fetchRefusal fetched summed contents packetBytes allGood writeRefusal packetWritten outputOf entryIn wordMessages receipt decode tableOf
 fair =
-    (refl, tt, (refl, tt, (refl, tt, (refl, inl inv-came, (refl, inr broken, (refl, inl ack-came, (refl, tt, (refl, tt, (refl, tt, (refl, inl val-came, (refl, val-numbers, (refl, refl, (refl, tt, tt)))))))))))))
+    (tt, (tt, (tt, (tt, (tt, (inl inv-came, (inr broken, (tt, (inl ack-came, (tt, (tt, (tt, (inl val-came, (inl val-numbers, (inr refl, (refl, (refl, (refl, (tt, tt)))))))))))))))))))
+
+followed : Follows two both hut morning
+unfolding members
+followed = follow hut plans refl fair
 
 begun : AllBegun two 1 both hut
 begun = record { fresh = begins; silent = refl }
@@ -176,11 +189,14 @@ pub morning-holds : Morning
 unfolding has size lowest within othersIn with later sameTimestamp padded place refusal effect start apply view viewed good entryBytes walk fetchRefusal fetched summed contents packetBytes allGood writeRefusal packetWritten outputOf entryIn wordMessages receipt decode tableOf
 morning-holds = record {
   begun = begun;
-  follows = follow hut plans fair;
-  agrees = called-demand3 two 1 both hut begun morning (follow hut plans fair);
+  follows = followed;
+  agrees = called-demand3 two 1 both hut begun morning followed;
   numbers = refl;
   sees = refl;
   seen = refl;
   shows = refl;
   shown = refl;
+  split = refl;
+  finished = refl;
+  then = refl;
 }

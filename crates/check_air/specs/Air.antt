@@ -1,9 +1,9 @@
 -- Through the air: what left a call on one laptop, packed by `cetskobi_pack` and delivered from that packet by `cetskobi_deliver_packet` on another,
 -- is the delivery of the message that left, which is what a deliver entry of demand 3's runs does.
-use Prim.Native.Nat.{ℕ}
+use Prim.Native.Nat.{ℕ, _*_}
 use mathlib.Core.Path.{_≡_}
 use mathlib.Core.List.{List, [], _∷_, _++_}
-use lib.ListN.{length, take}
+use lib.ListN.{length, take, drop}
 use Rattle.hermes.specs.declared.event.Event.{Event}
 use Rattle.hermes.specs.declared.event.Event.the-variants.{Deliver}
 use Rattle.hermes_record.specs.Order.{higher}
@@ -15,13 +15,13 @@ use Rattle.packet_words.specs.ReadBack.{Wide}
 use Rattle.export_numbers.specs.declared.numbers.CetskobiReplica.{CetskobiReplica}
 use Rattle.export_numbers.specs.declared.numbers.CetskobiAnswer.{CetskobiAnswer}
 use Rattle.export_calls.specs.Calls.{nodeOf, Done}
-use Rattle.export_outgoing.specs.Leaving.{along, alongOf}
+use Rattle.export_outgoing.specs.Leaving.{alongOf, AlongAt}
 use Rattle.export_packets.specs.Calls.{packAnswer, packOutput}
 use Rattle.export_arrival.specs.Arrival.{Arrived}
 
 -- ---- what a caller packs
 
--- of one call: the identity and the record number that it was made with, its answer, and the bytes that `cetskobi_body` tells
+-- of one call: the identity and the record number that it was made with, its answer, and the bytes that go with it
 pub record Sending : Type 0 where
   pub from : CetskobiReplica
   pub index : ℕ
@@ -33,11 +33,12 @@ abbrev pub sevenOf : Sending → List ℕ
 sevenOf s =
     s .left .kind ∷ s .from .number ∷ s .from .epoch ∷ s .index ∷ s .left .version ∷ s .left .tie ∷ length (s .body) ∷ []
 
--- of several calls: words and bodies end to end
+-- of several calls: their words end to end
 abbrev pub wordsSent : List Sending → List ℕ
 wordsSent [] = []
 wordsSent (s ∷ ss) = sevenOf s ++ wordsSent ss
 
+-- and their bodies
 abbrev pub bodiesSent : List Sending → List ℕ
 bodiesSent [] = []
 bodiesSent (s ∷ ss) = s .body ++ bodiesSent ss
@@ -57,7 +58,10 @@ pub record Called (x : Logged) (s : Sending) : Type 0 where
   pub table′ : List ℕ
   pub store′ : List ℕ
   pub called : Done (nodeOf (s .from) table store) table (s .index) event value (s .left) table′ store′
-  pub bytes : alongOf table′ store′ (s .index) (s .left) ≡ along (s .body)
+  -- what `cetskobi_body` told, and the bytes that were copied by it
+  pub told : ℕ
+  pub asked : AlongAt store′ (s .index) (alongOf table′ store′ (s .index) (s .left)) told
+  pub copied : s .body ≡ take told (drop (192 * s .index) store′)
   pub leaves : Leaves (nodeOf (s .from) table store) (s .index) event value x
 
 -- the second: `cetskobi_pack` was called with an output, answered 0, and left the packet at its front

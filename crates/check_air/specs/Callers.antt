@@ -1,7 +1,7 @@
 -- Demand 3 of the exported functions: every list of calls on the laptops of a group, each as its function's contract says, and nothing known of them but that.
 use Prim.Native.Nat.{ℕ, _<_}
 use mathlib.Core.Path.{_≡_}
-use mathlib.Core.Bool.{Bool, true, cond}
+use mathlib.Core.Bool.{Bool, true, false, cond}
 use mathlib.Core.List.{List, [], _∷_, _++_, List·Memᴰ}
 use mathlib.Core.Logic.{_⊎_}
 use lib.Dec.{eqb}
@@ -9,6 +9,7 @@ use lib.ListN.{length}
 use Rattle.hermes.specs.declared.event.Event.{Event}
 use Rattle.hermes.specs.declared.event.Event.the-variants.{Read, Write, Replay, Deliver, Validate, Resend}
 use Rattle.hermes_record.specs.Order.{higher, NotAfter}
+use Rattle.hermes.specs.Kind.{known}
 use Rattle.hermes.specs.Event.{sentBy}
 use Rattle.hermes.specs.Node as hermes
 use Rattle.hermes.specs.Node.{Node, Outcome, recordOf, apply, viewed}
@@ -38,6 +39,7 @@ pub record Laptop : Type 0 where
   pub table : List ℕ
   pub store : List ℕ
 
+-- the same as the definitions have it
 abbrev pub node : Laptop → Node
 node l = nodeOf (l .me) (l .table) (l .store)
 
@@ -101,12 +103,14 @@ outcome (view epoch set) n = viewed n epoch set
 abbrev pub logOf : List Logged → Outcome → List Logged
 logOf log o = logged log (o .node) (sentBy (o .answer))
 
+-- the group after a call: the caller's laptop is as the call left it, and the others are as they were
 abbrev pub next : Hut → Turn → Hut
 next h s = record {
   at = λ k. cond (eqb k (s .who)) (s .left) (h .at k);
   log = logOf (h .log) (outcome (s .call) (node (h .at (s .who))));
 }
 
+-- and after a list of calls
 abbrev pub after : Hut → List Turn → Hut
 after h [] = h
 after h (s ∷ rest) = after (next h s) rest
@@ -137,12 +141,13 @@ pub record AsNumbers (log : List Logged) (i : ℕ) (m : CetskobiMessage) (v : Li
   pub same : receivedIn m ≡ received message
   pub bytes : v ≡ message .body
 
--- 01, "Premises of agreement": what is delivered left an earlier call, or is refused as a broken packet; a view is the one issued for its epoch
+-- 01, "Premises of agreement": what is delivered left an earlier call, or is refused for itself, a broken packet or an unknown kind;
+-- a view is the one issued for its epoch
 abbrev pub Fair : (ℕ → ℕ) → List Logged → Call → Type 0
 Fair issued log (read i) = Unit
 Fair issued log (write i v) = Unit
 Fair issued log (replay i) = Unit
-Fair issued log (deliver i m v) = AsNumbers log i m v
+Fair issued log (deliver i m v) = AsNumbers log i m v ⊎ (known (m .kind) ≡ false)
 Fair issued log (deliverPacket p i) = FromAir log p i ⊎ Broken p i
 Fair issued log (validate i) = Unit
 Fair issued log (resend i) = Unit

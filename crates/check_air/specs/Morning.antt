@@ -2,9 +2,9 @@
 use Prim.Native.Nat.{ℕ}
 use mathlib.Core.Path.{_≡_}
 use mathlib.Core.Bool.{Bool}
-use mathlib.Core.List.{List, [], _∷_}
+use mathlib.Core.List.{List, [], _∷_, _++_}
 use lib.Dec.{ltb}
-use lib.ListN.{take, replicate}
+use lib.ListN.{take, drop, replicate}
 use Rattle.hermes.specs.Node.{newcomer, start}
 use Rattle.hermes.specs.Agreement.{Sees, Shows}
 use Rattle.export_records.specs.Layout.{tableOf}
@@ -28,6 +28,7 @@ use Rattle.check_air.specs.Callers.{
   Hut,
   Turn,
   next,
+  after,
   Follows,
   AllBegun,
   CallsAgree,
@@ -111,36 +112,58 @@ packetOf ss = take (packAnswer (wordsSent ss) (bodiesSent ss) (replicate 60 0) .
 abbrev pub valNumbers : CetskobiMessage
 valNumbers = record { kind = 3; sender = 0; tie = 0; epoch = 0; version = 1 }
 
+-- numbers of no message
+abbrev pub unknown : CetskobiMessage
+unknown = record { kind = 9; sender = 0; tie = 0; epoch = 0; version = 1 }
+
 -- ---- the morning
 
 abbrev pub plans : List Plan
 plans =
     by 0 (read 0)  -- the fresh record
     ∷ by 0 (write 0 (65 ∷ 49 ∷ []))  -- the INV leaves
-    ∷ by 0 (read 0)  -- 6: its write is under way
-    ∷ by 1 (deliverPacket (packetOf (inv ∷ [])) 0)  -- the ACK leaves
+    ∷ by 0 (write 0 [])  -- 7: a write is under way
+    ∷ by 0 (read 0)  -- 6: so it is
+    ∷ by 0 (validate 0)  -- 15: 1 has not acknowledged it
+    ∷ by 1 (deliverPacket (packetOf (inv ∷ inv ∷ [])) 0)  -- the ACK leaves
     ∷ by 1 (deliverPacket (1 ∷ 1 ∷ 0 ∷ []) 0)  -- 20: the front of a packet
+    ∷ by 1 (resend 0)  -- 17: it has nothing to send
     ∷ by 0 (deliverPacket (packetOf (inv ∷ ack ∷ [])) 1)  -- 1 is counted
     ∷ by 0 (validate 0)  -- the VAL leaves
     ∷ by 0 (resend 0)  -- and once more
     ∷ by 0 (replay 0)  -- 16: the record is valid
     ∷ by 1 (deliverPacket (packetOf (val ∷ [])) 0)
     ∷ by 1 (deliver 0 valNumbers [])  -- 14: it has come already
+    ∷ by 1 (deliver 0 unknown [])  -- 12: a kind that there is not
     ∷ by 1 (view 0 3)  -- 18: the epoch that it has
+    ∷ by 1 (view 1 3)
+    ∷ by 0 (view 1 3)
     ∷ by 1 (read 0)
     ∷ []
 
 abbrev pub morning : List Turn
 morning = turnsOf hut plans
 
+-- the calls before the accepted validation, and that one
+abbrev pub earlier : List Turn
+earlier = take 9 morning
+
+abbrev pub validation : Turn
+validation = turn (after hut earlier) (by 0 (validate 0))
+
 -- what it shows; `proofs/Morning` computes it
 pub record Morning : Type 0 where
   pub begun : AllBegun two 1 both hut
   pub follows : Follows two both hut morning
   pub agrees : CallsAgree two 1 hut morning
-  pub numbers : numbersOf morning ≡ 0 ∷ 0 ∷ 6 ∷ 0 ∷ 20 ∷ 0 ∷ 0 ∷ 0 ∷ 16 ∷ 0 ∷ 14 ∷ 18 ∷ 0 ∷ []
+  pub numbers : numbersOf morning
+      ≡ 0 ∷ 0 ∷ 7 ∷ 6 ∷ 15 ∷ 0 ∷ 20 ∷ 17 ∷ 0 ∷ 0 ∷ 0 ∷ 16 ∷ 0 ∷ 14 ∷ 12 ∷ 18 ∷ 0 ∷ 0 ∷ 0 ∷ []
   -- the premises of `alike`
   pub sees : Sees (laptop hut morning 0) 1
   pub seen : Sees (laptop hut morning 1) 0
   pub shows : Shows (laptop hut morning 0) 0
   pub shown : Shows (laptop hut morning 1) 0
+  -- and those of `lasting`
+  pub split : morning ≡ earlier ++ validation ∷ drop 10 morning
+  pub finished : validation .number ≡ 0
+  pub then : Sees (laptop hut earlier 0) 1
