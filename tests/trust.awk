@@ -362,7 +362,7 @@ function tally(row,  target, parts, n, i, list, seen, line) {
     }
 }
 # each proof of a row is there, and is a proof of the statement
-function proofs(row,  n, i, w, s, parts, line, name, found) {
+function proofs(row,  n, i, w, s, parts, from, line, name, found) {
     n = split(proof[row], w, " ")
     if (n == 0) return
     if (n != split(statement[row], s, " ")) { fail("row " row " has not a proof for each statement"); return }
@@ -370,10 +370,15 @@ function proofs(row,  n, i, w, s, parts, line, name, found) {
         split(w[i], parts, ":")
         match(s[i], /\.[^.]*$/)
         name = substr(s[i], RSTART + 1)
+        split(s[i], from, ".")
         found = 0
-        while ((getline line < parts[1]) > 0) if (line ~ ("^ *pub " parts[2] " : ") && line ~ ("(^|[ (])" name "([ )]|$)")) found = 1
+        while ((getline line < parts[1]) > 0) {
+            # the statement's name is the one that specs/ gives that meaning
+            if (line ~ ("^use Rattle·" from[1] "·specs\\.specs\\." from[2] "\\.\\{") && line ~ ("[{ ]" name "[,}]")) found += 1
+            if (line == "pub " parts[2] " : " name) found += 2
+        }
         close(parts[1])
-        if (!found) fail(parts[1] " does not prove " s[i] " as " parts[2])
+        if (found != 3) fail(parts[1] " does not prove " s[i] " as " parts[2])
     }
 }
 function shown(text,  n, i, w, parts, out, file) {

@@ -1,6 +1,6 @@
 #!/bin/sh
 # docs/TRUST.md has the right numbers: for each demand, the definitions that its statement rests on, down to the kit's, and their lines.
-# `--write` puts the numbers there; `--read N` prints every definition that row N of the table rests on, with its comments.
+# `--write` puts the numbers there; `--read ROW` prints every definition that a row of the table rests on, with its comments; a row by its number, or by its statement's name.
 cd "$(dirname "$0")/.." || exit 2
 page=docs/TRUST.md
 dir=$(mktemp -d) || exit 2
@@ -13,6 +13,7 @@ cat >"$dir/roots" <<END
 1|what an event may change, and what it looks at|hermes.Locality.Demand1|crates/hermes/proofs/Locality.antt:confinement
 2|each event is the source's action|hermes.Conformance.Demand2|crates/hermes/proofs/Conformance.antt:conformance
 2|who gets what leaves|hermes.Recipients.WhoGets|crates/hermes/proofs/Recipients.antt:who-gets
+2|who gets it, and with which bytes, as C asks|export_outgoing.Sent.AskedWhoGets export_outgoing.Sent.AskedBody|crates/export_outgoing/proofs/Sent.antt:asked-who-gets crates/export_outgoing/proofs/Sent.antt:asked-body
 2|packets|packet_format.RoundTrip.WrittenReadsBack packet_format.RoundTrip.AcceptedIsWritten|crates/packet_format/proofs/RoundTrip.antt:written-reads-back crates/packet_format/proofs/RoundTrip.antt:accepted-is-written
 2|packets, over the words that a caller passes|packet_words.ReadBack.WordsReadBack packet_words.ReadBack.AcceptedIsPacked|crates/packet_words/proofs/ReadBack.antt:words-read-back crates/packet_words/proofs/ReadBack.antt:accepted-is-packed
 2|packets, as C calls the functions|export_packets.RoundTrip.PackedIsFetched export_packets.RoundTrip.FetchedIsPacked|crates/export_packets/proofs/RoundTrip.antt:packed-is-fetched crates/export_packets/proofs/RoundTrip.antt:fetched-is-packed
@@ -30,12 +31,17 @@ count() { LC_ALL=C awk -v roots="$dir/roots" -v types="$dir/types" -v kit="$kit"
 
 case ${1-} in
 --read)
-    count -v mode=read -v row="${2-}"
+    row=${2-}
+    # a statement's name stands for its row
+    case $row in
+    *[!0-9]*) row=$(grep -nE "\.$row[ |]" "$dir/roots" | head -n 1 | cut -d: -f1) ;;
+    esac
+    count -v mode=read -v row="$row"
     exit
     ;;
 --write | '') ;;
 *)
-    echo "usage: sh tests/trust.sh [--write | --read ROW]"
+    echo "usage: sh tests/trust.sh [--write | --read ROW]   (ROW: a number, or a statement as Demand3)"
     exit 2
     ;;
 esac

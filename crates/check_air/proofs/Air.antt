@@ -36,8 +36,8 @@ use Rattle.export_numbers.specs.declared.numbers.CetskobiAnswer.{CetskobiAnswer
 use Rattle.export_numbers.specs.Crossing.{messageOut, answerOut}
 use Rattle.export_calls.specs.Calls.{nodeOf, Done}
 use Rattle.export_calls.specs.Part.{PartAt}
-use Rattle.export_outgoing.specs.Leaving.{Along, along, alongOf, AlongAt, Delivered}
-use Rattle.export_outgoing.proofs.Sent.{body-after}
+use Rattle.export_outgoing.specs.Leaving.{Along, along, alongOf, AlongAt}
+use Rattle.export_outgoing.proofs.Sent.{asked-body}
 use Rattle.export_arrival.specs.Arrival.{Arrived}
 use Rattle.check_air.specs.Air.{Sending, sevenOf, wordsSent, bodiesSent, Called, Packed, ThroughTheAir}
 
@@ -98,24 +98,6 @@ crosses me i n x (Accepted (Sent m d)) h e =
     }
 crosses me i n x (Refused k) h e = absurd (some-left x e)
 
--- the sender of the message that an event delivered
-someone : Event → ℕ
-someone Read = 0
-someone Write = 0
-someone Replay = 0
-someone (Deliver m) = m .sender
-someone Validate = 0
-someone Resend = 0
-
-from-someone : (e : Event) → Delivered e (someone e)
-unfolding someone
-from-someone Read = tt
-from-someone Write = tt
-from-someone Replay = tt
-from-someone (Deliver m) = refl
-from-someone Validate = tt
-from-someone Resend = tt
-
 -- the same of a call, by its contract
 module _ (x : Logged) (s : Sending) (c : Called x s) where
   abbrev n : Node
@@ -139,7 +121,7 @@ module _ (x : Logged) (s : Sending) (c : Called x s) where
   bytes-left =
       let left = leaving (sentBy (o .answer)) (o .node .table) (o .node .store) in
       let here : alongOf (c .table′) (c .store′) (s .index) (s .left) ≡ along left =
-      body-after n (s .index) (c .event) (c .value) (someone (c .event)) (from-someone (c .event)) (c .table) (s .left) (c .table′) (c .store′) (c .called) in
+      asked-body n (s .index) (c .event) (c .value) (c .table) (s .left) (c .table′) (c .store′) (c .called) in
       let part : PartAt (c .store′) (s .index) left (c .told) = subst (λ (a : Along). AlongAt (c .store′) (s .index) a (c .told)) here (c .asked) in
       c .copied ∙ part .part ∙ sym (crossed .body)
 

@@ -35,11 +35,12 @@ use Rattle.hermes_record.specs.Order.{sameTimestamp}
 use Rattle.hermes.specs.Node.{Outcome}
 use Rattle.hermes_record.proofs.Tests.{both}
 use Rattle.hermes_record.proofs.Order.{equal-same}
+use Rattle.hermes.proofs.Recipients.{who-gets}
 use Rattle.hermes.proofs.Guards.{slot-fits}
 use Rattle.hermes.proofs.Apply.{Applied, refused, accepted, applied, first-five, sound-step, stepOf, done}
 use Rattle.export_outgoing.specs.Leaving.{leftOf, fromSender, recipientsOf, Delivered, along, stampOf, holds, alongOf, AlongAt}
+use Rattle.export_outgoing.specs.Sent.{AskedWhoGets, AskedBody}
 use Rattle.export_calls.specs.Part.{PartAt}
-use Rattle.export_calls.specs.Calls.{Done}
 use Rattle.export_calls.proofs.Parts.{whole-part, no-part}
 
 -- ---- the kinds that the code tells apart
@@ -196,17 +197,35 @@ holding n i e v o (accepted y c p) =
     let f = first-five n i e v y in
     rw p (held (stepOf higher n i e v .sent) i (done n i (stepOf higher n i e v) .table) (done n i (stepOf higher n i e v) .store) (stepOf higher n i e v .after) (stamped (n .me) i (recordOf i n) v e) (c .here) (rw (c .count) (f .inside)) (sound-step higher n i e v y .after .short) (rw (c .room) (slot-fits f)))
 
-module _ (n : Node) (i : ℕ) (e : Event) (v : List ℕ) (sender : ℕ) (d : Delivered e sender) where
-  told : Tells (n .me) e sender i (apply higher n i e v .answer)
-  unfolding apply effect
-  told =
-      answers (n .me) i sender (refusal (n .me) (length (n .table)) (length (n .store)) i (recordOf i n) e (length v)) (recordOf i n) e (step higher (n .me) i (recordOf i n) e v) (steps (n .me) i sender (recordOf i n) e v d)
+told : (n : Node) (i : ℕ) (e : Event) (v : List ℕ) (sender : ℕ) → Delivered e sender → Tells (n .me) e sender i (apply higher n i e v .answer)
+unfolding apply effect
+told n i e v sender d =
+    answers (n .me) i sender (refusal (n .me) (length (n .table)) (length (n .store)) i (recordOf i n) e (length v)) (recordOf i n) e (step higher (n .me) i (recordOf i n) e v) (steps (n .me) i sender (recordOf i n) e v d)
 
-  module _ (before : List ℕ) (a : CetskobiAnswer) (bytes′ store′ : List ℕ) (d′ : Done n before i e v a bytes′ store′) where
-    -- cetskobi_recipients, asked with an event's answer, gives those who get what left it
-    pub recipients-after : recipientsOf (n .me) (a .kind) sender ≡ recipients (n .me) e (sentBy (apply higher n i e v .answer))
-    recipients-after = rw (d′ .answer) (told .0)
+-- the sender of the message that an event delivered
+someone : Event → ℕ
+someone Read = 0
+someone Write = 0
+someone Replay = 0
+someone (Deliver m) = m .sender
+someone Validate = 0
+someone Resend = 0
 
-    -- cetskobi_body, asked with an event's answer on the memory that the event left, gives the bytes that what left it takes along
-    pub body-after : alongOf bytes′ store′ i a ≡ along (leaving (sentBy (apply higher n i e v .answer)) (apply higher n i e v .node .table) (apply higher n i e v .node .store))
-    body-after = rw (d′ .answer, d′ .table, d′ .store, holding n i e v (apply higher n i e v) (applied higher n i e v)) (ap along (told .1 (apply higher n i e v .node .table) (apply higher n i e v .node .store)))
+from-someone : (e : Event) → Delivered e (someone e)
+unfolding someone
+from-someone Read = tt
+from-someone Write = tt
+from-someone Replay = tt
+from-someone (Deliver m) = refl
+from-someone Validate = tt
+from-someone Resend = tt
+
+pub asked-who-gets : AskedWhoGets
+asked-who-gets n i e v before a bytes′ store′ sender d′ d =
+    let same : recipientsOf (n .me) (a .kind) sender ≡ recipients (n .me) e (sentBy (apply higher n i e v .answer)) = rw (d′ .answer) (told n i e v sender d .0) in
+    rw same (who-gets higher n i e v)
+
+pub asked-body : AskedBody
+asked-body n i e v before a bytes′ store′ d′ =
+    rw (d′ .answer, d′ .table, d′ .store, holding n i e v (apply higher n i e v) (applied higher n i e v))
+    (ap along (told n i e v (someone e) (from-someone e) .1 (apply higher n i e v .node .table) (apply higher n i e v .node .store)))

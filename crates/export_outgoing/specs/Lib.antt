@@ -1,1 +1,3 @@
+-- What leaves an event, for a caller.
 pub mod Leaving
+pub mod Sent
