@@ -1,4 +1,5 @@
--- A morning of two laptops with one record each, as their callers make it: calls of every kind, some of them refused, that meet the premises of `CalledDemand3`.
+-- A morning of two laptops with one record each, as their callers make it: calls of every kind, some of them refused, that meet the premises
+-- of `CalledDemand3`.
 use Prim.Native.Nat.{ℕ}
 use mathlib.Core.Path.{_≡_}
 use mathlib.Core.Bool.{Bool}

@@ -17,5 +17,6 @@ fetchAnswer packet i = fetchedOut (fetched packet i)
 abbrev pub packAnswer : List ℕ → List ℕ → List ℕ → CetskobiWritten
 packAnswer messages bodies out = writtenOut (packed messages bodies (length out))
 
+-- and the output after it
 abbrev pub packOutput : List ℕ → List ℕ → List ℕ → List ℕ
 packOutput messages bodies out = outputOf (packed messages bodies (length out)) (wordMessages messages) bodies out

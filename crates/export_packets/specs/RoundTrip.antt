@@ -30,6 +30,7 @@ pub record Fetches (packet messages bodies : List ℕ) : Type 0 where
       → take (fetchAnswer packet k .len) (drop (fetchAnswer packet k .at) packet) ≡ take (word messages k 6) (drop (bodyFrom messages k) bodies)
   pub beyond : (k : ℕ) → manyIn messages ≤ k → fetchAnswer packet k .number ≡ 23
 
+-- "A packet written reads back as the same messages": whatever `cetskobi_pack` accepts, `cetskobi_fetch` gives again
 abbrev pub PackedIsFetched : Type 0
 PackedIsFetched = (messages bodies out : List ℕ) → Wide messages → packAnswer messages bodies out .number ≡ 0
     → Fetches (take (packAnswer messages bodies out .len) (packOutput messages bodies out)) messages bodies
@@ -50,6 +51,7 @@ pub record Repacks (packet out : List ℕ) : Type 0 where
   pub answer : packAnswer (wordsFrom (countOf packet) 0 packet) (bodiesIn packet) out ≡ record { number = 0; len = length packet }
   pub output : packOutput (wordsFrom (countOf packet) 0 packet) (bodiesIn packet) out ≡ packet ++ drop (length packet) out
 
+-- "an accepted packet is the one the writer makes of its messages": of any packet that `cetskobi_fetch` takes a message from
 abbrev pub FetchedIsPacked : Type 0
 FetchedIsPacked = (packet : List ℕ) (i : ℕ) (out : List ℕ) → Bytes packet → fetchAnswer packet i .number ≡ 0 → length packet ≤ length out
     → Repacks packet out

@@ -12,23 +12,28 @@ use Rattle.hermes.specs.Event.{numberOf}
 use Rattle.hermes.specs.Node.{Node, newcomer, start}
 use Rattle.hermes.specs.Run.{Action, read, write, replay, deliver, validate, resend, view, Entry, Group, Result, nothing, event, result, advance}
 
--- numbers 0, 1 and 2; all are in the first view, and 2 is struck off in every later one; memory as it may be found
+-- numbers 0, 1 and 2
 abbrev pub three : ℕ → Bool
 three k = ltb k 3
 
+-- all are in the first view, and 2 is struck off in every later one
 abbrev pub issued : ℕ → ℕ
 issued zero = 7
 issued (suc epoch) = 3
 
+-- memory as it may be found
 abbrev pub lentTable : List Record
 lentTable = freshRecord 9 ∷ []
 
+-- laptop k as its start leaves it there
 abbrev pub fresh : ℕ → Node
 fresh k = record { me = newcomer k 7; table = start k 7 lentTable (replicate 192 0) .table; store = start k 7 lentTable (replicate 192 0) .store }
 
+-- all of them, with nothing sent
 abbrev pub group : Group
 group = record { at = fresh; log = [] }
 
+-- laptop k does that
 abbrev pub by : ℕ → Action → Entry
 by k a = record { who = k; what = a }
 
@@ -38,11 +43,12 @@ played =
     by 0 (write 0 (65 ∷ 49 ∷ [])) ∷ by 1 (deliver 0) ∷ by 2 (deliver 0) ∷ by 0 (deliver 1) ∷ by 0 (deliver 2) ∷ by 0 (validate 0)
     ∷ by 1 (deliver 3) ∷ by 1 (read 0) ∷ by 2 (read 0) ∷ []
 
--- the numbers that a list of entries answers
+-- the number that an entry answers; an unknown log number is none
 abbrev pub told : Result → List ℕ
 told nothing = []
 told (event o) = numberOf (o .answer) ∷ []
 
+-- the numbers that a list of entries answers
 abbrev pub answers : Group → List Entry → List ℕ
 answers g [] = []
 answers g (a ∷ rest) = told (result higher g a) ++ answers (advance higher g a) rest
@@ -54,12 +60,15 @@ pub record Line : Type 0 where
   pub entry : Entry
   pub number : ℕ
 
+-- laptop k does that, and it is accepted
 abbrev pub accepts : ℕ → Action → Line
 accepts k a = record { entry = by k a; number = 0 }
 
+-- or refused, by that number
 abbrev pub refuses : ℕ → Action → ℕ → Line
 refuses k a number = record { entry = by k a; number = number }
 
+-- the entries of lines, and their numbers
 abbrev pub entriesOf : List Line → List Entry
 entriesOf [] = []
 entriesOf (x ∷ rest) = x .entry ∷ entriesOf rest
@@ -104,5 +113,6 @@ struckOff =
     ∷ accepts 1 (read 0)  -- A1
     ∷ []
 
+-- its entries
 abbrev pub story : List Entry
 story = entriesOf struckOff

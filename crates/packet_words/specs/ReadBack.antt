@@ -1,4 +1,5 @@
--- Demand 2 of packets, over the words that a caller passes: "A packet written reads back as the same messages, and an accepted packet is the one the writer makes of its messages."
+-- Demand 2 of packets, over the words that a caller passes: "A packet written reads back as the same messages, and an accepted packet
+-- is the one the writer makes of its messages."
 -- Here every word is named by its place, and no definition of the writer's stands between.
 use Prim.Native.Nat.{ℕ, zero, suc, _+_, _*_, _/_, _^_, _≤_, _<_}
 use mathlib.Core.Path.{_≡_}
