@@ -68,7 +68,7 @@ arrives l p i = (answerOut a, record { answer = refl; bytes = refl; table = go (
     go (fetch.Refused k) = refl
 
 -- a part as long as it is
-own-length : (n : ℕ) (xs : List ℕ) → take (length (take n xs)) xs ≡ take n xs
+pub own-length : (n : ℕ) (xs : List ℕ) → take (length (take n xs)) xs ≡ take n xs
 own-length zero xs = refl
 own-length (suc n) [] = refl
 own-length (suc n) (x ∷ xs) = ap (λ (l : List ℕ). x ∷ l) (own-length n xs)

@@ -176,7 +176,7 @@ admits : (a : Admission) (me : CetskobiReplica) → replicaOf (admissionOut a me
 admits (admission.Admitted x) me = refl
 admits (admission.Refused k) me = refl
 
-lands : (c : Call) (l l′ : Laptop) (number : ℕ) → Returns c l number l′ → node l′ ≡ outcome c (node l) .node
+pub lands : (c : Call) (l l′ : Laptop) (number : ℕ) → Returns c l number l′ → node l′ ≡ outcome c (node l) .node
 unfolding viewed receipt
 lands (read i) l l′ number (p, d, q, same) = ap node same ∙ sym (reads (node l) i)
 lands (write i v) l l′ number r = moves l l′ i Write v number r

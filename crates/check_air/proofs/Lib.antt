@@ -1,5 +1,6 @@
 -- What is proved of the statements in specs/.
 pub mod Air
 pub mod Callers
+pub mod Late
 pub mod Answered
 pub mod Morning
