@@ -217,10 +217,10 @@ CETSKOBI_MUST_USE
 struct cetskobi_admission cetskobi_start(uint8_t number, uint16_t view, uint8_t *table, size_t table_len, uint8_t *store, size_t store_len);
 
 /* What leaves: how many bytes at 192 times i the message takes along that left an event on record i; left is that event's answer. It is 0
- * unless left.kind is CETSKOBI_INV. It is CETSKOBI_GONE where the text is gone: record i no longer has left's timestamp, as after a newer
- * text came in; or it is not there, or not with at most 192 bytes and all of its room in the store. Then the message is to be dropped, as
- * if it were lost on air: the newer text must not leave under the older timestamp. No value has this length, and an entry of it makes no
- * packet (24). */
+ * unless left.kind is CETSKOBI_INV. Asked after more events on this table and store it still tells the text that left, or that it is gone.
+ * It is CETSKOBI_GONE where the text is gone: record i no longer has left's timestamp, as after a newer text came in; or it is not there,
+ * or not with at most 192 bytes and all of its room in the store. Then the message is to be dropped, as if it were lost on air: the newer
+ * text must not leave under the older timestamp. No value has this length, and an entry of it makes no packet (24). */
 #define CETSKOBI_GONE ((size_t)-1)
 CETSKOBI_MUST_USE
 size_t cetskobi_body(const uint8_t *table, size_t table_len, const uint8_t *store, size_t store_len, size_t i, struct cetskobi_answer left);
