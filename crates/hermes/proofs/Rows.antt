@@ -3,6 +3,7 @@ use mathlib.Core.Path.{_≡_, refl}
 use mathlib.Core.Bool.{Bool, true, _&&_}
 use mathlib.Core.List.{List, [], _∷_, List·Memᴰ}
 use lib.Dec.{eqb}
+use lib.ListN.{length}
 use borrow.Author.Tests.{eqb-true}
 use Rattle.hermes.specs.declared.message.Outgoing.the-variants.{None}
 use Rattle.hermes_record.specs.Members.{has, size, lowest, within, othersIn, with}
@@ -10,18 +11,21 @@ use Rattle.hermes_record.specs.Order.{later, sameTimestamp}
 use Rattle.hermes.specs.Store.{padded, place}
 use Rattle.hermes.specs.Event.{numberOf, sentBy, send, refusal, effect}
 use Rattle.hermes.specs.Node.{Node, Outcome, recordOf, apply, admit, start, view, viewed, admissionNumber}
-use Rattle.hermes.specs.Worked.{Claim, answers, leaves, stamps, acknowledgedBy, sends, silent, unchanged, Says, SaysAll, Row, row, asks, asksStart, asksView, Holds, before, outcome}
+use Rattle.hermes.specs.Worked.{Claim, answers, leaves, stamps, lastWriter, lastWrite, acknowledgedBy, holding, sends, silent, unchanged, storeOf, Says, SaysAll, Row, row, asks, asksStart, asksView, Holds, before, outcome}
 use Rattle.hermes.specs.Limits.{limits}
 use Rattle.hermes.specs.Rows.{unstarted, ringing, rows}
 use Rattle.hermes_record.proofs.Tests.{both}
-use Rattle.hermes.proofs.Coded.{same, same-sound, sameList, stateCode, timestampCode, recordCode, recordNumbers, replicaCode, messageNumbers, outgoingNumbers, outgoingCode, sameTable, sameNode, node-sound}
+use Rattle.hermes.proofs.Coded.{same, same-sound, sameList, list-sound, stateCode, timestampCode, recordCode, recordNumbers, replicaCode, messageNumbers, outgoingNumbers, outgoingCode, sameTable, sameNode, node-sound}
 use Rattle.hermes.proofs.Table.{passing, every}
 
 test : Claim → Node → Outcome → Bool
 test (answers k) n o = eqb (numberOf (o .answer)) k
 test (leaves s) n o = same stateCode (recordOf 0 (o .node) .state) s
 test (stamps v t) n o = same timestampCode (recordOf 0 (o .node) .timestamp) (record { version = v; tie = t })
+test (lastWriter k) n o = eqb (recordOf 0 (o .node) .writer) k
+test (lastWrite v t) n o = same timestampCode (recordOf 0 (o .node) .written) (record { version = v; tie = t })
 test (acknowledgedBy set) n o = eqb (recordOf 0 (o .node) .acks) set
+test (holding v) n o = eqb (recordOf 0 (o .node) .len) (length v) && sameList (o .node .store) (storeOf v)
 test (sends m) n o = same outgoingCode (sentBy (o .answer)) (send (n .me) 0 m)
 test silent n o = same outgoingCode (sentBy (o .answer)) None
 test unchanged n o = sameNode (o .node) n
@@ -31,7 +35,12 @@ unfolding test
 says (answers k) n o e = eqb-true _ k e
 says (leaves s) n o e = same-sound stateCode _ s e
 says (stamps v t) n o e = same-sound timestampCode _ _ e
+says (lastWriter k) n o e = eqb-true _ k e
+says (lastWrite v t) n o e = same-sound timestampCode _ _ e
 says (acknowledgedBy set) n o e = eqb-true _ set e
+says (holding v) n o e =
+    let (p, q) = both (eqb (recordOf 0 (o .node) .len) (length v)) _ e in
+    (eqb-true _ (length v) p, list-sound (o .node .store) (storeOf v) q)
 says (sends m) n o e = same-sound outgoingCode _ _ e
 says silent n o e = same-sound outgoingCode _ None e
 says unchanged n o e = node-sound (o .node) n e

@@ -9,7 +9,7 @@ use Rattle.hermes_record.specs.declared.record.State.the-variants as state
 use Rattle.hermes.specs.declared.event.Event.the-variants.{Read, Write, Replay, Deliver, Validate}
 use Rattle.hermes_record.specs.Record.{freshRecord}
 use Rattle.hermes.specs.Node.{Node, newcomer}
-use Rattle.hermes.specs.Worked.{Deed, starts, lays, does, turns, answers, leaves, stamps, acknowledgedBy, sends, silent, unchanged, Row, row}
+use Rattle.hermes.specs.Worked.{Deed, starts, lays, does, turns, answers, leaves, stamps, lastWriter, lastWrite, acknowledgedBy, holding, sends, silent, unchanged, Row, row}
 use Rattle.hermes.specs.Limits.{limits}
 
 -- the laptop before its start: one record, and memory that holds something else
@@ -20,9 +20,16 @@ unstarted = record { me = newcomer 9 0; table = freshRecord 9 ∷ []; store = re
 abbrev group : ℕ
 group = 38
 
+-- the value that an INV brings, and the one that is saved
+abbrev brought : List ℕ
+brought = 65 ∷ []
+
+abbrev saved : List ℕ
+saved = 66 ∷ 49 ∷ []
+
 -- a message of that kind and timestamp, from a sender at an epoch
 abbrev inv : ℕ → ℕ → ℕ → ℕ → Deed
-inv v t from e = does (Deliver (record { sender = from; epoch = e; message = Inv (record { version = v; tie = t }) })) (65 ∷ [])
+inv v t from e = does (Deliver (record { sender = from; epoch = e; message = Inv (record { version = v; tie = t }) })) brought
 
 abbrev ack : ℕ → ℕ → ℕ → ℕ → Deed
 ack v t from e = does (Deliver (record { sender = from; epoch = e; message = Ack (record { version = v; tie = t }) })) []
@@ -31,7 +38,10 @@ abbrev val : ℕ → ℕ → ℕ → ℕ → Deed
 val v t from e = does (Deliver (record { sender = from; epoch = e; message = Val (record { version = v; tie = t }) })) []
 
 abbrev save : Deed
-save = does Write (66 ∷ 49 ∷ [])
+save = does Write saved
+
+abbrev invOf : ℕ → ℕ → Message
+invOf v t = Inv (record { version = v; tie = t })
 
 abbrev ackOf : ℕ → ℕ → Message
 ackOf v t = Ack (record { version = v; tie = t })
@@ -55,26 +65,33 @@ replaying = record {
 unfoldable pub ringing : List Row
 ringing =
     -- fresh: (0,1), valid
-    row [] (starts 2 group) (answers 0 ∷ leaves state.Valid ∷ stamps 0 1 ∷ acknowledgedBy 0 ∷ silent ∷ [])
+    row [] (starts 2 group) (answers 0 ∷ leaves state.Valid ∷ stamps 0 1 ∷ lastWriter 1 ∷ lastWrite 0 1 ∷ acknowledgedBy 0 ∷ holding [] ∷ silent ∷ [])
     -- write: (1,2), state write
-    ∷ row (fresh []) save (answers 0 ∷ leaves state.Write ∷ stamps 1 2 ∷ acknowledgedBy 0 ∷ sends (Inv (record { version = 1; tie = 2 })) ∷ [])
+    ∷ row (fresh []) save (answers 0 ∷ leaves state.Write ∷ stamps 1 2 ∷ lastWriter 2 ∷ lastWrite 1 2 ∷ acknowledgedBy 0 ∷ holding saved ∷ sends (invOf 1 2) ∷ [])
+    -- no row of the paper: after a finished one a write of 1 byte, which empties the acknowledgements and leaves none of the 2 bytes
+    ∷ row (fresh (save ∷ ack 1 2 1 0 ∷ ack 1 2 5 0 ∷ does Validate [] ∷ [])) (does Write (67 ∷ [])) (answers 0 ∷ leaves state.Write ∷ stamps 2 2 ∷ lastWriter 2 ∷ lastWrite 2 2 ∷ acknowledgedBy 0 ∷ holding (67 ∷ []) ∷ sends (invOf 2 2) ∷ [])
     -- write at (1,2), INV (1,5): invalid-write (1,5)
-    ∷ row (fresh (save ∷ [])) (inv 1 5 5 0) (answers 0 ∷ leaves state.InvalidWrite ∷ stamps 1 5 ∷ sends (ackOf 1 5) ∷ [])
+    ∷ row (fresh (save ∷ [])) (inv 1 5 5 0) (answers 0 ∷ leaves state.InvalidWrite ∷ stamps 1 5 ∷ lastWriter 5 ∷ lastWrite 1 2 ∷ acknowledgedBy 0 ∷ holding brought ∷ sends (ackOf 1 5) ∷ [])
     -- same, INV (1,1): ACK leaves, record unchanged
     ∷ row (fresh (save ∷ [])) (inv 1 1 1 0) (answers 0 ∷ sends (ackOf 1 1) ∷ unchanged ∷ [])
+    -- no rows of the paper: the other states that an INV finds; in the last 5's save comes from 1, which replays it: the last writer is the sender
+    ∷ row (fresh []) (inv 1 5 5 0) (answers 0 ∷ leaves state.Invalid ∷ stamps 1 5 ∷ lastWriter 5 ∷ lastWrite 0 1 ∷ acknowledgedBy 0 ∷ holding brought ∷ sends (ackOf 1 5) ∷ [])
+    ∷ row (fresh (inv 1 5 5 0 ∷ [])) (inv 2 5 5 0) (answers 0 ∷ leaves state.Invalid ∷ stamps 2 5 ∷ lastWriter 5 ∷ lastWrite 0 1 ∷ acknowledgedBy 0 ∷ holding brought ∷ sends (ackOf 2 5) ∷ [])
+    ∷ row (fresh (save ∷ ack 1 2 1 0 ∷ inv 1 5 5 0 ∷ [])) (inv 2 5 1 0) (answers 0 ∷ leaves state.InvalidWrite ∷ stamps 2 5 ∷ lastWriter 1 ∷ lastWrite 1 2 ∷ acknowledgedBy 2 ∷ holding brought ∷ sends (ackOf 2 5) ∷ [])
     -- replay at (1,5), INV (2,1): invalid
-    ∷ row (fresh (lays replaying (65 ∷ []) ∷ [])) (inv 2 1 1 0) (answers 0 ∷ leaves state.Invalid ∷ stamps 2 1 ∷ sends (ackOf 2 1) ∷ [])
-    -- no row of the paper: how an event leads there, once a view is without 5
-    ∷ row (fresh (inv 1 5 5 0 ∷ turns 1 6 ∷ [])) (does Replay []) (answers 0 ∷ leaves state.Replay ∷ stamps 1 5 ∷ sends (Inv (record { version = 1; tie = 5 })) ∷ [])
+    ∷ row (fresh (lays replaying (66 ∷ []) ∷ [])) (inv 2 1 1 0) (answers 0 ∷ leaves state.Invalid ∷ stamps 2 1 ∷ lastWriter 1 ∷ lastWrite 1 5 ∷ acknowledgedBy 0 ∷ holding brought ∷ sends (ackOf 2 1) ∷ [])
+    -- no rows of the paper: how an event leads there, once a view is without 5; a replay empties the acknowledgements
+    ∷ row (fresh (inv 1 5 5 0 ∷ turns 1 6 ∷ [])) (does Replay []) (answers 0 ∷ leaves state.Replay ∷ stamps 1 5 ∷ lastWriter 2 ∷ lastWrite 1 5 ∷ acknowledgedBy 0 ∷ holding brought ∷ sends (invOf 1 5) ∷ [])
+    ∷ row (fresh (save ∷ ack 1 2 1 0 ∷ inv 1 5 5 0 ∷ val 1 5 5 0 ∷ inv 2 5 5 0 ∷ turns 1 6 ∷ [])) (does Replay []) (answers 0 ∷ leaves state.Replay ∷ stamps 2 5 ∷ lastWriter 2 ∷ lastWrite 2 5 ∷ acknowledgedBy 0 ∷ holding brought ∷ sends (invOf 2 5) ∷ [])
     -- ACK (1,2) from 5: counted; a second time: 13
-    ∷ row (fresh (save ∷ [])) (ack 1 2 5 0) (answers 0 ∷ leaves state.Write ∷ acknowledgedBy 32 ∷ silent ∷ [])
+    ∷ row (fresh (save ∷ [])) (ack 1 2 5 0) (answers 0 ∷ leaves state.Write ∷ stamps 1 2 ∷ lastWriter 2 ∷ lastWrite 1 2 ∷ acknowledgedBy 32 ∷ holding saved ∷ silent ∷ [])
     ∷ row (fresh (save ∷ ack 1 2 5 0 ∷ [])) (ack 1 2 5 0) (answers 13 ∷ unchanged ∷ silent ∷ [])
     -- invalid-write (1,5): VAL (1,5) valid, VAL (1,2) 14
-    ∷ row (fresh (save ∷ inv 1 5 5 0 ∷ [])) (val 1 5 5 0) (answers 0 ∷ leaves state.Valid ∷ stamps 1 5 ∷ silent ∷ [])
+    ∷ row (fresh (save ∷ inv 1 5 5 0 ∷ [])) (val 1 5 5 0) (answers 0 ∷ leaves state.Valid ∷ stamps 1 5 ∷ lastWriter 5 ∷ lastWrite 1 2 ∷ acknowledgedBy 0 ∷ holding brought ∷ silent ∷ [])
     ∷ row (fresh (save ∷ inv 1 5 5 0 ∷ [])) (val 1 2 5 0) (answers 14 ∷ unchanged ∷ silent ∷ [])
     -- write, acknowledged by 1: validate 15; after view {1,2}, epoch 1, accepted
     ∷ row (fresh (save ∷ ack 1 2 1 0 ∷ [])) (does Validate []) (answers 15 ∷ unchanged ∷ silent ∷ [])
-    ∷ row (fresh (save ∷ ack 1 2 1 0 ∷ turns 1 6 ∷ [])) (does Validate []) (answers 0 ∷ leaves state.Valid ∷ stamps 1 2 ∷ acknowledgedBy 2 ∷ sends (Val (record { version = 1; tie = 2 })) ∷ [])
+    ∷ row (fresh (save ∷ ack 1 2 1 0 ∷ turns 1 6 ∷ [])) (does Validate []) (answers 0 ∷ leaves state.Valid ∷ stamps 1 2 ∷ lastWriter 2 ∷ lastWrite 1 2 ∷ acknowledgedBy 2 ∷ holding saved ∷ sends (Val (record { version = 1; tie = 2 })) ∷ [])
     -- write at version 4,294,967,294 accepted, at 4,294,967,295: 9
     ∷ row (fresh (inv 4294967294 5 5 0 ∷ [])) save (answers 0 ∷ leaves state.Write ∷ stamps 4294967295 2 ∷ [])
     ∷ row (fresh (inv 4294967295 5 5 0 ∷ [])) save (answers 9 ∷ unchanged ∷ silent ∷ [])

@@ -1,8 +1,8 @@
 -- What a worked row is, and what it says of the definitions.
-use Prim.Native.Nat.{ℕ}
+use Prim.Native.Nat.{ℕ, _-_}
 use mathlib.Core.Path.{_≡_}
-use mathlib.Core.List.{List, [], _∷_}
-use lib.ListN.{set}
+use mathlib.Core.List.{List, [], _∷_, _++_}
+use lib.ListN.{length, set, replicate}
 use Rattle.hermes_record.specs.declared.record.Record.{Record}
 use Rattle.hermes_record.specs.declared.record.State.{State}
 use Rattle.hermes.specs.declared.message.Message.{Message}
@@ -49,17 +49,28 @@ pub data Claim : Type 0 where
   answers : ℕ → Claim
   leaves : State → Claim
   stamps : ℕ → ℕ → Claim
+  lastWriter : ℕ → Claim
+  lastWrite : ℕ → ℕ → Claim
   acknowledgedBy : ℕ → Claim
+  -- the value, and with it its length
+  holding : List ℕ → Claim
   sends : Message → Claim
   silent : Claim
   unchanged : Claim
+
+-- 01, "A record's value holds 0 to 192 bytes; the rest of its 192 is zero": the store of one record with this value
+abbrev pub storeOf : List ℕ → List ℕ
+storeOf v = v ++ replicate (192 - length v) 0
 
 -- the claim, of the laptop n before the deed and the outcome o
 abbrev pub Says : Claim → Node → Outcome → Type 0
 Says (answers k) n o = numberOf (o .answer) ≡ k
 Says (leaves s) n o = recordOf 0 (o .node) .state ≡ s
 Says (stamps v t) n o = recordOf 0 (o .node) .timestamp ≡ record { version = v; tie = t }
+Says (lastWriter k) n o = recordOf 0 (o .node) .writer ≡ k
+Says (lastWrite v t) n o = recordOf 0 (o .node) .written ≡ record { version = v; tie = t }
 Says (acknowledgedBy set) n o = recordOf 0 (o .node) .acks ≡ set
+Says (holding v) n o = (recordOf 0 (o .node) .len ≡ length v) × (o .node .store ≡ storeOf v)
 Says (sends m) n o = sentBy (o .answer) ≡ send (n .me) 0 m
 Says silent n o = sentBy (o .answer) ≡ None
 Says unchanged n o = o .node ≡ n
