@@ -1,7 +1,7 @@
 -- The number that each of questions 1 to 19 answers, with both sides of every limit in it and the order in which they are asked.
 -- The last number of a row is the answer.
 use Prim.Native.Nat.{ℕ, _+_, _*_, _^_}
-use mathlib.Core.List.{List, [], _∷_}
+use mathlib.Core.List.{List, [], _∷_, _++_, map}
 use Rattle.hermes_record.specs.declared.timestamp.Timestamp.{Timestamp}
 use Rattle.hermes_record.specs.declared.record.Record.{Record}
 use Rattle.hermes_record.specs.declared.record.State.{State}
@@ -82,30 +82,67 @@ ack v t = Ack (stamp v t)
 abbrev val : ℕ → ℕ → Message
 val v t = Val (stamp v t)
 
--- any laptop reads its one record, valid and sound
-abbrev readBy : Replica → ℕ → Row
-readBy me k = asks me 1 192 0 (sound state.Valid) Read 0 k
+-- ---- one of each event, with all that its own questions ask
 
--- laptop 2, lent so many records and bytes, reads record 0
-abbrev lentTo : ℕ → ℕ → ℕ → Row
-lentTo count bytes k = asks two count bytes 0 (sound state.Valid) Read 0 k
+-- the event, by its record's stamp and last-write stamp; the record's state and who has acknowledged; how many bytes come with it
+pub record Sample : Type 0 where
+  pub event : Timestamp → Timestamp → Event
+  pub state : State
+  pub counted : List ℕ
+  pub bytes : ℕ
 
--- laptop 2 reads record i of so many
-abbrev readsAt : ℕ → ℕ → ℕ → Row
-readsAt i count k = asks two count (192 * count) i (sound state.Valid) Read 0 k
+abbrev sample : (Timestamp → Timestamp → Event) → State → List ℕ → ℕ → Sample
+sample e s ks n = record { event = e; state = s; counted = ks; bytes = n }
+
+abbrev from5 : Message → Event
+from5 m = Deliver (record { sender = 5; epoch = 7; message = m })
+
+abbrev samples : List Sample
+samples =
+    sample (λ t w. Read) state.Valid [] 0
+    ∷ sample (λ t w. Write) state.Valid [] 10
+    ∷ sample (λ t w. from5 (inv 6 5)) state.Valid [] 10
+    ∷ sample (λ t w. from5 (Ack w)) state.Write [] 0
+    ∷ sample (λ t w. from5 (Val t)) state.Invalid [] 0
+    ∷ sample (λ t w. Validate) state.Write (1 ∷ 5 ∷ []) 0
+    ∷ sample (λ t w. Replay) state.Invalid [] 0
+    ∷ sample (λ t w. Resend) state.Write [] 0
+    ∷ []
+
+-- every event asks: the laptop, its count of records and bytes of store; of the record its number, stamp, last writer, last-write stamp, who
+-- has acknowledged beside those that the event needs, and length
+abbrev every : Replica → ℕ → ℕ → ℕ → Timestamp → ℕ → Timestamp → List ℕ → ℕ → ℕ → List Row
+every me count bytes i t writer w ks len k =
+    map (λ s. asks me count bytes i (held (s .state) t writer w (set (s .counted ++ ks)) len) (s .event t w) (s .bytes) k) samples
+
+-- by any laptop, of its one record, 3's save
+abbrev everyBy : Replica → ℕ → List Row
+everyBy me k = every me 1 192 0 (stamp 4 5) 3 (stamp 3 2) [] 10 k
+
+-- by laptop 2, lent so many records and bytes, of record 0
+abbrev everyLent : ℕ → ℕ → ℕ → List Row
+everyLent count bytes k = every two count bytes 0 (stamp 4 5) 3 (stamp 3 2) [] 10 k
+
+-- by laptop 2, of record i of so many
+abbrev everyAt : ℕ → ℕ → ℕ → List Row
+everyAt i count k = every two count (192 * count) i (stamp 4 5) 3 (stamp 3 2) [] 10 k
+
+-- by laptop 2, of its one record: stamp, last writer, last-write stamp, further acknowledgements, length
+abbrev everyOf : Timestamp → ℕ → Timestamp → List ℕ → ℕ → ℕ → List Row
+everyOf t writer w ks len k = every two 1 192 0 t writer w ks len k
 
 -- ---- the rows
 
 unfoldable pub limits : List Row
 limits =
     -- 1: is the number at most 15, with at least two laptops counted in the view?
-    readBy (laptop 15 (set (14 ∷ 15 ∷ []))) 0
-    ∷ readBy (laptop 16 (set (14 ∷ 15 ∷ []))) 1
-    ∷ readBy (laptop 2 (set (1 ∷ 2 ∷ []))) 0
-    ∷ readBy (laptop 2 (set (2 ∷ []))) 1
-    ∷ readBy (laptop 2 (set [])) 1
-    ∷ readBy (laptop 2 (set (2 ∷ 16 ∷ 17 ∷ []))) 1
-    ∷ asksStart 15 (set (14 ∷ 15 ∷ [])) 1 192 0
+    everyBy (laptop 15 (set (5 ∷ 15 ∷ []))) 0
+    ++ everyBy (laptop 16 (set (5 ∷ 15 ∷ []))) 1
+    ++ everyBy (laptop 2 (set (2 ∷ 5 ∷ []))) 0
+    ++ everyBy (laptop 2 (set (2 ∷ []))) 1
+    ++ everyBy (laptop 2 (set [])) 1
+    ++ everyBy (laptop 2 (set (2 ∷ 16 ∷ 17 ∷ []))) 1
+    ++ asksStart 15 (set (14 ∷ 15 ∷ [])) 1 192 0
     ∷ asksStart 16 (set (14 ∷ 15 ∷ [])) 1 192 1
     ∷ asksStart 2 (set (1 ∷ 2 ∷ [])) 1 192 0
     ∷ asksStart 2 (set (2 ∷ [])) 1 192 1
@@ -113,44 +150,44 @@ limits =
     ∷ asksView (laptop 16 (set (14 ∷ 15 ∷ []))) 8 (set (14 ∷ 15 ∷ [])) 1
     ∷ asksView (laptop 2 (set (2 ∷ []))) 8 (set (2 ∷ [])) 1
     -- 2: are there 1 to 4,096 records, and 192 store bytes for each exactly?
-    ∷ lentTo 0 0 2
-    ∷ lentTo 0 192 2
-    ∷ lentTo 1 191 2
-    ∷ lentTo 1 192 0
-    ∷ lentTo 1 193 2
-    ∷ lentTo 2 384 0
-    ∷ lentTo 4096 786431 2
-    ∷ lentTo 4096 786432 0
-    ∷ lentTo 4096 786433 2
-    ∷ lentTo 4097 786624 2
-    ∷ asksStart 2 group 0 0 2
+    ∷ everyLent 0 0 2
+    ++ everyLent 0 192 2
+    ++ everyLent 1 191 2
+    ++ everyLent 1 192 0
+    ++ everyLent 1 193 2
+    ++ everyLent 2 384 0
+    ++ everyLent 4096 786431 2
+    ++ everyLent 4096 786432 0
+    ++ everyLent 4096 786433 2
+    ++ everyLent 4097 786624 2
+    ++ asksStart 2 group 0 0 2
     ∷ asksStart 2 group 1 191 2
     ∷ asksStart 2 group 1 193 2
     ∷ asksStart 2 group 4096 786432 0
     ∷ asksStart 2 group 4097 786624 2
     -- 3: is the laptop in its own view?
-    ∷ readBy (laptop 2 (set (1 ∷ 5 ∷ []))) 3
-    ∷ readBy (laptop 5 (set (1 ∷ 5 ∷ []))) 0
-    ∷ asksStart 2 (set (1 ∷ 5 ∷ [])) 1 192 3
+    ∷ everyBy (laptop 2 (set (1 ∷ 5 ∷ []))) 3
+    ++ everyBy two 0
+    ++ asksStart 2 (set (1 ∷ 5 ∷ [])) 1 192 3
     ∷ asksView (laptop 2 (set (1 ∷ 5 ∷ []))) 8 (set (1 ∷ 5 ∷ [])) 3
     -- 4: is the record number below the count?
-    ∷ readsAt 0 1 0
-    ∷ readsAt 1 1 4
-    ∷ readsAt 4095 4096 0
-    ∷ readsAt 4096 4096 4
+    ∷ everyAt 0 1 0
+    ++ everyAt 1 1 4
+    ++ everyAt 4095 4096 0
+    ++ everyAt 4096 4096 4
     -- 5: is that record sound: length at most 192, tie-breakers and last writer at most 15, own number not among the acknowledgements?
-    ∷ reads (held state.Valid (stamp 4 5) 5 (stamp 3 2) 0 192) 0
-    ∷ reads (held state.Valid (stamp 4 5) 5 (stamp 3 2) 0 193) 5
-    ∷ reads (held state.Valid (stamp 4 15) 5 (stamp 3 2) 0 10) 0
-    ∷ reads (held state.Valid (stamp 4 16) 5 (stamp 3 2) 0 10) 5
-    ∷ reads (held state.Valid (stamp 4 5) 15 (stamp 3 2) 0 10) 0
-    ∷ reads (held state.Valid (stamp 4 5) 16 (stamp 3 2) 0 10) 5
-    ∷ reads (held state.Valid (stamp 4 5) 5 (stamp 3 15) 0 10) 0
-    ∷ reads (held state.Valid (stamp 4 5) 5 (stamp 3 16) 0 10) 5
-    ∷ reads (countedBy (0 ∷ 1 ∷ 3 ∷ 15 ∷ []) state.Valid) 0
-    ∷ reads (countedBy (2 ∷ []) state.Valid) 5
+    ++ everyOf (stamp 4 5) 3 (stamp 3 2) [] 192 0
+    ++ everyOf (stamp 4 5) 3 (stamp 3 2) [] 193 5
+    ++ everyOf (stamp 4 15) 3 (stamp 3 2) [] 10 0
+    ++ everyOf (stamp 4 16) 3 (stamp 3 2) [] 10 5
+    ++ everyOf (stamp 4 5) 15 (stamp 3 2) [] 10 0
+    ++ everyOf (stamp 4 5) 16 (stamp 3 2) [] 10 5
+    ++ everyOf (stamp 4 5) 3 (stamp 3 15) [] 10 0
+    ++ everyOf (stamp 4 5) 3 (stamp 3 16) [] 10 5
+    ++ everyOf (stamp 4 5) 3 (stamp 3 2) (0 ∷ 3 ∷ 15 ∷ []) 10 0
+    ++ everyOf (stamp 4 5) 3 (stamp 3 2) (2 ∷ []) 10 5
     -- 6: valid?
-    ∷ reads (sound state.Valid) 0
+    ++ reads (sound state.Valid) 0
     ∷ reads (sound state.Invalid) 6
     ∷ reads (sound state.InvalidWrite) 6
     ∷ reads (sound state.Write) 6
@@ -239,7 +276,11 @@ limits =
     ∷ event Validate (countedBy (5 ∷ []) state.Write) 0 15
     ∷ event Validate (countedBy (1 ∷ 3 ∷ []) state.Write) 0 15
     ∷ event Validate (countedBy (1 ∷ 3 ∷ 5 ∷ []) state.Write) 0 0
+    ∷ event Validate (countedBy [] state.Replay) 0 15
+    ∷ event Validate (countedBy (1 ∷ []) state.Replay) 0 15
+    ∷ event Validate (countedBy (5 ∷ []) state.Replay) 0 15
     ∷ asks (laptop 2 (set (1 ∷ 2 ∷ []))) 1 192 0 (countedBy (1 ∷ []) state.Write) Validate 0 0
+    ∷ asks (laptop 2 (set (1 ∷ 2 ∷ []))) 1 192 0 (countedBy (1 ∷ []) state.Replay) Validate 0 0
     -- 16: state invalid, and last writer not in the view?
     ∷ event Replay (lastBy 3 state.Valid) 0 16
     ∷ event Replay (lastBy 3 state.Invalid) 0 0
@@ -268,11 +309,11 @@ limits =
     ∷ asksView two 8 (set (2 ∷ [])) 19
     ∷ asksView two 8 (set []) 19
     -- where two questions say no, the first of them answers
-    ∷ asks (laptop 16 0) 0 0 0 (sound state.Valid) Read 0 1
-    ∷ asks (laptop 2 (set (1 ∷ 5 ∷ []))) 0 0 0 (sound state.Valid) Read 0 2
-    ∷ asks (laptop 2 (set (1 ∷ 5 ∷ []))) 1 192 1 (sound state.Valid) Read 0 3
-    ∷ asks two 1 192 1 (unsound state.Valid) Read 0 4
-    ∷ reads (unsound state.Invalid) 5
+    ∷ every (laptop 16 0) 0 0 0 (stamp 4 5) 3 (stamp 3 2) [] 10 1
+    ++ every (laptop 2 (set (1 ∷ 5 ∷ []))) 0 0 0 (stamp 4 5) 3 (stamp 3 2) [] 10 2
+    ++ every (laptop 2 (set (1 ∷ 5 ∷ []))) 1 192 1 (stamp 4 5) 3 (stamp 3 2) [] 10 3
+    ++ every two 1 192 1 (stamp 4 5) 3 (stamp 3 2) [] 193 4
+    ++ reads (unsound state.Invalid) 5
     ∷ writes (unsound state.Write) 10 5
     ∷ hears (unsound state.Valid) 5 6 (inv 6 5) 10 5
     ∷ event Validate (unsound state.Valid) 0 5
