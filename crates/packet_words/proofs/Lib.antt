@@ -2,3 +2,4 @@ pub mod Places
 pub mod Fit
 pub mod Refusing
 pub mod ReadBack
+pub mod Rows

@@ -1,3 +1,4 @@
 -- How messages cross as words.
 pub mod Words
 pub mod ReadBack
+pub mod Rows
