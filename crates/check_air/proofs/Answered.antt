@@ -1,7 +1,8 @@
--- Every call on every laptop has its answer.
+-- Every call may follow, and on every laptop has its answer.
 use Prim.Native.Nat.{ℕ, zero, suc, _*_, _<_}
 use mathlib.Core.Path.{_≡_, refl, sym, ap, _∙_}
 use mathlib.Core.List.{List, [], _∷_}
+use mathlib.Core.Logic.{inl, inr}
 use native.Mathlib.Omega.{arith}
 use native.Mathlib.Decide.{decLt}
 use lib.ListN.{length, take, drop}
@@ -30,7 +31,7 @@ use Rattle.export_storing.proofs.Table.{settled-table, settled-nowhere, settled
 use Rattle.export_numbers.specs.Crossing.{replicaOf, identityOf, answerOut, admissionOut, receivedIn}
 use Rattle.export_arrival.specs.Arrival.{bytesArrived}
 use Rattle.check_air.specs.Callers.{Laptop, node, read, write, replay, deliver, deliverPacket, validate, resend, view, Moves, Returns}
-use Rattle.check_air.specs.Answered.{callNumber, afterEvent, afterCall, EveryCallAnswers}
+use Rattle.check_air.specs.Answered.{callNumber, afterEvent, afterCall, EveryCallMayFollow, EveryCallAnswers}
 use Rattle.check_air.proofs.Callers.{number-out}
 
 -- the bytes after an event hold the table after it
@@ -110,3 +111,17 @@ every-call-answers (deliverPacket p i) l = arrives l p i
 every-call-answers (validate i) l = moves l i Validate []
 every-call-answers (resend i) l = moves l i Resend []
 every-call-answers (view epoch set) l = views l epoch set
+
+pub every-call-may-follow : EveryCallMayFollow
+every-call-may-follow issued log = record {
+  reads = λ i. tt;
+  writes = λ i v. tt;
+  replays = λ i. tt;
+  deliveries = λ i m v h. inl h;
+  unknowns = λ i m v h. inr h;
+  packets = λ p i h. inl h;
+  broken = λ p i h. inr h;
+  validations = λ i. tt;
+  resends = λ i. tt;
+  views = λ epoch. refl;
+}

@@ -1,18 +1,23 @@
--- Every call on every laptop has its answer: `Returns` of `Callers` can be met, and this is by what.
+-- Every call may follow, and on every laptop has its answer: `Fair` and `Returns` of `Callers` can be met, and this is by what.
 use Prim.Native.Nat.{ℕ}
+use mathlib.Core.Path.{_≡_}
+use mathlib.Core.Bool.{false}
 use mathlib.Core.List.{List, []}
 use Rattle.hermes.specs.declared.event.Event.{Event}
 use Rattle.hermes.specs.declared.event.Event.the-variants.{Write, Replay, Deliver, Validate, Resend}
 use Rattle.hermes_record.specs.Order.{higher}
+use Rattle.hermes.specs.Kind.{known}
 use Rattle.hermes.specs.Event as event
 use Rattle.hermes.specs.Node as hermes
 use Rattle.hermes.specs.Node.{apply, effectOf, identity}
+use Rattle.hermes.specs.Run.{Logged}
 use Rattle.packet_format.specs.Reading.{fetched}
 use Rattle.packet_event.specs.Arrival.{receipt}
 use Rattle.export_storing.specs.Storing.{bytesAfter}
+use Rattle.export_numbers.specs.declared.numbers.CetskobiMessage.{CetskobiMessage}
 use Rattle.export_numbers.specs.Crossing.{replicaOf, identityOf, receivedIn}
 use Rattle.export_arrival.specs.Arrival.{bytesArrived}
-use Rattle.check_air.specs.Callers.{Laptop, node, Call, read, write, replay, deliver, deliverPacket, validate, resend, view, Returns, outcome}
+use Rattle.check_air.specs.Callers.{Laptop, node, Call, read, write, replay, deliver, deliverPacket, validate, resend, view, Returns, outcome, FromAir, Broken, AsNumbers, Fair}
 
 -- the number of the answer
 abbrev pub callNumber : Call → Laptop → ℕ
@@ -44,6 +49,23 @@ afterCall (view epoch set) l = record {
   table = l .table;
   store = l .store;
 }
+
+-- no call is forbidden that document 01 allows: after any messages every call may follow, a delivery of what left or of what is refused for
+-- itself, a view as it is issued
+pub record AnyCall (issued : ℕ → ℕ) (log : List Logged) : Type 0 where
+  pub reads : (i : ℕ) → Fair issued log (read i)
+  pub writes : (i : ℕ) (v : List ℕ) → Fair issued log (write i v)
+  pub replays : (i : ℕ) → Fair issued log (replay i)
+  pub deliveries : (i : ℕ) (m : CetskobiMessage) (v : List ℕ) → AsNumbers log i m v → Fair issued log (deliver i m v)
+  pub unknowns : (i : ℕ) (m : CetskobiMessage) (v : List ℕ) → known (m .kind) ≡ false → Fair issued log (deliver i m v)
+  pub packets : (p : List ℕ) (i : ℕ) → FromAir log p i → Fair issued log (deliverPacket p i)
+  pub broken : (p : List ℕ) (i : ℕ) → Broken p i → Fair issued log (deliverPacket p i)
+  pub validations : (i : ℕ) → Fair issued log (validate i)
+  pub resends : (i : ℕ) → Fair issued log (resend i)
+  pub views : (epoch : ℕ) → Fair issued log (view epoch (issued epoch))
+
+abbrev pub EveryCallMayFollow : Type 0
+EveryCallMayFollow = (issued : ℕ → ℕ) (log : List Logged) → AnyCall issued log
 
 -- every call on every laptop is answered with that number, and leaves that laptop
 abbrev pub EveryCallAnswers : Type 0

@@ -1,5 +1,5 @@
 -- Equality as a test: by numbers that stand for a thing and from which it can be had back.
-use Prim.Native.Nat.{ℕ, zero, suc}
+use Prim.Native.Nat.{ℕ}
 use mathlib.Core.Path.{_≡_, refl, sym, ap, ap₂, _∙_}
 use mathlib.Core.Bool.{Bool, true, false, _&&_, false≢true}
 use mathlib.Core.List.{List, [], _∷_}
@@ -10,7 +10,8 @@ use Rattle.hermes_record.specs.declared.timestamp.Timestamp.{Timestamp}
 use Rattle.hermes_record.specs.declared.record.Record.{Record}
 use Rattle.hermes_record.specs.declared.record.State.{State}
 use Rattle.hermes.specs.declared.message.Message.{Message}
-use Rattle.hermes.specs.declared.message.Message.the-variants.{Inv, Ack, Val}
+use Rattle.hermes.specs.Kind.{kindOf, timestampOf, messageOf}
+use Rattle.hermes.proofs.Kind.{message-back}
 use Rattle.hermes.specs.declared.message.Outgoing.{Outgoing}
 use Rattle.hermes.specs.declared.message.Outgoing.the-variants.{None, Sent}
 use Rattle.hermes.specs.declared.event.Replica.{Replica}
@@ -76,15 +77,7 @@ unfoldable pub replicaCode : Coded Replica
 replicaCode = record { numbers = λ m. m .number ∷ m .epoch ∷ m .view ∷ []; back = λ l. record { number = getD l 0 0; epoch = getD l 1 0; view = getD l 2 0 }; had = λ m. refl }
 
 unfoldable pub messageNumbers : Message → List ℕ
-messageNumbers (Inv t) = 1 ∷ t .version ∷ t .tie ∷ []
-messageNumbers (Ack t) = 2 ∷ t .version ∷ t .tie ∷ []
-messageNumbers (Val t) = 3 ∷ t .version ∷ t .tie ∷ []
-
-message : ℕ → Timestamp → Message
-message zero t = Val t
-message (suc zero) t = Inv t
-message (suc (suc zero)) t = Ack t
-message (suc (suc (suc k))) t = Val t
+messageNumbers m = kindOf m ∷ timestampOf m .version ∷ timestampOf m .tie ∷ []
 
 unfoldable pub outgoingNumbers : Outgoing → List ℕ
 outgoingNumbers None = []
@@ -92,14 +85,12 @@ outgoingNumbers (Sent m h) = h .sender ∷ h .epoch ∷ h .index ∷ messageNumb
 
 pub outgoingBack : List ℕ → Outgoing
 outgoingBack [] = None
-outgoingBack (x ∷ l) = Sent (message (getD l 2 0) (record { version = getD l 3 0; tie = getD l 4 0 })) (record { sender = x; epoch = getD l 0 0; index = getD l 1 0 })
+outgoingBack (x ∷ l) = Sent (messageOf (getD l 2 0) (record { version = getD l 3 0; tie = getD l 4 0 })) (record { sender = x; epoch = getD l 0 0; index = getD l 1 0 })
 
 pub outgoing-had : (o : Outgoing) → outgoingBack (outgoingNumbers o) ≡ o
-unfolding outgoingBack outgoingNumbers messageNumbers message
+unfolding outgoingBack outgoingNumbers messageNumbers
 outgoing-had None = refl
-outgoing-had (Sent (Inv t) h) = refl
-outgoing-had (Sent (Ack t) h) = refl
-outgoing-had (Sent (Val t) h) = refl
+outgoing-had (Sent m h) = ap (λ (x : Message). Sent x h) (message-back m)
 
 unfoldable pub outgoingCode : Coded Outgoing
 outgoingCode = record { numbers = outgoingNumbers; back = outgoingBack; had = outgoing-had }

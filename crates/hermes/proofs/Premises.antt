@@ -49,7 +49,7 @@ story-entries =
     (refl, tt, (refl, tt, (refl, tt, (refl, tt, (refl, tt, (refl, tt, (refl, tt, (refl, tt, (refl, tt, (refl, tt, middle))))))))))
   where
     late : Entries three issued (drop 20 story)
-    late = (refl, refl, (refl, tt, (refl, tt, (refl, tt, (refl, tt, (refl, tt, (refl, tt, (refl, refl, (refl, tt, (refl, tt, tt))))))))))
+    late = (refl, refl, (refl, tt, (refl, tt, (refl, tt, (refl, tt, (refl, tt, (refl, tt, (refl, tt, (refl, refl, (refl, tt, (refl, tt, tt)))))))))))
 
     middle : Entries three issued (drop 10 story)
     middle = (refl, tt, (refl, tt, (refl, tt, (refl, tt, (refl, tt, (refl, refl, (refl, refl, (refl, tt, (refl, tt, (refl, tt, late))))))))))
@@ -73,6 +73,8 @@ witness = record {
   kinds = every-kind;
   left = omega arith;
   lost = refl;
+  repeated = refl;
+  late = refl;
   gone = refl;
   screens = record { members = (refl, refl); apart = λ e. omega arith; sees = refl; seen = refl; shows = refl; shown = refl };
   save = record { members = (refl, refl); apart = λ e. omega arith; split = refl; validation = validates refl refl; sees = refl; shown = refl };

@@ -72,9 +72,6 @@ module _ (i : ℕ) (v s : List ℕ) (inside : 192 * i + 192 ≤ length s) (fits 
   unfolding place
   drop-place = rw (← append-assoc (take (192 * i) s) (padded v) (drop (192 * i + 192) s)) (drop-at (take (192 * i) s ++ padded v) _ (192 * i + 192) body-length)
 
-  pub slot-other : (j : ℕ) → j ≢ i → slot j (place i v s) ≡ slot j s
-  slot-other = slot-elsewhere i (place i v s) s (omega (arith, length-place)) (omega arith) take-place drop-place
-
 abbrev pub zeros : ℕ → List ℕ
 zeros n = replicate n 0
 

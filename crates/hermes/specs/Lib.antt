@@ -15,6 +15,7 @@ pub mod SecondReading
 pub mod Reads
 pub mod Played
 pub mod Witness
+pub mod SecondWitness
 pub mod Worked
 pub mod Limits
 pub mod Rows

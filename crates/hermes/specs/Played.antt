@@ -108,6 +108,7 @@ struckOff =
     ∷ refuses 2 (deliver 8) 10  -- 2 has missed the change of view, and takes no validation meant for the new group
     ∷ accepts 1 (deliver 8)  -- valid
     ∷ refuses 1 (deliver 8) 14  -- a repeated VAL
+    ∷ accepts 1 (deliver 6)  -- a repeated INV: an ACK leaves once more, message 9, and nothing moves
     ∷ accepts 2 (view 1 3)  -- 2 hears of it
     ∷ refuses 2 (read 0) 3  -- and is not in its own view
     ∷ accepts 1 (read 0)  -- A1

@@ -1,8 +1,8 @@
 -- The premises of demand 3 can be met: by a list that has every kind of entry, accepted and refused, a lost, a repeated and a late message and
 -- a laptop that is struck off. After it both halves of the claim speak of something.
-use Prim.Native.Nat.{ℕ, suc, _<_}
+use Prim.Native.Nat.{ℕ, suc, _+_, _<_}
 use mathlib.Core.Path.{_≡_}
-use mathlib.Core.Bool.{Bool, true, false, not, _&&_, _||_}
+use mathlib.Core.Bool.{Bool, true, false, cond, not, _&&_, _||_}
 use mathlib.Core.Logic.{_≢_}
 use mathlib.Core.List.{List, [], _∷_, _++_}
 use lib.Dec.{eqb}
@@ -28,6 +28,11 @@ kind (view epoch set) = 6
 abbrev pub some : (Line → Bool) → List Line → Bool
 some p [] = false
 some p (x ∷ rest) = p x || some p rest
+
+-- how many lines pass it
+abbrev pub many : (Line → Bool) → List Line → ℕ
+many p [] = 0
+many p (x ∷ rest) = cond (p x) 1 0 + many p rest
 
 -- an accepted entry of that kind is there, and a refused one
 abbrev pub BothWays : ℕ → List Line → Type 0
@@ -83,6 +88,9 @@ pub record Witness : Type 0 where
   -- message 2 left, and is lost
   pub left : 2 < length (run higher group story .log)
   pub lost : some (λ x. delivers 2 (x .entry .what)) struckOff ≡ false
+  -- message 6 is repeated: 1 takes it twice; message 5 is late: its epoch is over
+  pub repeated : many (λ x. delivers 6 (x .entry .what) && (eqb (x .entry .who) 1 && eqb (x .number) 0)) struckOff ≡ 2
+  pub late : some (λ x. delivers 5 (x .entry .what) && eqb (x .number) 10) struckOff ≡ true
   -- 2 is struck off
   pub gone : has (end 2 .me .view) 2 ≡ false
   -- 0 and 1 show one text; 2's save lasts, though 2 is gone, and so does 0's replay of it

@@ -6,11 +6,9 @@ ghost use Rattle.packet_event.specs.Arriving.{arrivingOf, answerIn};
 use hermes::Answer;
 use hermes::Event;
 use hermes::Received;
+use hermes::Record;
 use packet_format::Entry;
 use packet_format::Fetched;
-
-// No table that question 2 admits has a record of this number.
-const NO_RECORD: usize = 4096;
 
 // What a fetch comes to: an event on the record of this number.
 pub struct Arriving {
@@ -47,7 +45,8 @@ pub fn event_in(bytes: &[u8], i: usize) -> Arriving
         }
         Fetched::Refused(_) => Arriving {
             fetched: f,
-            index: NO_RECORD,
+            // no table that question 2 admits has a record of this number
+            index: Record::COUNT_MAX,
             event: Event::Read,
         },
     }

@@ -31,7 +31,7 @@ impl Member {
     pub fn fresh(k: u8, view: u16) -> Member
         ensures { λ r. ⌜ r ≡ freshIn view k ⌝ }
     {
-        let a = replica_membership::admit(k, view, 1, 192);
+        let a = replica_membership::admit(k, view, 1, Record::VALUE_MAX);
         match a {
             Admission::Admitted(me) => Member {
                 me: me,
