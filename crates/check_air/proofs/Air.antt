@@ -197,7 +197,7 @@ delivers n table p e at v a table′ store′ brings h =
 
 -- a packet reads back as what was sent
 reads : (ss : List Sending) (packet : List ℕ) → Packed ss packet → ReadsAs packet (wordsSent ss) (bodiesSent ss)
-reads ss packet p = rw (p .front) (packed-reads (wordsSent ss) (bodiesSent ss) (p .out) (p .words) (p .accepted))
+reads ss packet p = rw (p .front) (packed-reads (wordsSent ss) (bodiesSent ss) (p .out) (p .accepted))
 
 module _ (before after : List Sending) (s : Sending) (x : Logged) (packet : List ℕ) (c : Called x s) (p : Packed (before ++ s ∷ after) packet) where
   -- what the packet's reader finds

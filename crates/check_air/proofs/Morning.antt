@@ -1,11 +1,10 @@
 -- The premises of demand 3 of the exported functions can be met: a morning of two laptops, computed.
-use Prim.Native.Nat.{ℕ, zero, suc, _*_, _^_}
+use Prim.Native.Nat.{ℕ, zero, suc, _*_}
 use mathlib.Core.Path.{_≡_, refl, sym, subst}
 use mathlib.Core.Bool.{Bool, true, _&&_}
 use mathlib.Core.List.{List, [], _∷_, List·Memᴰ, List·Memᴰ·head, List·Memᴰ·tail}
 use mathlib.Core.Logic.{inl, inr}
 use native.Mathlib.Omega.{arith}
-use lib.Dec.{ltb}
 use lib.ListN.{length, take, drop, replicate}
 use borrow.Author.Tests.{ltb-true}
 use Rattle.hermes_record.specs.Members.{has, size, lowest, within, othersIn, with}
@@ -18,7 +17,6 @@ use Rattle.packet_format.specs.Entry.{good, entryBytes}
 use Rattle.packet_format.specs.Reading.{walk, fetchRefusal, fetched}
 use Rattle.packet_format.specs.Writing.{summed, contents, packetBytes, allGood, writeRefusal, packetWritten, outputOf}
 use Rattle.packet_words.specs.Words.{entryIn, wordMessages}
-use Rattle.packet_words.specs.ReadBack.{Wide}
 use Rattle.packet_event.specs.Arrival.{receipt}
 use Rattle.export_decoding.specs.Decoding.{decode}
 use Rattle.export_records.specs.Layout.{tableOf}
@@ -37,17 +35,6 @@ use Rattle.check_air.specs.Morning.{val, valNumbers, two, both, lentTabl
 use Rattle.check_air.specs.Answered.{afterEvent}
 use Rattle.check_air.proofs.Callers.{called-demand3}
 use Rattle.check_air.proofs.Answered.{after-table, every-call-answers}
-
--- words of 32 bits
-narrow : List ℕ → Bool
-narrow [] = true
-narrow (w ∷ words) = ltb w (256 ^ 4) && narrow words
-
-wide : (words : List ℕ) → narrow words ≡ true → Wide words
-unfolding narrow
-wide [] h i = omega arith
-wide (w ∷ words) h zero = ltb-true w (256 ^ 4) (tests.both (ltb w (256 ^ 4)) (narrow words) h .0)
-wide (w ∷ words) h (suc i) = wide words (tests.both (ltb w (256 ^ 4)) (narrow words) h .1) i
 
 abbrev admitted : ℕ → CetskobiAdmission
 admitted k = record { number = 0; replica = identityOf (newcomer k 3) }
@@ -111,20 +98,20 @@ unfolding has size lowest within othersIn with later sameTimestamp padded place 
 called-val = call valLogged val acknowledged Validate [] (record { who = refl; answer = refl; bytes = refl; there = refl; leaves = refl })
 
 -- packed together
-packs : (ss : List Sending) → narrow (wordsSent ss) ≡ true → packAnswer (wordsSent ss) (bodiesSent ss) (replicate 60 0) .number ≡ 0 → Packed ss (packetOf ss)
-packs ss h e = record { words = wide (wordsSent ss) h; out = replicate 60 0; accepted = e; front = refl }
+packs : (ss : List Sending) → packAnswer (wordsSent ss) (bodiesSent ss) (replicate 60 0) .number ≡ 0 → Packed ss (packetOf ss)
+packs ss e = record { out = replicate 60 0; accepted = e; front = refl }
 
 inv-packed : Packed (inv ∷ inv ∷ []) (packetOf (inv ∷ inv ∷ []))
-unfolding narrow has size lowest within othersIn with later sameTimestamp padded place refusal effect start apply view viewed good entryBytes walk fetchRefusal fetched summed contents packetBytes allGood writeRefusal packetWritten outputOf entryIn wordMessages receipt decode tableOf
-inv-packed = packs (inv ∷ inv ∷ []) refl refl
+unfolding has size lowest within othersIn with later sameTimestamp padded place refusal effect start apply view viewed good entryBytes walk fetchRefusal fetched summed contents packetBytes allGood writeRefusal packetWritten outputOf entryIn wordMessages receipt decode tableOf
+inv-packed = packs (inv ∷ inv ∷ []) refl
 
 ack-packed : Packed (inv ∷ ack ∷ []) (packetOf (inv ∷ ack ∷ []))
-unfolding narrow has size lowest within othersIn with later sameTimestamp padded place refusal effect start apply view viewed good entryBytes walk fetchRefusal fetched summed contents packetBytes allGood writeRefusal packetWritten outputOf entryIn wordMessages receipt decode tableOf
-ack-packed = packs (inv ∷ ack ∷ []) refl refl
+unfolding has size lowest within othersIn with later sameTimestamp padded place refusal effect start apply view viewed good entryBytes walk fetchRefusal fetched summed contents packetBytes allGood writeRefusal packetWritten outputOf entryIn wordMessages receipt decode tableOf
+ack-packed = packs (inv ∷ ack ∷ []) refl
 
 val-packed : Packed (val ∷ []) (packetOf (val ∷ []))
-unfolding narrow has size lowest within othersIn with later sameTimestamp padded place refusal effect start apply view viewed good entryBytes walk fetchRefusal fetched summed contents packetBytes allGood writeRefusal packetWritten outputOf entryIn wordMessages receipt decode tableOf
-val-packed = packs (val ∷ []) refl refl
+unfolding has size lowest within othersIn with later sameTimestamp padded place refusal effect start apply view viewed good entryBytes walk fetchRefusal fetched summed contents packetBytes allGood writeRefusal packetWritten outputOf entryIn wordMessages receipt decode tableOf
+val-packed = packs (val ∷ []) refl
 
 -- what a delivery rests on: the three messages in their packets, the VAL as numbers, a broken packet
 inv-came : FromAir (invLogged ∷ []) (packetOf (inv ∷ inv ∷ [])) 0

@@ -11,7 +11,6 @@ use Rattle.hermes.specs.Event.{sentBy}
 use Rattle.hermes.specs.Node.{Node, apply}
 use Rattle.hermes.specs.Run.{Logged, received, logged}
 use Rattle.packet_format.specs.Reading.{fetched}
-use Rattle.packet_words.specs.ReadBack.{Wide}
 use Rattle.export_numbers.specs.declared.numbers.CetskobiReplica.{CetskobiReplica}
 use Rattle.export_numbers.specs.declared.numbers.CetskobiAnswer.{CetskobiAnswer}
 use Rattle.export_calls.specs.Calls.{nodeOf, Done}
@@ -66,8 +65,6 @@ pub record Called (x : Logged) (s : Sending) : Type 0 where
 
 -- the second: `cetskobi_pack` was called with an output, answered 0, and left the packet at its front
 pub record Packed (ss : List Sending) (packet : List ℕ) : Type 0 where
-  -- every word is a uint32_t
-  pub words : Wide (wordsSent ss)
   pub out : List ℕ
   pub accepted : packAnswer (wordsSent ss) (bodiesSent ss) out .number ≡ 0
   pub front : packet ≡ take (packAnswer (wordsSent ss) (bodiesSent ss) out .len) (packOutput (wordsSent ss) (bodiesSent ss) out)

@@ -17,7 +17,7 @@ use Rattle.hermes.proofs.Kind.{stamp-back}
 use Rattle.packet_format.proofs.Contents.{length-entries}
 use Rattle.packet_format.proofs.RoundTrip.{accepted-is-written}
 use Rattle.packet_words.specs.Words.{wordMessages, packed}
-use Rattle.packet_words.specs.ReadBack.{manyIn, word, Wide, bodyFrom, ReadsAs, wordsOf}
+use Rattle.packet_words.specs.ReadBack.{manyIn, word, bodyFrom, ReadsAs, wordsOf}
 use Rattle.packet_words.proofs.ReadBack.{words-read-back, accepted-is-packed}
 use Rattle.export_fields.specs.Answers.{fetchedOut, writtenOut}
 use Rattle.export_packets.specs.Calls.{fetchAnswer, packAnswer, packOutput}
@@ -35,15 +35,15 @@ packed-total messages bodies out = go (writeRefusal (wordMessages messages) bodi
     go (suc k) n h = absurd (omega arith)
 
 -- and it reads back as its words say
-pub packed-reads : (messages bodies out : List ℕ) → Wide messages → packAnswer messages bodies out .number ≡ 0
+pub packed-reads : (messages bodies out : List ℕ) → packAnswer messages bodies out .number ≡ 0
     → ReadsAs (take (packAnswer messages bodies out .len) (packOutput messages bodies out)) messages bodies
-packed-reads messages bodies out wide h =
+packed-reads messages bodies out h =
     let e = packed-total messages bodies out h in
-    rw e (words-read-back messages bodies out (packAnswer messages bodies out .len) wide e)
+    rw e (words-read-back messages bodies out (packAnswer messages bodies out .len) e)
 
 pub packed-is-fetched : PackedIsFetched
-packed-is-fetched messages bodies out wide h =
-    let r = packed-reads messages bodies out wide h in
+packed-is-fetched messages bodies out h =
+    let r = packed-reads messages bodies out h in
     record {
       message = λ k l. ap fetchedOut (r .message k l)
           ∙ (λ i.

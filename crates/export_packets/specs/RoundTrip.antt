@@ -5,7 +5,7 @@ use mathlib.Core.List.{List, [], _∷_, _++_}
 use lib.ListN.{length, take, drop}
 use Rattle.hermes.specs.Store.{Bytes}
 use Rattle.packet_format.specs.Reading.{countOf, entryPlace, bodiesIn}
-use Rattle.packet_words.specs.ReadBack.{manyIn, word, Wide, bodyFrom}
+use Rattle.packet_words.specs.ReadBack.{manyIn, word, bodyFrom}
 use Rattle.export_fields.specs.declared.answers.CetskobiFetched.{CetskobiFetched}
 use Rattle.export_packets.specs.Calls.{fetchAnswer, packAnswer, packOutput}
 
@@ -32,7 +32,7 @@ pub record Fetches (packet messages bodies : List ℕ) : Type 0 where
 
 -- "A packet written reads back as the same messages": whatever `cetskobi_pack` accepts, `cetskobi_fetch` gives again
 abbrev pub PackedIsFetched : Type 0
-PackedIsFetched = (messages bodies out : List ℕ) → Wide messages → packAnswer messages bodies out .number ≡ 0
+PackedIsFetched = (messages bodies out : List ℕ) → packAnswer messages bodies out .number ≡ 0
     → Fetches (take (packAnswer messages bodies out .len) (packOutput messages bodies out)) messages bodies
 
 -- ---- what `cetskobi_fetch` reads, `cetskobi_pack` writes

@@ -2,7 +2,7 @@
 use mathlib.Core.Path.{_≡_, refl, sym, ap, _∙_}
 use mathlib.Core.Bool.{true, _&&_}
 use mathlib.Core.List.{List, [], _∷_, _++_, append-assoc}
-use Prim.Native.Nat.{ℕ, zero, suc, _+_, _*_, _^_, _≤_, _<_}
+use Prim.Native.Nat.{ℕ, zero, suc, _+_, _*_, _≤_, _<_}
 use native.Mathlib.Nat.{add-zero, add-assoc, not-suc-le-zero, le-of-suc-le-suc}
 use native.Mathlib.Omega.{arith}
 use borrow.Author.Tests.{eq-eqb, eqb-true}
@@ -12,11 +12,11 @@ use lib.Seq.{drop-drop, getD-drop}
 use Rattle.hermes.specs.Store.{Bytes}
 use Rattle.packet_format.specs.declared.entry.Entry.{Entry}
 use Rattle.packet_format.specs.declared.entry.Fields.{Fields}
-use Rattle.packet_format.specs.Entry.{fieldsOf, entryBytes, entryOf, fieldsFor, entriesOf, good, noEntry, AllFit}
+use Rattle.packet_format.specs.Entry.{fieldsOf, entryBytes, entryOf, fieldsFor, entriesOf, good, noEntry}
 use Rattle.packet_format.specs.Reading.{walk}
 use Rattle.packet_format.specs.Writing.{summed, contents, allGood}
 use Rattle.hermes_record.proofs.Tests.{both}
-use Rattle.packet_format.proofs.Entries.{fields-back, drop-entry, length-entry, bytes-back, good-parts, good-offset, message-back, fits-read, sized}
+use Rattle.packet_format.proofs.Entries.{fields-back, drop-entry, length-entry, bytes-back, good-parts, good-offset, message-back}
 
 pub length-contents : (es : List Entry) (at : ℕ) → length (contents at es) ≡ 16 * length es
 unfolding contents
@@ -35,12 +35,6 @@ length-entries (suc n) q = ap suc (length-entries n (drop 16 q))
 pub bytes-drop : (n : ℕ) (q : List ℕ) → Bytes q → Bytes (drop n q)
 bytes-drop n q b i = rw getD-drop (b (n + i))
 
-pub fit-entries : (n : ℕ) (q : List ℕ) → Bytes q → AllFit (entriesOf n q)
-unfolding entriesOf
-fit-entries zero q b i = record { epoch = omega arith; version = omega arith }
-fit-entries (suc n) q b zero = fits-read q b
-fit-entries (suc n) q b (suc i) = fit-entries n (drop 16 q) (bytes-drop 16 q b) i
-
 sixteen : (n : ℕ) (q : List ℕ) → drop (16 * suc n) q ≡ drop (16 * n) (drop 16 q)
 sixteen n q = let e : 16 * suc n ≡ 16 + 16 * n = omega arith in ap (λ (k : ℕ). drop k q) e ∙ sym (drop-drop (16 * n) 16 q)
 
@@ -52,38 +46,36 @@ unfolding contents
 front e es at rest = append-assoc (entryBytes (fieldsFor e at)) (contents (at + e .len) es) rest
 
 -- a written table passes the walk
-pub walk-contents : (es : List Entry) (at : ℕ) (rest : List ℕ) → AllFit es → allGood es ≡ true → at + summed es < 256 ^ 2
+pub walk-contents : (es : List Entry) (at : ℕ) (rest : List ℕ) → allGood es ≡ true
     → walk (length es) (contents at es ++ rest) at (at + summed es) ≡ true
 unfolding walk summed allGood
-walk-contents [] at rest s g h = eq-eqb at (at + 0) (sym (add-zero at))
-walk-contents (e ∷ es) at rest s g h =
+walk-contents [] at rest g = eq-eqb at (at + 0) (sym (add-zero at))
+walk-contents (e ∷ es) at rest g =
     let gs = both (good (fieldsFor e 0)) (allGood es) g in
     let f = fieldsFor e at in
     let tail = contents (at + e .len) es ++ rest in
     let total = at + (e .len + summed es) in
     ap (λ (q : List ℕ). walk (suc (length es)) q at total) (front e es at rest)
     ∙ ap (λ (x : Fields). good x && eqb (x .offset) at && walk (length es) (drop 16 (entryBytes f ++ tail)) (at + x .len) total)
-    (fields-back f tail (sized e at (s 0) (gs .0) (omega arith)))
+    (fields-back f tail)
     ∙ rw (good-offset e at 0, gs .0, eq-eqb at at refl, drop-entry f tail, ← add-assoc at (e .len) (summed es))
-    (walk-contents es (at + e .len) rest (λ i. s (suc i)) (gs .1) (omega arith))
+    (walk-contents es (at + e .len) rest (gs .1))
 
 -- entry i of a written table
-pub contents-entry : (es : List Entry) (i at : ℕ) (rest : List ℕ) → AllFit es → allGood es ≡ true → at + summed es < 256 ^ 2 → i < length es
+pub contents-entry : (es : List Entry) (i at : ℕ) (rest : List ℕ) → i < length es
     → fieldsOf (drop (16 * i) (contents at es ++ rest)) ≡ fieldsFor (getD es i noEntry) (at + summed (take i es))
-unfolding summed allGood
-contents-entry [] i at rest s g h l = absurd (not-suc-le-zero l)
-contents-entry (e ∷ es) zero at rest s g h l =
-    let gs = both (good (fieldsFor e 0)) (allGood es) g in
+unfolding summed
+contents-entry [] i at rest l = absurd (not-suc-le-zero l)
+contents-entry (e ∷ es) zero at rest l =
     ap fieldsOf (front e es at rest)
-    ∙ fields-back (fieldsFor e at) (contents (at + e .len) es ++ rest) (sized e at (s 0) (gs .0) (omega arith))
+    ∙ fields-back (fieldsFor e at) (contents (at + e .len) es ++ rest)
     ∙ ap (fieldsFor e) (sym (add-zero at))
-contents-entry (e ∷ es) (suc i) at rest s g h l =
-    let gs = both (good (fieldsFor e 0)) (allGood es) g in
+contents-entry (e ∷ es) (suc i) at rest l =
     ap fieldsOf
     (sixteen i (contents at (e ∷ es) ++ rest)
     ∙ ap (λ (q : List ℕ). drop (16 * i) (drop 16 q)) (front e es at rest)
     ∙ ap (drop (16 * i)) (drop-entry (fieldsFor e at) (contents (at + e .len) es ++ rest)))
-    ∙ contents-entry es i (at + e .len) rest (λ j. s (suc j)) (gs .1) (omega arith) (le-of-suc-le-suc l)
+    ∙ contents-entry es i (at + e .len) rest (le-of-suc-le-suc l)
     ∙ ap (fieldsFor (getD es i noEntry)) (add-assoc at (e .len) (summed (take i es)))
 
 -- a body lies within the bodies

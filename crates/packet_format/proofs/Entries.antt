@@ -2,8 +2,7 @@
 use mathlib.Core.Path.{_≡_, refl, sym, _∙_}
 use mathlib.Core.Bool.{true, false}
 use mathlib.Core.List.{List, [], _∷_, _++_}
-use Prim.Native.Nat.{ℕ, _^_, _≤_, _<_}
-use native.Mathlib.Omega.{arith}
+use Prim.Native.Nat.{ℕ, _≤_}
 use borrow.Author.Tests.{leb-true}
 use lib.Dec.{leb}
 use lib.ListN.{length, drop, getD}
@@ -14,30 +13,23 @@ use Rattle.hermes.proofs.Kind as kind
 use Rattle.packet_format.specs.declared.entry.Entry.{Entry}
 use Rattle.packet_format.specs.declared.entry.Fields.{Fields}
 use Rattle.packet_format.specs.Bytes.{window}
-use Rattle.packet_format.specs.Entry.{fieldsOf, entryBytes, entryOf, fieldsFor, bodied, good, Fits}
+use Rattle.packet_format.specs.Entry.{fieldsOf, entryBytes, entryOf, fieldsFor, bodied, good}
 use Rattle.hermes_record.proofs.Tests.{both, is-false}
-use Rattle.packet_format.proofs.Width.{num-be, window-drop, be-window, window-lt}
-
--- the fields fit their widths
-pub record Sized (f : Fields) : Type 0 where
-  pub epoch : f .epoch < 256 ^ 4
-  pub index : f .index < 256 ^ 2
-  pub version : f .version < 256 ^ 4
-  pub offset : f .offset < 256 ^ 2
+use Rattle.packet_format.proofs.Width.{num-be, window-drop, be-window}
 
 -- fields written are read
-pub fields-back : (f : Fields) (rest : List ℕ) → Sized f → fieldsOf (entryBytes f ++ rest) ≡ f
+pub fields-back : (f : Fields) (rest : List ℕ) → fieldsOf (entryBytes f ++ rest) ≡ f
 unfolding entryBytes
-fields-back f rest s =
+fields-back f rest =
     λ i.
     record {
       kind = f .kind;
       sender = f .sender;
-      epoch = num-be 4 (f .epoch) (s .epoch) i;
-      index = num-be 2 (f .index) (s .index) i;
-      version = num-be 4 (f .version) (s .version) i;
+      epoch = num-be 3 (f .epoch) i;
+      index = num-be 1 (f .index) i;
+      version = num-be 3 (f .version) i;
       tie = f .tie;
-      offset = num-be 2 (f .offset) (s .offset) i;
+      offset = num-be 1 (f .offset) i;
       len = f .len;
     }
 
@@ -114,16 +106,3 @@ message-back f at k o =
       offset = sym o i;
       len = f .len;
     }
-
--- what is read of bytes fits
-pub fits-read : (q : List ℕ) → Bytes q → Fits (entryOf (fieldsOf q))
-fits-read q b =
-    let f = fieldsOf q in
-    record {
-      epoch = window-lt q 2 4 b;
-      version = rw (kind.stamp-back (f .kind) (record { version = f .version; tie = f .tie })) (window-lt q 8 4 b);
-    }
-
-pub sized : (e : Entry) (at : ℕ) → Fits e → good (fieldsFor e 0) ≡ true → at < 256 ^ 2 → Sized (fieldsFor e at)
-sized e at s g h =
-    record { epoch = s .epoch; index = omega (arith, good-parts (fieldsFor e 0) g); version = s .version; offset = h }

@@ -2,7 +2,7 @@
 use mathlib.Core.Path.{_≡_, refl, sym, ap, _∙_}
 use mathlib.Core.Bool.{Bool, true, false, cond}
 use mathlib.Core.List.{List, _∷_, _++_}
-use Prim.Native.Nat.{ℕ, zero, suc, _+_, _*_, _^_, _≤_, _<_}
+use Prim.Native.Nat.{ℕ, zero, suc, _+_, _*_, _≤_, _<_}
 use native.Mathlib.Omega.{arith}
 use borrow.Author.Tests.{leb-true}
 use lib.ListN.{length, take, drop, getD, length-drop, length-append}
@@ -13,7 +13,7 @@ use Rattle.packet_format.specs.declared.entry.Fields.{Fields}
 use Rattle.packet_format.specs.declared.answer.Fetched.the-variants.{Found}
 use Rattle.packet_format.specs.declared.answer.Written.the-variants.{Total}
 use Rattle.packet_format.specs.Bytes.{be, window}
-use Rattle.packet_format.specs.Entry.{fieldsOf, fieldsFor, noEntry, AllFit}
+use Rattle.packet_format.specs.Entry.{fieldsOf, fieldsFor, noEntry}
 use Rattle.packet_format.specs.Reading.{countOf, entryPlace, packetMessages, bodiesIn, question20, question21, question22, question23, walk, fetchRefusal, fetchedAs, fetched, bodyOf}
 use Rattle.packet_format.specs.Writing.{summed, contents, totalOf, packetBytes, allGood, outputOf}
 use Rattle.packet_format.specs.RoundTrip.{ReadsBack, WrittenReadsBack, AcceptedIsWritten}
@@ -21,7 +21,7 @@ use Rattle.packet_format.proofs.Width.{num-be, window-drop, be-window}
 use Rattle.packet_format.proofs.Writing.{Accepts, accepts, accepted, total-yes}
 use Rattle.packet_format.proofs.Reading.{part-to-end, Header, header, header-yes, fetch-23, fetch-0}
 use Rattle.packet_format.proofs.Entries.{entry-back}
-use Rattle.packet_format.proofs.Contents.{length-contents, length-entries, bytes-drop, fit-entries, walk-contents, contents-entry, contents-walk}
+use Rattle.packet_format.proofs.Contents.{length-contents, length-entries, bytes-drop, walk-contents, contents-entry, contents-walk}
 
 -- ---- what is written is read
 
@@ -37,22 +37,21 @@ module _ (es : List Entry) (bodies : List ℕ) (room : ℕ) (w : Accepts es bodi
   unfolding packetBytes
   packet-header =
       let n = packet-length 1 es bodies in
-      let t : totalOf (length es) bodies < 256 ^ 2 = omega (arith, w .short) in
       record {
         long = omega arith;
         first = refl;
         some = w .some;
         few = w .few;
-        total = num-be 2 (totalOf (length es) bodies) t ∙ sym n;
+        total = num-be 1 (totalOf (length es) bodies) ∙ sym n;
         short = omega (arith, w .short);
       }
 
-  packet-walk : AllFit es → question22 (packetBytes 1 es bodies) .yes ≡ true
+  packet-walk : question22 (packetBytes 1 es bodies) .yes ≡ true
   unfolding packetBytes
-  packet-walk s =
+  packet-walk =
       ap (walk (length es) (contents (entryPlace (length es)) es ++ bodies) (entryPlace (length es)))
       (packet-length 1 es bodies ∙ ap (λ (k : ℕ). entryPlace (length es) + k) (sym (w .exact)))
-      ∙ walk-contents es (entryPlace (length es)) bodies s (w .good) (omega (arith, w .short, w .exact))
+      ∙ walk-contents es (entryPlace (length es)) bodies (w .good)
 
 packet-count : (rule : ℕ) (es : List Entry) (bodies : List ℕ) → countOf (packetBytes rule es bodies) ≡ length es
 unfolding packetBytes
@@ -70,9 +69,9 @@ drop-contents rule es bodies a =
     ∙ ap (drop a)
     (drop-header rule es bodies (16 * length es) ∙ drop-at (contents (entryPlace (length es)) es) bodies (16 * length es) (length-contents es (entryPlace (length es))))
 
-packet-reads-back : (es : List Entry) (bodies : List ℕ) (room : ℕ) → Accepts es bodies room → AllFit es → ReadsBack (packetBytes 1 es bodies) es bodies
+packet-reads-back : (es : List Entry) (bodies : List ℕ) (room : ℕ) → Accepts es bodies room → ReadsBack (packetBytes 1 es bodies) es bodies
 unfolding packetBytes
-packet-reads-back es bodies room w s =
+packet-reads-back es bodies room w =
     record {
       message = message;
       body = λ i l. ap (bodyOf p) (message i l) ∙ ap (take (getD es i noEntry .len)) (drop-contents 1 es bodies (summed (take i es)));
@@ -89,23 +88,23 @@ packet-reads-back es bodies room w s =
     yes21 = omega (arith, packet-count 1 es bodies, packet-length 1 es bodies)
 
     yes22 : question22 p .yes ≡ true
-    yes22 = packet-walk es bodies room w s
+    yes22 = packet-walk es bodies room w
 
     message : (i : ℕ) → i < length es → fetched p i ≡ Found (getD es i noEntry) (entryPlace (length es) + summed (take i es))
     message i l =
         let at = entryPlace (length es) + summed (take i es) in
         let e = getD es i noEntry in
         let f : fieldsOf (drop (entryPlace i) p) ≡ fieldsFor e at =
-        ap fieldsOf (drop-header 1 es bodies (16 * i)) ∙ contents-entry es i (entryPlace (length es)) bodies s (w .good) (omega (arith, w .short, w .exact)) l in
+        ap fieldsOf (drop-header 1 es bodies (16 * i)) ∙ contents-entry es i (entryPlace (length es)) bodies l in
         sym (fetch-0 p i yes20 yes21 yes22 l (fieldsFor e at) (sym (ap fieldsOf (part-to-end p (entryPlace i)) ∙ f))) ∙ ap (λ (x : Entry). Found x at) (entry-back e at)
 
 -- a packet written reads back as the same messages
 pub written-reads-back : WrittenReadsBack
 unfolding outputOf
-written-reads-back es bodies out n s h =
+written-reads-back es bodies out n h =
     let t = total-yes es bodies (length out) n h in
     let a = accepts es bodies (length out) (t .0) in
-    rw (take-at (packetBytes 1 es bodies) (drop n out) n (packet-length 1 es bodies ∙ t .1)) (packet-reads-back es bodies (length out) a s)
+    rw (take-at (packetBytes 1 es bodies) (drop n out) n (packet-length 1 es bodies ∙ t .1)) (packet-reads-back es bodies (length out) a)
 
 -- ---- what is read is written
 
@@ -185,5 +184,5 @@ accepted-is-written p i e at out b h l =
     record {
       answer = accepted es (bodiesIn p) (length out) a ∙ ap Total total;
       output = ap (λ (q : List ℕ). q ++ drop (length p) out) made;
-      reads = rw made at (packet-reads-back es (bodiesIn p) (length out) a (fit-entries (countOf p) (drop 4 p) (bytes-drop 4 p b)));
+      reads = rw made at (packet-reads-back es (bodiesIn p) (length out) a);
     }

@@ -18,13 +18,13 @@ length-be : (k n : ℕ) → length (be k n) ≡ k
 length-be zero n = refl
 length-be (suc k) n = ap suc (length-be k (n % 256 ^ k))
 
--- a number written is read
-pub num-be : (k n : ℕ) → n < 256 ^ k → num (be k n) ≡ n
-num-be zero n h = sym (lt-one h)
-num-be (suc k) n h =
-    ap (λ (j : ℕ). n / 256 ^ k * 256 ^ j + num (be k (n % 256 ^ k))) (length-be k (n % 256 ^ k))
-    ∙ ap (λ (x : ℕ). n / 256 ^ k * 256 ^ k + x) (num-be k (n % 256 ^ k) (mod-lt n (pow-256 k)))
-    ∙ div-add-mod' n (256 ^ k)
+-- a number written is read, however great: the first element takes all that the others leave
+pub num-be : (k n : ℕ) → num (be (suc k) n) ≡ n
+num-be zero n = ap (λ (x : ℕ). n / 256 ^ 0 * 256 ^ 0 + x) (sym (lt-one (mod-lt n (pow-256 0)))) ∙ div-add-mod' n (256 ^ 0)
+num-be (suc k) n =
+    ap (λ (j : ℕ). n / 256 ^ suc k * 256 ^ j + num (be (suc k) (n % 256 ^ suc k))) (length-be (suc k) (n % 256 ^ suc k))
+    ∙ ap (λ (x : ℕ). n / 256 ^ suc k * 256 ^ suc k + x) (num-be k (n % 256 ^ suc k))
+    ∙ div-add-mod' n (256 ^ suc k)
 
 pub num-lt : (bs : List ℕ) → Bytes bs → num bs < 256 ^ length bs
 num-lt [] b = omega arith
@@ -52,6 +52,3 @@ window-bytes q j (suc k) b (suc i) = window-bytes q (suc j) k b i
 
 pub be-window : (q : List ℕ) (j k : ℕ) → Bytes q → be (length (window q j k)) (num (window q j k)) ≡ window q j k
 be-window q j k b = be-num (window q j k) (window-bytes q j k b)
-
-pub window-lt : (q : List ℕ) (j k : ℕ) → Bytes q → num (window q j k) < 256 ^ length (window q j k)
-window-lt q j k b = num-lt (window q j k) (window-bytes q j k b)

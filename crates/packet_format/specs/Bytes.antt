@@ -3,7 +3,7 @@ use Prim.Native.Nat.{ℕ, zero, suc, _+_, _*_, _/_, _%_, _^_}
 use mathlib.Core.List.{List, [], _∷_}
 use lib.ListN.{length, getD}
 
--- n as k bytes, the most significant first
+-- n as k bytes, the most significant first; of a number too great for them the first is above 255, and nothing is cut
 abbrev pub be : ℕ → ℕ → List ℕ
 be zero n = []
 be (suc k) n = n / 256 ^ k ∷ be k (n % 256 ^ k)

@@ -1,5 +1,5 @@
 -- An entry of the contents table: its 16 bytes, its fields, and the message that they stand for (01, "Packets").
-use Prim.Native.Nat.{ℕ, zero, suc, _^_, _<_}
+use Prim.Native.Nat.{ℕ, zero, suc}
 use mathlib.Core.Bool.{Bool, _&&_, _||_}
 use mathlib.Core.List.{List, [], _∷_, _++_}
 use lib.Dec.{leb, eqb}
@@ -69,11 +69,3 @@ noEntry = record {
   message = Inv (record { version = 0; tie = 0 });
   len = 0;
 }
-
--- 01, "epoch (4)", "version (4)": both fit 32 bits, as every u32 does
-pub record Fits (e : Entry) : Type 0 where
-  pub epoch : e .header .epoch < 256 ^ 4
-  pub version : timestampOf (e .message) .version < 256 ^ 4
-
-abbrev pub AllFit : List Entry → Type 0
-AllFit es = (i : ℕ) → Fits (getD es i noEntry)

@@ -7,7 +7,7 @@ use Rattle.hermes.specs.Store.{Bytes}
 use Rattle.packet_format.specs.declared.entry.Entry.{Entry}
 use Rattle.packet_format.specs.declared.answer.Fetched.the-variants.{Found, Refused}
 use Rattle.packet_format.specs.declared.answer.Written.the-variants.{Total}
-use Rattle.packet_format.specs.Entry.{noEntry, AllFit}
+use Rattle.packet_format.specs.Entry.{noEntry}
 use Rattle.packet_format.specs.Reading.{entryPlace, packetMessages, bodiesIn, fetched, bodyOf}
 use Rattle.packet_format.specs.Writing.{summed, packetWritten, outputOf}
 
@@ -19,7 +19,7 @@ pub record ReadsBack (p : List ℕ) (es : List Entry) (bodies : List ℕ) : Type
 
 -- A packet written reads back as the same messages: whatever the writer accepts, the first n bytes of its output read back as what was handed to it.
 abbrev pub WrittenReadsBack : Type 0
-WrittenReadsBack = (es : List Entry) (bodies out : List ℕ) (n : ℕ) → AllFit es → packetWritten es bodies (length out) ≡ Total n
+WrittenReadsBack = (es : List Entry) (bodies out : List ℕ) (n : ℕ) → packetWritten es bodies (length out) ≡ Total n
     → ReadsBack (take n (outputOf (Total n) es bodies out)) es bodies
 
 -- The writer, handed the messages of the packet p and their bodies, accepts them and makes exactly p;

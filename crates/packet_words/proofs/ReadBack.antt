@@ -13,8 +13,8 @@ use Rattle.packet_format.specs.declared.entry.Entry.{Entry}
 use Rattle.packet_format.specs.declared.answer.Fetched.the-variants.{Found}
 use Rattle.packet_format.specs.declared.answer.Written.the-variants.{Total}
 use Rattle.hermes.specs.Kind.{kindOf, messageOf}
-use Rattle.hermes.proofs.Kind.{kind-back, stamp-back}
-use Rattle.packet_format.specs.Entry.{entryOf, fieldsFor, good, noEntry, Fits, AllFit}
+use Rattle.hermes.proofs.Kind.{kind-back}
+use Rattle.packet_format.specs.Entry.{entryOf, fieldsFor, good, noEntry}
 use Rattle.packet_format.specs.Reading.{entryPlace, packetMessages, bodiesIn}
 use Rattle.packet_format.specs.Writing.{summed, allGood, outputOf}
 use Rattle.packet_format.specs.RoundTrip.{ReadsBack}
@@ -22,7 +22,7 @@ use Rattle.packet_format.proofs.Writing.{Accepts, accepts, total-yes}
 use Rattle.packet_format.proofs.Entries.{entry-back, good-parts}
 use Rattle.packet_format.proofs.RoundTrip.{written-reads-back, accepted-is-written}
 use Rattle.packet_words.specs.Words.{entryIn, countIn, fieldsAt, entryAt, entriesFrom, wordMessages, packed}
-use Rattle.packet_words.specs.ReadBack.{manyIn, word, Wide, saidBy, bodyFrom, WordsReadBack, wordsOf, AcceptedIsPacked}
+use Rattle.packet_words.specs.ReadBack.{manyIn, word, saidBy, bodyFrom, WordsReadBack, wordsOf, AcceptedIsPacked}
 use Rattle.packet_words.proofs.Places.{sevens, Counted, counted, message-at}
 use Rattle.packet_words.proofs.Fit.{good-fit, entry-fit}
 
@@ -34,12 +34,6 @@ unfolding allGood
 good-one [] k l h = absurd (not-suc-le-zero l)
 good-one (e ∷ es) zero l h = both (good (fieldsFor e 0)) (allGood es) h .0
 good-one (e ∷ es) (suc k) l h = good-one es k (le-of-suc-le-suc l) (both (good (fieldsFor e 0)) (allGood es) h .1)
-
--- past their end stands what fits
-all-fit : (es : List Entry) → ((k : ℕ) → k < length es → Fits (getD es k noEntry)) → AllFit es
-all-fit [] f k = record { epoch = omega arith; version = omega arith }
-all-fit (e ∷ es) f zero = f 0 (omega arith)
-all-fit (e ∷ es) f (suc k) = all-fit es (λ j l. f (suc j) (omega arith)) k
 
 -- the bodies' length with one message more
 pub summed-more : (ms : List Entry) (k : ℕ) → k < length ms → summed (take (suc k) ms) ≡ summed (take k ms) + getD ms k noEntry .len
@@ -61,7 +55,7 @@ spelled words k =
       len = word words k 6;
     }
 
-module _ (words bodies out : List ℕ) (n : ℕ) (wide : Wide words) (e : packed words bodies (length out) ≡ Total n) where
+module _ (words bodies out : List ℕ) (n : ℕ) (e : packed words bodies (length out) ≡ Total n) where
   takes : Accepts (wordMessages words) bodies (length out)
   takes = accepts (wordMessages words) bodies (length out) (total-yes (wordMessages words) bodies (length out) n e .0)
 
@@ -93,9 +87,6 @@ module _ (words bodies out : List ℕ) (n : ℕ) (wide : Wide words) (e : packed
       let z = add-zero (7 * k) in
       kind-back (word words k 0) (record { version = word words k 4; tie = word words k 5 }) (rw z (g .kind))
 
-  fit : AllFit (wordMessages words)
-  fit = all-fit (wordMessages words) (λ k l. rw (says k (omega (arith, size))) (record { epoch = wide (7 * k + 2); version = rw stamp-back (wide (7 * k + 4)) }))
-
   -- where its body begins
   begins : (k : ℕ) → k ≤ manyIn words → summed (take k (wordMessages words)) ≡ bodyFrom words k
   unfolding summed
@@ -103,18 +94,18 @@ module _ (words bodies out : List ℕ) (n : ℕ) (wide : Wide words) (e : packed
   begins (suc k) l = summed-more (wordMessages words) k (omega (arith, size)) ∙ (λ i. begins k (omega arith) i + says k l i .len)
 
   reads : ReadsBack (take n (outputOf (Total n) (wordMessages words) bodies out)) (wordMessages words) bodies
-  reads = written-reads-back (wordMessages words) bodies out n fit e
+  reads = written-reads-back (wordMessages words) bodies out n e
 
 pub words-read-back : WordsReadBack
-words-read-back words bodies out n wide e =
-    let r = reads words bodies out n wide e in
-    let s = size words bodies out n wide e in
-    let says = says words bodies out n wide e in
-    let begins = begins words bodies out n wide e in
+words-read-back words bodies out n e =
+    let r = reads words bodies out n e in
+    let s = size words bodies out n e in
+    let says = says words bodies out n e in
+    let begins = begins words bodies out n e in
     record {
-      seven = seven words bodies out n wide e .1;
+      seven = seven words bodies out n e .1;
       message = λ k l. r .message k (omega (arith, s)) ∙ (λ i. Found (says k l i) (entryPlace (s i) + begins k (omega arith) i));
-      kind = kinds words bodies out n wide e;
+      kind = kinds words bodies out n e;
       body = λ k l. r .body k (omega (arith, s)) ∙ (λ i. take (says k l i .len) (drop (begins k (omega arith) i) bodies));
       beyond = λ k l. r .beyond k (omega (arith, s));
     }

@@ -1,7 +1,7 @@
 -- Demand 2 of packets, over the words that a caller passes: "A packet written reads back as the same messages, and an accepted packet
 -- is the one the writer makes of its messages."
 -- Here every word is named by its place, and no definition of the writer's stands between.
-use Prim.Native.Nat.{ℕ, zero, suc, _+_, _*_, _/_, _^_, _≤_, _<_}
+use Prim.Native.Nat.{ℕ, zero, suc, _+_, _*_, _/_, _≤_, _<_}
 use mathlib.Core.Path.{_≡_}
 use mathlib.Core.List.{List, [], _∷_, _++_}
 use lib.ListN.{length, take, drop, getD}
@@ -23,10 +23,6 @@ manyIn words = length words / 7
 -- word j of message k: 0 its kind, 1 the sender, 2 the epoch, 3 the record, 4 the version, 5 the tie-breaker, 6 the length of its body
 abbrev pub word : List ℕ → ℕ → ℕ → ℕ
 word words k j = getD words (7 * k + j) 0
-
--- every word has 32 bits, as every u32 does
-abbrev pub Wide : List ℕ → Type 0
-Wide words = (i : ℕ) → getD words i 0 < 256 ^ 4
 
 -- message k
 abbrev pub saidBy : List ℕ → ℕ → Entry
@@ -53,7 +49,7 @@ pub record ReadsAs (p words bodies : List ℕ) : Type 0 where
 
 -- Whatever the writer accepts, the first n bytes of its output read back as the words that it was handed.
 abbrev pub WordsReadBack : Type 0
-WordsReadBack = (words bodies out : List ℕ) (n : ℕ) → Wide words → packed words bodies (length out) ≡ Total n
+WordsReadBack = (words bodies out : List ℕ) (n : ℕ) → packed words bodies (length out) ≡ Total n
     → ReadsAs (take n (outputOf (Total n) (wordMessages words) bodies out)) words bodies
 
 -- ---- an accepted packet is packed again from its messages' words
