@@ -78,13 +78,6 @@ contents-entry (e ∷ es) (suc i) at rest l =
     ∙ contents-entry es i (at + e .len) rest (le-of-suc-le-suc l)
     ∙ ap (fieldsFor (getD es i noEntry)) (add-assoc at (e .len) (summed (take i es)))
 
--- a body lies within the bodies
-pub summed-take : (es : List Entry) (i : ℕ) → i < length es → summed (take i es) + getD es i noEntry .len ≤ summed es
-unfolding summed
-summed-take [] i h = absurd (not-suc-le-zero h)
-summed-take (e ∷ es) zero h = omega arith
-summed-take (e ∷ es) (suc i) h = omega (arith, summed-take es i (le-of-suc-le-suc h))
-
 -- ---- what is read is written
 
 -- a table that passes the walk is the one written of its messages

@@ -14,7 +14,7 @@ use Rattle.packet_format.specs.declared.entry.Fields.{Fields}
 use Rattle.packet_format.specs.declared.answer.Fetched.the-variants.{Found, Refused}
 use Rattle.packet_format.specs.Bytes.{num, window}
 use Rattle.packet_format.specs.Entry.{fieldsOf, entryOf, good}
-use Rattle.packet_format.specs.Reading.{countOf, entryPlace, question20, question22, walk, fetchRefusal, fetchedAs, fetched, fetchedNumber}
+use Rattle.packet_format.specs.Reading.{countOf, entryPlace, question20, question22, walk, fetchRefusal, fetched}
 use Rattle.hermes_record.proofs.Tests.{both}
 
 -- a part to the end is what is left after the start
@@ -119,12 +119,3 @@ module _ (p : List ℕ) (i : ℕ) where
         unfolding fetched fetchRefusal
         fetch-0 l f e =
             simp (a, le-leb _ _ b, d, lt-ltb _ _ l) (ap (λ (x : Fields). Found (entryOf x) (x .offset)) (e ∙ ap fieldsOf (part-to-end p (entryPlace i))))
-
--- the number of an answer is that of the first question that said no
-pub fetched-number : (p : List ℕ) (i : ℕ) → fetchedNumber (fetched p i) ≡ fetchRefusal p i
-unfolding fetched
-fetched-number p i = go (fetchRefusal p i) (fieldsOf (drop (entryPlace i) p))
-  where
-    go : (k : ℕ) (f : Fields) → fetchedNumber (fetchedAs k f) ≡ k
-    go zero f = refl
-    go (suc k) f = refl

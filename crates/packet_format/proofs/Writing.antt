@@ -9,7 +9,7 @@ use lib.Dec.{leb, eqb}
 use lib.ListN.{length}
 use Rattle.packet_format.specs.declared.entry.Entry.{Entry}
 use Rattle.packet_format.specs.declared.answer.Written.the-variants.{Total}
-use Rattle.packet_format.specs.Writing.{summed, totalOf, allGood, question24, question25, writeRefusal, writtenAs, packetWritten, writtenNumber}
+use Rattle.packet_format.specs.Writing.{summed, totalOf, allGood, question24, question25, writeRefusal, writtenAs, packetWritten}
 use Rattle.hermes_record.proofs.Tests.{both}
 
 -- the parts of questions 24 and 25
@@ -60,12 +60,3 @@ module _ (es : List Entry) (bodies : List ℕ) (room : ℕ) where
   pub total-yes : (n : ℕ) → packetWritten es bodies room ≡ Total n → (writeRefusal es bodies room ≡ 0) × (totalOf (length es) bodies ≡ n)
   unfolding packetWritten
   total-yes n h = total-of (writeRefusal es bodies room) (totalOf (length es) bodies) n h
-
--- the number of an answer is that of the first question that said no
-pub written-number : (es : List Entry) (bodies : List ℕ) (room : ℕ) → writtenNumber (packetWritten es bodies room) ≡ writeRefusal es bodies room
-unfolding packetWritten
-written-number es bodies room = go (writeRefusal es bodies room) (totalOf (length es) bodies)
-  where
-    go : (k n : ℕ) → writtenNumber (writtenAs k n) ≡ k
-    go zero n = refl
-    go (suc k) n = refl
