@@ -27,7 +27,7 @@ grep -nE '^(pub )?(struct|enum) ' crates/*/src/*.rt >"$dir/types"
 guide=$(rt doc 2>/dev/null) && kit=$(cd "$(dirname "$guide")/.." && pwd) || kit=''
 [ -d "$kit/logic" ] || kit=''
 
-count() { LC_ALL=C awk -v roots="$dir/roots" -v types="$dir/types" -v kit="$kit" "$@" -f tests/trust.awk; }
+count() { LC_ALL=C awk -v roots="$dir/roots" -v types="$dir/types" -v kit="$kit" "$@" -f tests/trust/reading.awk -f tests/trust/counting.awk; }
 
 case ${1-} in
 --read)
