@@ -48,7 +48,8 @@ bodiesSent (s ∷ ss) = s .body ++ bodiesSent ss
 abbrev pub Leaves : Node → ℕ → Event → List ℕ → Logged → Type 0
 Leaves n i e v x = logged [] (apply higher n i e v .node) (sentBy (apply higher n i e v .answer)) ≡ x ∷ []
 
--- the first: an exported event was called, message x left it, and `cetskobi_body` was then asked for its bytes
+-- The first: an exported event was called, message x left it, and `cetskobi_body` was then asked for its bytes. An ACK that left
+-- `cetskobi_deliver_packet` is among these, since by `ThroughTheAir` that call does what `called` says.
 pub record Called (x : Logged) (s : Sending) : Type 0 where
   pub table : List ℕ
   pub store : List ℕ
@@ -63,13 +64,14 @@ pub record Called (x : Logged) (s : Sending) : Type 0 where
   pub copied : s .body ≡ take told (drop (192 * s .index) store′)
   pub leaves : Leaves (nodeOf (s .from) table store) (s .index) event value x
 
--- the second: `cetskobi_pack` was called with an output, answered 0, and left the packet at its front
+-- The second: `cetskobi_pack` was called with an output, answered 0, and left the packet at its front.
 pub record Packed (ss : List Sending) (packet : List ℕ) : Type 0 where
   pub out : List ℕ
   pub accepted : packAnswer (wordsSent ss) (bodiesSent ss) out .number ≡ 0
   pub front : packet ≡ take (packAnswer (wordsSent ss) (bodiesSent ss) out .len) (packOutput (wordsSent ss) (bodiesSent ss) out)
 
--- The third: `cetskobi_deliver_packet`, of that message of the packet, is exactly the delivery of the message that left, with the bytes that it left with.
+-- The third: `cetskobi_deliver_packet`, of that message of the packet, is exactly the delivery of the message that left, with the bytes that it
+-- left with.
 abbrev pub ThroughTheAir : Type 0
 ThroughTheAir = (before after : List Sending) (s : Sending) (x : Logged) (packet : List ℕ)
     → Called x s → Packed (before ++ s ∷ after) packet
