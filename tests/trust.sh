@@ -18,7 +18,7 @@ cat >"$dir/roots" <<END
 2|packets, over the words that a caller passes|packet_words.ReadBack.WordsReadBack packet_words.ReadBack.AcceptedIsPacked|crates/packet_words/proofs/ReadBack.antt:words-read-back crates/packet_words/proofs/ReadBack.antt:accepted-is-packed
 2|packets, as C calls the functions|export_packets.RoundTrip.PackedIsFetched export_packets.RoundTrip.FetchedIsPacked|crates/export_packets/proofs/RoundTrip.antt:packed-is-fetched crates/export_packets/proofs/RoundTrip.antt:fetched-is-packed
 3|agreement|hermes.Agreement.Demand3|crates/hermes/proofs/Agreement.antt:agreement
-3|the same, stated a second time from the papers alone|hermes.SecondReading.SecondDemand3|crates/hermes/proofs/SecondReading.antt:second-demand3
+3|the same, stated a second time from the papers|hermes.SecondReading.SecondDemand3|crates/hermes/proofs/SecondReading.antt:second-demand3
 3|from one call to another, and lists of calls|check_air.Air.ThroughTheAir check_air.Late.LateIsCalled check_air.Callers.CalledDemand3|crates/check_air/proofs/Air.antt:through-the-air crates/check_air/proofs/Late.antt:late-is-called crates/check_air/proofs/Callers.antt:called-demand3
 END
 

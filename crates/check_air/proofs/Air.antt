@@ -27,6 +27,7 @@ use Rattle.hermes.specs.Node.{Node, Outcome, recordOf, leaving, apply}
 use Rattle.hermes.specs.Run.{Logged, logged}
 use Rattle.hermes.proofs.Apply.{Applied, refused, accepted, applied}
 use Rattle.packet_format.specs.declared.entry.Entry.{Entry}
+use Rattle.packet_format.specs.declared.answer.Fetched.{Fetched}
 use Rattle.packet_format.specs.declared.answer.Fetched.the-variants.{Found}
 use Rattle.packet_format.specs.Reading.{entryPlace, fetched, bodyOf}
 use Rattle.packet_words.specs.ReadBack.{manyIn, word, saidBy, bodyFrom, ReadsAs}
@@ -213,4 +214,6 @@ module _ (before after : List Sending) (s : Sending) (x : Logged) (packet : List
 pub through-the-air : ThroughTheAir
 through-the-air before after s x packet c p me table store table′ store′ a h =
     let (at, found, brings) = found-left before after s x packet c p in
-    delivers (nodeOf me table store) table packet (entryLeft x) at (x .body) a table′ store′ brings (rw found at h)
+    let arrived : Arrived (nodeOf me table store) table packet (Found (entryLeft x) at) a table′ store′ =
+    subst (λ (f : Fetched). Arrived (nodeOf me table store) table packet f a table′ store′) found h in
+    delivers (nodeOf me table store) table packet (entryLeft x) at (x .body) a table′ store′ brings arrived
