@@ -9,26 +9,28 @@ use native.Mathlib.Omega.{arith}
 use native.Mathlib.Decide.{ℕ-discrete}
 use lib.ListN.{length, getD-replicate}
 use borrow.Author.Tests.{eq-eqb, ne-eqb}
+use Rattle.hermes_record.specs.declared.record.Record.{Record}
 use Rattle.hermes_record.specs.declared.record.State.{State}
 use Rattle.hermes_record.specs.declared.record.State.the-variants.{Valid}
 use Rattle.hermes.specs.declared.event.Replica.{Replica}
-use Rattle.hermes.specs.declared.event.Event.the-variants.{Validate}
+use Rattle.hermes.specs.declared.event.Event.{Event}
+use Rattle.hermes.specs.declared.event.Event.the-variants.{Deliver, Validate}
 use Rattle.hermes_record.specs.Members.{lowest}
 use Rattle.hermes_record.specs.Order.{TieOrder, higher, NotAfter}
 use Rattle.hermes_record.specs.Record.{oneOf, freshRecord}
 use Rattle.hermes.specs.Store.{slot, padded}
 use Rattle.hermes.specs.Event.{numberOf}
 use Rattle.hermes.specs.Node.{Node, Outcome, recordOf, apply, newcomer}
-use Rattle.hermes.specs.Run.{Entry, Group, nodeAfter, result, advance, run}
-use Rattle.hermes.specs.Agreement.{FreshStart, Started, AsIssued, Entries, Sees, Shows, Alike, Validation, validates, Agreement, Demand3Any, Demand3}
+use Rattle.hermes.specs.Run.{Entry, Group, received, nodeAfter, result, advance, run}
+use Rattle.hermes.specs.Agreement.{FreshStart, Started, AsIssued, Entries, Sees, Shows, Alike, Validation, validates, acknowledges, Agreement, Demand3Any, Demand3}
 use Rattle.hermes.proofs.Members.{has-zero}
 use Rattle.hermes_record.proofs.Order.{higher-order, notAfter-refl, notAfter-trans}
 use Rattle.hermes.proofs.Store.{zeros, slot-zero}
 use Rattle.hermes.proofs.Start.{sized, Begun, begun}
-use Rattle.hermes.proofs.Apply.{stepOf, done, Applied, refused, accepted, applied}
+use Rattle.hermes.proofs.Apply.{stepOf, Applied, refused, accepted, applied}
 use Rattle.hermes.proofs.Protocol as protocol
 use Rattle.hermes.proofs.Protocol.{Copy, Msg, Move, Honest, Invariant, Step, preserve, rises}
-use Rattle.hermes.proofs.Refine.{Cell, clean-cell, setting, copy, copyOf, copy-here, stepped, Known, Refined, refined}
+use Rattle.hermes.proofs.Refine.{Cell, clean-cell, setting, copy, copyOf, Known, Refined, refined}
 
 -- ---- lists of entries
 
@@ -56,15 +58,19 @@ record Finished (i : ℕ) (n n′ : Node) : Type 0 where
   timestamp : copy i n′ .timestamp ≡ recordOf i n .timestamp
   view : copy i n′ .view ≡ n .me .view
 
-finishes : (wins : ℕ → ℕ → Bool) (i : ℕ) (n : Node) → numberOf (apply wins n i Validate [] .answer) ≡ 0 → Finished i n (apply wins n i Validate [] .node)
-finishes wins i n = go (apply wins n i Validate []) (applied wins n i Validate [])
+-- an accepted event whose step makes the record valid and keeps its timestamp
+finishes : (wins : ℕ → ℕ → Bool) (i : ℕ) (n : Node) (ev : Event) (v : List ℕ)
+    → stepOf wins n i ev v .after .state ≡ Valid → stepOf wins n i ev v .after .timestamp ≡ recordOf i n .timestamp
+    → numberOf (apply wins n i ev v .answer) ≡ 0 → Finished i n (apply wins n i ev v .node)
+finishes wins i n ev v p t = go (apply wins n i ev v) (applied wins n i ev v)
   where
-    go : (o : Outcome) → Applied wins n i Validate [] o → numberOf (o .answer) ≡ 0 → Finished i n (o .node)
+    go : (o : Outcome) → Applied wins n i ev v o → numberOf (o .answer) ≡ 0 → Finished i n (o .node)
     go o (refused k z q) e = absurd (omega (arith, ap (λ (x : Outcome). numberOf (x .answer)) q))
-    go o (accepted y c q) e = rw q (record { valid = ap (λ (c : Copy Cell). c .valid) h; timestamp = ap (λ (c : Copy Cell). c .timestamp) h; view = refl })
-      where
-        h : copy i (done n i (stepOf wins n i Validate [])) ≡ stepped i n (stepOf wins n i Validate [])
-        h = copy-here i n (stepOf wins n i Validate []) c
+    go o (accepted y c q) e = rw q (record {
+      valid = ap (λ (s : Record). oneOf (s .state) (Valid ∷ [])) (c .here) ∙ ap (λ (s : State). oneOf s (Valid ∷ [])) p;
+      timestamp = ap (λ (s : Record). s .timestamp) (c .here) ∙ t;
+      view = refl;
+    })
 
 module _ (wins : ℕ → ℕ → Bool) (ord : TieOrder wins) (member : ℕ → Bool) (count : ℕ) (issued : ℕ → ℕ) where
   -- a number that no replica has stands as a fresh one that never moves
@@ -164,7 +170,9 @@ module _ (wins : ℕ → ℕ → Bool) (ord : TieOrder wins) (member : ℕ → B
   -- ---- validations
   finished : (g : Group) (a : Entry) (i : ℕ) → Validation wins g a i → Finished i (g .at (a .who)) (nodeAfter (result wins g a) (g .at (a .who)))
   unfolding result
-  finished g a i (validates e z) = rw e (finishes wins i (g .at (a .who)) (rw e at z))
+  finished g a i (validates e z) = rw e (finishes wins i (g .at (a .who)) Validate [] refl refl (rw e at z))
+  finished g a i (acknowledges k x t e f j m c z) =
+      rw (e, f, j) (finishes wins i (g .at (a .who)) (Deliver (received x)) (x .body) (rw (m, c)) (rw (m, c)) (rw (e, f, j) at z))
 
   -- once a replica has validated, its view has reached the validated timestamp, and keeps it
   reached : (g : Group) → Ok g → (i m : ℕ) → i < count → (a : Entry) (rest : List Entry) → Entries member issued (a ∷ rest)

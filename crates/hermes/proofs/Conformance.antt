@@ -21,23 +21,23 @@ use Rattle.hermes.specs.declared.event.Replica.{Replica}
 use Rattle.hermes.specs.declared.event.Event.{Event}
 use Rattle.hermes.specs.declared.event.Event.the-variants.{Read, Write, Replay, Deliver, Validate, Resend}
 use Rattle.hermes.specs.declared.event.Admission.the-variants.{Admitted}
-use Rattle.hermes_record.specs.Members.{has, lowest}
+use Rattle.hermes_record.specs.Members.{has, lowest, othersIn}
 use Rattle.hermes_record.specs.Order.{higher, later, sameTimestamp}
-use Rattle.hermes_record.specs.Record.{oneOf, invalidatedState, freshRecord}
+use Rattle.hermes_record.specs.Record.{oneOf, invalidatedState, acknowledged, freshRecord}
 use Rattle.hermes.specs.Store.{slot}
-use Rattle.hermes.specs.Guards.{Question, AllYes, ask, firstNo, question1, question3, question8, question12}
-use Rattle.hermes.specs.Event.{Step, invStep, resent, numberOf, answerOf, sentBy}
+use Rattle.hermes.specs.Guards.{Question, AllYes, ask, firstNo, question1, question3, question8, question12, question15}
+use Rattle.hermes.specs.Event.{Step, invStep, ackStep, completes, resent, numberOf, answerOf, sentBy}
 use Rattle.hermes.specs.Node.{Node, Outcome, recordOf, leaving, apply, newcomer, startQuestions, start, view, viewed, viewQuestions, admissionOf, admissionNumber}
 use Rattle.hermes.specs.Frame.{bytesAfter, Changed}
 use Rattle.hermes.specs.Locality.{body}
 use Rattle.hermes.specs.Source as source
-use Rattle.hermes.specs.Source.{Vars, Sending, In, HInit, HReadGuard, HWriteGuard, HReplayWriteGuard, HRcvInvGuard, HRcvInv, HRcvAckGuard, HRcvValGuard, HSendValsGuard, NodeFailureGuard, ResendGuard, Resent, sendInv}
+use Rattle.hermes.specs.Source.{Vars, Sending, In, HInit, HReadGuard, HWriteGuard, HReplayWriteGuard, HRcvInvGuard, HRcvInv, HRcvAckGuard, HRcvAckThenSendVals, HRcvValGuard, HSendValsGuard, NodeFailureGuard, ResendGuard, Resent, sendInv}
 use Rattle.hermes.specs.Conformance.{varsOf, fiveAnd, delivered, message, Follows, ViewFollows, StartFollows, Demand2By, Demand2}
-use Rattle.hermes_record.proofs.Tests.{and-both, is-false, or-true}
+use Rattle.hermes_record.proofs.Tests.{both, and-both, is-false, or-true}
 use Rattle.hermes.proofs.Members.{Has, has-zero, within-members, members-within, others-members, members-others, adds-sender}
 use Rattle.hermes_record.proofs.Order.{later-greater, greater-later}
 use Rattle.hermes.proofs.Store.{value-slot, take-padded}
-use Rattle.hermes.proofs.Guards.{DeliverOwn, ResendOwn, read-own, write-own, deliver-own, validate-own, replay-own, resend-own, view-later, view-inside, all-yes, none-says-no}
+use Rattle.hermes.proofs.Guards.{DeliverOwn, ResendOwn, read-own, write-own, deliver-own, replay-own, resend-own, view-later, view-inside, all-yes, none-says-no}
 use Rattle.hermes.proofs.Steps.{next-version, step-about}
 use Rattle.hermes.proofs.Apply.{passed-zero, questionsOf, ownOf, stepOf, done, Applied, refused, accepted, applied, first-five, its-own, sound-step}
 use Rattle.hermes.proofs.Words.{one-in, in-one, is-state, state-is, equal-ts, ts-same, Two, size-two, two-size}
@@ -132,6 +132,25 @@ coordinator s (inl e) = rw e
 coordinator s (inr (inl e)) = rw e
 coordinator s (inr (inr e)) = absurd e
 
+-- question 15 is the guard of HSendVals
+module _ (me : Replica) (r : Record) (b : List ℕ) where
+  may-send : question15 me r .yes ≡ true → HSendValsGuard me (seen r b)
+  may-send h = (one-in (r .state) (state.Write ∷ state.Replay ∷ []) (p .0), λ k a d. other k d (others-members (me .number) (me .view) (r .acks) (p .1) k a))
+    where
+      p : (oneOf (r .state) (state.Write ∷ state.Replay ∷ []) ≡ true) × (othersIn (me .number) (me .view) (r .acks) ≡ true)
+      p = both (oneOf (r .state) (state.Write ∷ state.Replay ∷ [])) (othersIn (me .number) (me .view) (r .acks)) h
+
+      other : (k : ℕ) → k ≢ me .number → (k ≡ me .number) ⊎ Has (r .acks) k → Has (r .acks) k
+      other k d (inl e) = absurd (d e)
+      other k d (inr h) = h
+
+  sends-may : HSendValsGuard me (seen r b) → question15 me r .yes ≡ true
+  sends-may g = and-both _ _ (in-one (r .state) (state.Write ∷ state.Replay ∷ []) (g .0)) (members-others (me .number) (me .view) (r .acks) (λ k a. which k (g .1 k a) (ℕ-discrete k (me .number))))
+    where
+      which : (k : ℕ) → (k ≢ me .number → Has (r .acks) k) → Dec (k ≡ me .number) → (k ≡ me .number) ⊎ Has (r .acks) k
+      which k f (yes e) = inl e
+      which k f (no d) = inr (f d)
+
 module _ (wins : ℕ → ℕ → Bool) (n : Node) (i : ℕ) (v : List ℕ) where
   follows-read : Follows wins n i Read v (fiveAnd n i []) HReadGuard source.HRead
   follows-read = follows wins n i Read v (fiveAnd n i []) HReadGuard source.HRead
@@ -164,19 +183,9 @@ module _ (wins : ℕ → ℕ → Bool) (n : Node) (i : ℕ) (v : List ℕ) where
 
   follows-validate : Follows wins n i Validate v (fiveAnd n i []) (HSendValsGuard (n .me)) (source.HSendVals (n .me) i)
   follows-validate = follows wins n i Validate v (fiveAnd n i []) (HSendValsGuard (n .me)) (source.HSendVals (n .me) i)
-      (λ y. let o = validate-own (n .me) (recordOf i n) (length v) (its-own n i Validate v y) in
-      (five wins n i Validate v [] y tt, (one-in (recordOf i n .state) (state.Write ∷ state.Replay ∷ []) (o .pending), λ k a d. other k d (others-members (n .me .number) (n .me .view) (recordOf i n .acks) (o .acknowledged) k a))))
-      (λ g. back wins n i Validate v [] (g .0)
-      (and-both _ _ (in-one (recordOf i n .state) (state.Write ∷ state.Replay ∷ []) (g .1 .0)) (members-others (n .me .number) (n .me .view) (recordOf i n .acks) (λ k a. which k (g .1 .1 k a) (ℕ-discrete k (n .me .number)))), tt))
+      (λ y. (five wins n i Validate v [] y tt, may-send (n .me) (recordOf i n) [] (its-own n i Validate v y .0)))
+      (λ g. back wins n i Validate v [] (g .0) (sends-may (n .me) (recordOf i n) [] (g .1), tt))
       (λ y. record { valid = record { nodeState = refl; nodeTS = refl; nodeLastWriter = refl; nodeLastWriteTS = refl; nodeRcvdAcks = refl; value = refl }; send = refl })
-    where
-      other : (k : ℕ) → k ≢ n .me .number → (k ≡ n .me .number) ⊎ Has (recordOf i n .acks) k → Has (recordOf i n .acks) k
-      other k d (inl e) = absurd (d e)
-      other k d (inr h) = h
-
-      which : (k : ℕ) → (k ≢ n .me .number → Has (recordOf i n .acks) k) → Dec (k ≡ n .me .number) → (k ≡ n .me .number) ⊎ Has (recordOf i n .acks) k
-      which k f (yes e) = inl e
-      which k f (no d) = inr (f d)
 
   follows-resend : Follows wins n i Resend v (fiveAnd n i []) (ResendGuard (n .me)) (Resent (n .me) i)
   follows-resend = follows wins n i Resend v (fiveAnd n i []) (ResendGuard (n .me)) (Resent (n .me) i)
@@ -218,6 +227,25 @@ inv-does wins me i r b t sender v false g = record {
   otherwise = λ h. refl;
 }
 
+-- 02, Wish 1: between the two actions the sender is counted, and no more
+ack-does : (me : Replica) (i : ℕ) (r : Record) (b : List ℕ) (sender : ℕ) → has (me .view) sender ≡ true → (c : Bool) → completes me r sender ≡ c
+    → HRcvAckThenSendVals me i sender (seen r b) (stepVars (ackStep c me i r sender) b) (stepSends (ackStep c me i r sender) b)
+ack-does me i r b sender h c e = record { between = between; acknowledged = counted; complete = complete c e; incomplete = incomplete c e }
+  where
+    between : Vars
+    between = seen (acknowledged r sender) b
+
+    counted : source.HRcvAck sender (seen r b) between source.silent
+    counted = record { nodeRcvdAcks = adds-sender (me .view) (r .acks) sender h; nodeLastWriter = refl; nodeLastWriteTS = refl; nodeTS = refl; nodeState = refl; value = refl; send = refl }
+
+    complete : (c : Bool) → completes me r sender ≡ c → HSendValsGuard me between → source.HSendVals me i between (stepVars (ackStep c me i r sender) b) (stepSends (ackStep c me i r sender) b)
+    complete true e g = record { valid = record { nodeState = refl; nodeTS = refl; nodeLastWriter = refl; nodeLastWriteTS = refl; nodeRcvdAcks = refl; value = refl }; send = refl }
+    complete false e g = absurd (false≢true (sym e ∙ sends-may me (acknowledged r sender) b g))
+
+    incomplete : (c : Bool) → completes me r sender ≡ c → (HSendValsGuard me between → ⊥) → (stepVars (ackStep c me i r sender) b ≡ between) × (stepSends (ackStep c me i r sender) b ≡ source.silent)
+    incomplete true e f = absurd (f (may-send me (acknowledged r sender) b e))
+    incomplete false e f = (refl, refl)
+
 module _ (wins : ℕ → ℕ → Bool) (n : Node) (i sender epoch : ℕ) (t : Timestamp) (v : List ℕ) where
   -- question 11 from its two parts
   both-eleven : has (n .me .view) sender ≡ true → sender ≢ n .me .number → (has (n .me .view) sender && not (eqb sender (n .me .number))) ≡ true
@@ -235,8 +263,8 @@ module _ (wins : ℕ → ℕ → Bool) (n : Node) (i sender epoch : ℕ) (t : Ti
       (λ g. back wins n i (Deliver (message sender epoch (Inv t))) v (question12 (message sender epoch (Inv t)) (length v) ∷ []) (g .0) (eq-eqb epoch (n .me .epoch) (g .1 .0), (both-eleven (g .1 .2) (g .1 .1), (g .0 .1 .1 .1 .1 .1 .0, tt))))
       (λ y. inv-does wins (n .me) i (recordOf i n) (slot i (n .store)) t sender v (later wins t (recordOf i n .timestamp)) refl)
 
-  follows-ack : Follows wins n i (Deliver (message sender epoch (Ack t))) v (delivered n i (message sender epoch (Ack t)) v) (HRcvAckGuard (n .me) sender epoch t) (source.HRcvAck sender)
-  follows-ack = follows wins n i (Deliver (message sender epoch (Ack t))) v (delivered n i (message sender epoch (Ack t)) v) (HRcvAckGuard (n .me) sender epoch t) (source.HRcvAck sender)
+  follows-ack : Follows wins n i (Deliver (message sender epoch (Ack t))) v (delivered n i (message sender epoch (Ack t)) v) (HRcvAckGuard (n .me) sender epoch t) (HRcvAckThenSendVals (n .me) i sender)
+  follows-ack = follows wins n i (Deliver (message sender epoch (Ack t))) v (delivered n i (message sender epoch (Ack t)) v) (HRcvAckGuard (n .me) sender epoch t) (HRcvAckThenSendVals (n .me) i sender)
       (λ y. let o = yes (Ack t) y in
       let (p, e, c) = o .kind in (
         five wins n i (Deliver (message sender epoch (Ack t))) v (ask 11 (has (n .me .view) sender) ∷ question12 (message sender epoch (Ack t)) (length v) ∷ []) y (o .known, (o .shape, tt)),
@@ -252,15 +280,7 @@ module _ (wins : ℕ → ℕ → Bool) (n : Node) (i sender epoch : ℕ) (t : Ti
           ),
         ),
       ))
-      (λ y. record {
-        nodeRcvdAcks = adds-sender (n .me .view) (recordOf i n .acks) sender (yes (Ack t) y .known);
-        nodeLastWriter = refl;
-        nodeLastWriteTS = refl;
-        nodeTS = refl;
-        nodeState = refl;
-        value = refl;
-        send = refl;
-      })
+      (λ y. ack-does (n .me) i (recordOf i n) (slot i (n .store)) sender (yes (Ack t) y .known) (completes (n .me) (recordOf i n) sender) refl)
     where
       waits : Bool
       waits = oneOf (recordOf i n .state) (state.Write ∷ state.InvalidWrite ∷ state.Replay ∷ [])

@@ -15,7 +15,7 @@ use Rattle.hermes.specs.Event.{refusal, effect}
 use Rattle.hermes.specs.Node.{newcomer, start, apply, view, viewed}
 use Rattle.hermes.specs.Run as run
 use Rattle.hermes.specs.Run.{Action, result, advance}
-use Rattle.hermes.specs.Agreement.{Started, Entries, Agreement, validates}
+use Rattle.hermes.specs.Agreement.{Started, Entries, Agreement, validates, acknowledges}
 use Rattle.hermes.specs.Played.{three, issued, lentTable, group, played, answers, struckOff, story}
 use Rattle.hermes.specs.Witness.{kind, BothWays, Witness}
 use Rattle.hermes.proofs.Agreement.{agreement}
@@ -33,7 +33,7 @@ started = record {
   silent = refl;
 }
 
-pub played-answers : answers group played ≡ 0 ∷ 0 ∷ 0 ∷ 0 ∷ 0 ∷ 0 ∷ 0 ∷ 0 ∷ 6 ∷ []
+pub played-answers : answers group played ≡ 0 ∷ 0 ∷ 0 ∷ 0 ∷ 0 ∷ 15 ∷ 0 ∷ 0 ∷ 6 ∷ []
 unfolding result advance apply effect refusal start has size lowest within othersIn with padded place later sameTimestamp
 played-answers = refl
 
@@ -46,13 +46,16 @@ played-agree = agreement three 1 issued group started played
 -- views as issued, and nothing asked of any other entry
 story-entries : Entries three issued story
 story-entries =
-    (refl, tt, (refl, tt, (refl, tt, (refl, tt, (refl, tt, (refl, tt, (refl, tt, (refl, tt, (refl, tt, (refl, tt, middle))))))))))
+    (refl, tt, (refl, tt, (refl, tt, (refl, tt, (refl, tt, (refl, tt, (refl, tt, (refl, tt, (refl, tt, (refl, tt, second))))))))))
   where
-    late : Entries three issued (drop 20 story)
-    late = (refl, refl, (refl, tt, (refl, tt, (refl, tt, (refl, tt, (refl, tt, (refl, tt, (refl, tt, (refl, refl, (refl, tt, (refl, tt, tt)))))))))))
+    fourth : Entries three issued (drop 30 story)
+    fourth = (refl, tt, (refl, tt, (refl, tt, (refl, tt, (refl, tt, (refl, tt, tt))))))
 
-    middle : Entries three issued (drop 10 story)
-    middle = (refl, tt, (refl, tt, (refl, tt, (refl, tt, (refl, tt, (refl, refl, (refl, refl, (refl, tt, (refl, tt, (refl, tt, late))))))))))
+    third : Entries three issued (drop 20 story)
+    third = (refl, tt, (refl, tt, (refl, tt, (refl, tt, (refl, tt, (refl, tt, (refl, tt, (refl, tt, (refl, refl, (refl, tt, fourth))))))))))
+
+    second : Entries three issued (drop 10 story)
+    second = (refl, tt, (refl, tt, (refl, tt, (refl, tt, (refl, refl, (refl, refl, (refl, tt, (refl, tt, (refl, refl, (refl, tt, third))))))))))
 
 every-kind : (a : Action) → BothWays (kind a) struckOff
 every-kind (run.read i) = (refl, refl)
@@ -77,8 +80,9 @@ witness = record {
   late = refl;
   gone = refl;
   screens = record { members = (refl, refl); apart = λ e. omega arith; sees = refl; seen = refl; shows = refl; shown = refl };
-  save = record { members = (refl, refl); apart = λ e. omega arith; split = refl; validation = validates refl refl; sees = refl; shown = refl };
-  replay = record { members = (refl, refl); apart = λ e. omega arith; split = refl; validation = validates refl refl; sees = refl; shown = refl };
+  struck = record { members = (refl, refl); apart = λ e. omega arith; split = refl; validation = validates refl refl; sees = refl; shown = refl };
+  replay = record { members = (refl, refl); apart = λ e. omega arith; split = refl; validation = acknowledges 8 _ _ refl refl refl refl refl refl; sees = refl; shown = refl };
+  save = record { members = (refl, refl); apart = λ e. omega arith; split = refl; validation = acknowledges 12 _ _ refl refl refl refl refl refl; sees = refl; shown = refl };
   first = record { timestamp = refl; text = refl };
   second = record { timestamp = refl; text = refl };
 }

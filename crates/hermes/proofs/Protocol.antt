@@ -5,7 +5,7 @@
 use Prim.Native.Nat.{ℕ, _+_, _≤_}
 use mathlib.Core.Path.{_≡_, refl, sym, ap, _∙_}
 use mathlib.Core.Bool.{Bool, true, false, cond, false≢true}
-use mathlib.Core.Logic.{_⊎_, inl, inr, _≢_}
+use mathlib.Core.Logic.{_⊎_, inl, inr, ⊎-map, _≢_}
 use native.Mathlib.Omega.{arith}
 use native.Mathlib.Decide.{ℕ-discrete}
 use Rattle.hermes_record.specs.declared.timestamp.Timestamp.{Timestamp}
@@ -62,6 +62,11 @@ module _ (S : Setting) where
     -- HRcvAck
     rcvAck : (sender e more : ℕ) → sent (ack sender e (a .written)) → ((m : ℕ) → S .Has more m → S .Has (a .acks) m ⊎ (m ≡ sender))
         → b ≡ record { epoch = a .epoch; view = a .view; valid = a .valid; coordinates = a .coordinates; timestamp = a .timestamp; written = a .written; acks = more; cell = a .cell }
+        → Move n sent a b
+    -- HRcvAck and HSendVals, one after the other
+    rcvLast : (sender e more : ℕ) → sent (ack sender e (a .written)) → ((m : ℕ) → S .Has more m → S .Has (a .acks) m ⊎ (m ≡ sender))
+        → a .coordinates ≡ true → ((m : ℕ) → S .Has (a .view) m → (m ≡ n) ⊎ S .Has more m)
+        → b ≡ record { epoch = a .epoch; view = a .view; valid = true; coordinates = false; timestamp = a .timestamp; written = a .written; acks = more; cell = a .cell }
         → Move n sent a b
     -- HRcvVal, of this epoch and this timestamp
     rcvVal : (sender : ℕ) → sent (val sender (a .epoch) (a .timestamp))
@@ -130,6 +135,7 @@ module _ (S : Setting) (ord : TieOrder (S .wins)) where
   rise (replay none h e) = rw e (notAfter-refl (S .wins) _)
   rise (rcvInv sender e s c k m g q) = rw q g
   rise (rcvAck sender e more m h q) = rw q (notAfter-refl (S .wins) _)
+  rise (rcvLast sender e more m h o d q) = rw q (notAfter-refl (S .wins) _)
   rise (rcvVal sender m q) = rw q (notAfter-refl (S .wins) _)
   rise (sendVals o h q) = rw q (notAfter-refl (S .wins) _)
   rise (shrink e h q) = rw q (notAfter-refl (S .wins) _)
@@ -193,6 +199,7 @@ module _ (S : Setting) (ord : TieOrder (S .wins)) where
     extend (replay none h e) = kept _ e refl refl
     extend (rcvInv sender e s c k m g q) = record { book′ = book; grows = raise; new = rw q (raise s c (oks _ m)) }
     extend (rcvAck sender e more m h q) = kept _ q refl refl
+    extend (rcvLast sender e more m h o d q) = kept _ q refl refl
     extend (rcvVal sender m q) = kept _ q refl refl
     extend (sendVals o h q) = kept _ q refl refl
     extend (shrink e h q) = kept _ q refl refl
@@ -203,6 +210,16 @@ module _ (S : Setting) (ord : TieOrder (S .wins)) where
       where
         u : CopyOk S now′ (x .book′) a
         u = copy-up now now′ book (x .book′) up (x .grows) ok
+
+        -- with an ACK counted, all that are counted have reached the timestamp that they acknowledged
+        counted : {sender e : ℕ} → sent (ack sender e (a .written)) → (t : ℕ) → S .Has (a .acks) t ⊎ (t ≡ sender) → NotAfter (S .wins) (a .written) (now′ t)
+        counted m t (inl k) = u .acked t k
+        counted {sender} m t (inr r) = rw r (notAfter-trans (S .wins) ord (oks _ m) (up sender))
+
+        -- who coordinates has reached its own timestamp, and so have all that are counted
+        done : b .timestamp ≡ a .timestamp → a .coordinates ≡ true → (t : ℕ) → (t ≡ n) ⊎ NotAfter (S .wins) (a .written) (now′ t) → NotAfter (S .wins) (a .timestamp) (now′ t)
+        done e o t (inl r) = rw (r, here′, e) (notAfter-refl (S .wins) (a .timestamp))
+        done e o t (inr k) = rw (ok .mine o) at k
 
         go : Move S n sent a b → Booked S now′ (x .book′) (b .timestamp) (b .cell) → CopyOk S now′ (x .book′) b
         go (stay e) s = rw e u
@@ -235,13 +252,17 @@ module _ (S : Setting) (ord : TieOrder (S .wins)) where
           clean = ok .clean;
           current = ok .current;
           settled = u .settled;
-          acked = λ t k. counted t (h t k);
+          acked = λ t k. counted m t (h t k);
           mine = ok .mine;
         })
-          where
-            counted : (t : ℕ) → S .Has (a .acks) t ⊎ (t ≡ sender) → NotAfter (S .wins) (a .written) (now′ t)
-            counted t (inl k) = u .acked t k
-            counted t (inr r) = rw r (notAfter-trans (S .wins) ord (oks _ m) (up sender))
+        go (rcvLast sender e more m h o d q) s = rw q (record {
+          booked = rw q at s;
+          clean = ok .clean;
+          current = ok .current;
+          settled = λ v t k. done (ap (λ (c : Copy (S .Cell)). c .timestamp) q) o t (⊎-map (λ r. r) (λ l. counted m t (h t l)) (d t k));
+          acked = λ t k. counted m t (h t k);
+          mine = λ o. absurd (false≢true o);
+        })
         go (rcvVal sender m q) s = rw q (record {
           booked = rw q at s;
           clean = ok .clean;
@@ -254,14 +275,10 @@ module _ (S : Setting) (ord : TieOrder (S .wins)) where
           booked = rw q at s;
           clean = ok .clean;
           current = ok .current;
-          settled = λ v t k. done t (h t k);
+          settled = λ v t k. done (ap (λ (c : Copy (S .Cell)). c .timestamp) q) o t (⊎-map (λ r. r) (u .acked t) (h t k));
           acked = u .acked;
           mine = λ o. absurd (false≢true o);
         })
-          where
-            done : (t : ℕ) → (t ≡ n) ⊎ S .Has (a .acks) t → NotAfter (S .wins) (a .timestamp) (now′ t)
-            done t (inl r) = rw (r, here′, q) (notAfter-refl (S .wins) (a .timestamp))
-            done t (inr k) = rw (ok .mine o) at (u .acked t k)
         go (shrink e h q) s = rw q (record {
           booked = rw q at s;
           clean = ok .clean;

@@ -21,7 +21,7 @@ use Rattle.hermes.specs.declared.event.Event.the-variants.{Read, Write, 
 use Rattle.hermes_record.specs.Members.{has, with, without}
 use Rattle.hermes_record.specs.Order.{later}
 use Rattle.hermes.specs.Guards.{AllYes}
-use Rattle.hermes.specs.Event.{invStep, deliverStep, resent, step, own, sentBy, recipients}
+use Rattle.hermes.specs.Event.{invStep, ackStep, completes, deliverStep, resent, step, own, sentBy, recipients}
 use Rattle.hermes.specs.Node.{Outcome, recordOf, apply}
 use Rattle.hermes.specs.Recipients.{Exactly, Other, ForItsSender, GoesTo, leaves, WhoGets, OthersOnly}
 use Rattle.hermes_record.proofs.Tests.{both, and-both}
@@ -59,10 +59,16 @@ module _ (wins : ℕ → ℕ → Bool) (me : Replica) (i : ℕ) (r : Record) whe
   inv-goes m t v e o true = for-its-sender m t e o
   inv-goes m t v e o false = for-its-sender m t e o
 
+  -- the VAL of a last ACK goes to all others
+  ack-goes : (m : Received) (c : Bool)
+      → GoesTo me (Deliver m) (ackStep c me i r (m .sender) .sent) (recipients me (Deliver m) (ackStep c me i r (m .sender) .sent))
+  ack-goes m true = others me
+  ack-goes m false = nobody
+
   deliver-goes : (m : Received) (k : Message) (v : List ℕ) → m .message ≡ k → Other me (m .sender)
       → GoesTo me (Deliver m) (deliverStep wins me i r (m .sender) k v .sent) (recipients me (Deliver m) (deliverStep wins me i r (m .sender) k v .sent))
   deliver-goes m (Inv t) v e o = inv-goes m t v e o (later wins t (r .timestamp))
-  deliver-goes m (Ack t) v e o = nobody
+  deliver-goes m (Ack t) v e o = ack-goes m (completes me r (m .sender))
   deliver-goes m (Val t) v e o = nobody
 
   resent-goes : (s : State) (t : Timestamp) → GoesTo me Resend (resent me i s t) (recipients me Resend (resent me i s t))

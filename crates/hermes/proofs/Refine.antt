@@ -27,19 +27,20 @@ use Rattle.hermes_record.specs.Record.{oneOf}
 use Rattle.hermes_record.proofs.Moves.{invalid-shown, invalid-own}
 use Rattle.hermes.specs.Store.{slot, valueAt, padded}
 use Rattle.hermes.specs.Guards.{AllYes, firstNo}
-use Rattle.hermes.specs.Event.{Step, invStep, deliverStep, resent, bodyOf, answerOf}
+use Rattle.hermes.specs.Event.{Step, invStep, ackStep, completes, deliverStep, resent, bodyOf, answerOf}
 use Rattle.hermes.specs.Node.{Node, Outcome, recordOf, apply, view, viewed, viewQuestions, admissionOf, admissionNumber, identity}
 use Rattle.hermes.specs.Run as run
 use Rattle.hermes.specs.Run.{Logged, Action, Result, Found, find, received, delivery, perform, nodeAfter, logged, logAfter}
 use Rattle.hermes.specs.Frame.{bytesAfter, Changed}
 use Rattle.hermes.specs.Agreement.{AsIssued}
+use Rattle.hermes_record.proofs.Tests.{both}
 use Rattle.hermes.proofs.Members.{Has, within-members, others-members, has-zero, with-members}
 use Rattle.hermes_record.proofs.Order.{notAfter-refl, notAfter-total}
 use Rattle.hermes.proofs.Store.{take-padded, value-slot, slot-elsewhere}
 use Rattle.hermes.proofs.Guards.{KindOwn, all-yes, deliver-own, validate-own, view-inside, slot-fits}
 use Rattle.hermes.proofs.Steps.{next-version}
 use Rattle.hermes.proofs.Apply.{stepOf, ownOf, done, Applied, refused, accepted, applied, first-five, its-own, sound-step}
-use Rattle.hermes.proofs.Protocol.{Setting, Copy, Msg, inv, ack, val, Move, stay, write, replay, rcvInv, rcvAck, rcvVal, sendVals, shrink, Honest}
+use Rattle.hermes.proofs.Protocol.{Setting, Copy, Msg, inv, ack, val, Move, stay, write, replay, rcvInv, rcvAck, rcvLast, rcvVal, sendVals, shrink, Honest}
 
 -- ---- a replica's record as a copy of the protocol
 
@@ -203,14 +204,26 @@ module _ (wins : ℕ → ℕ → Bool) (ord : TieOrder wins) (issued : ℕ → �
       let behind : NotAfter wins t (recordOf j n .timestamp) = notAfter-total wins ord t (recordOf j n .timestamp) g in
       record { moves = stay refl; says = search needs }
 
+  -- 02, Wish 1: an ACK that completes the view is also a validation
+  ack-good : (j sender epoch : ℕ) → Known j log (ack sender epoch (recordOf j n .written))
+      → (c : Bool) → completes (n .me) (recordOf j n) sender ≡ c → Good wins issued log j n (ackStep c (n .me) j (recordOf j n) sender)
+  ack-good j sender epoch k true c =
+      let (p, q) = both (oneOf (recordOf j n .state) (state.Write ∷ state.Replay ∷ [])) _ c in
+      record {
+        moves = rcvLast sender epoch (with (recordOf j n .acks) sender) k (with-members (recordOf j n .acks) sender) p (others-members (n .me .number) (n .me .view) (with (recordOf j n .acks) sender) q) refl;
+        says = (refl, (refl, refl));
+      }
+  ack-good j sender epoch k false c = record {
+    moves = rcvAck sender epoch (with (recordOf j n .acks) sender) k (with-members (recordOf j n .acks) sender) refl;
+    says = tt;
+  }
+
   deliver-good : (j sender epoch : ℕ) (m : Message) (v : List ℕ) → Known j log (msg sender epoch m v) → epoch ≡ n .me .epoch
       → KindOwn m sender (recordOf j n) → Good wins issued log j n (deliverStep wins (n .me) j (recordOf j n) sender m v)
   deliver-good j sender epoch (Inv t) v k p y =
       inv-good j sender epoch t v k (later wins t (recordOf j n .timestamp)) refl
-  deliver-good j sender epoch (Ack t) v k p y = record {
-    moves = rcvAck sender epoch (with (recordOf j n .acks) sender) (rw (← e) k) (with-members (recordOf j n .acks) sender) refl;
-    says = tt;
-  }
+  deliver-good j sender epoch (Ack t) v k p y =
+      ack-good j sender epoch (rw (← e) k) (completes (n .me) (recordOf j n) sender) refl
     where
       e : t ≡ recordOf j n .written
       e = y .1

@@ -1,7 +1,8 @@
 -- The premises of the second reading of demand 3 can be met.
-use Prim.Native.Nat.{ℕ}
-use mathlib.Core.Path.{_≡_, refl}
-use mathlib.Core.Logic.{_≢_}
+use Prim.Native.Nat.{ℕ, zero, suc, _<_}
+use mathlib.Core.Path.{_≡_, refl, sym, _∙_}
+use mathlib.Core.Logic.{_⊎_, inl, inr, _≢_}
+use mathlib.Core.Bool.{false≢true}
 use mathlib.Core.List.{List, [], _∷_}
 use native.Mathlib.Omega.{arith}
 use lib.ListN.{replicate}
@@ -9,12 +10,13 @@ use Rattle.hermes.specs.declared.event.Admission.the-variants.{Admitted}
 use Rattle.hermes_record.specs.Members.{has, size, lowest, within, othersIn, with}
 use Rattle.hermes_record.specs.Order.{later, sameTimestamp}
 use Rattle.hermes.specs.Store.{padded, place}
-use Rattle.hermes.specs.Event.{refusal, effect}
-use Rattle.hermes.specs.Node.{Node, start, apply}
-use Rattle.hermes.specs.Played.{lentTable}
-use Rattle.hermes.specs.SecondReading.{Among, first, further, Entry, here, there, History, empty, next, FreshStart, Premises, Agreement, Kept}
-use Rattle.hermes.specs.SecondWitness.{AnyEvent, pair, fresh, begun, saved, taken, counted, finished, shown, list, now, SecondWitness}
-use Rattle.hermes.proofs.SecondReading.{second-demand3}
+use Rattle.hermes.specs.Event.{refusal, effect, sentBy}
+use Rattle.hermes.specs.Node.{Node, start, apply, view, viewed}
+use Rattle.hermes.specs.Played.{issued, lentTable, fresh}
+use Rattle.hermes.specs.SecondReading.{InView, Among, first, further, Mail, Entry, outcome, Leaves, Left, here, there, History, empty, next, FreshStart, Premises, Agreement, CompletesView, Kept}
+use Rattle.hermes.specs.SecondWitness.{AnyEvent, begun, saved, taken, counted, struck, finished, heard, shown, savedAgain, takenAgain, settled, shownAgain, list, now, SecondWitness}
+use Rattle.hermes.proofs.Members.{Has, has-zero, within-members, others-members, with-members}
+use Rattle.hermes.proofs.SecondReading.{in-view, view-in, second-demand3}
 
 any : (issued : ℕ → ℕ) (earlier : List Entry) → AnyEvent issued earlier
 any issued earlier = record {
@@ -32,34 +34,75 @@ each : (P : Node → Type 0) (x : Node) (rest : List Node) → P x → ((n : Nod
 each P x rest h others n first = h
 each P x rest h others n (further a) = others n a
 
-started : (k : ℕ) → start k 3 lentTable (replicate 192 0) .admission ≡ Admitted (fresh k .me) → FreshStart 3 1 (fresh k)
+started : (k : ℕ) → start k 7 lentTable (replicate 192 0) .admission ≡ Admitted (fresh k .me) → FreshStart 7 1 (fresh k)
 started k e = record { number = k; table = lentTable; store = replicate 192 0; records = refl; accepted = rw (← e) }
 
-premises : Premises pair begun
+-- {0,1} is within {0,1,2}
+nested : (low high k : ℕ) → low < high → InView k (issued high) → InView k (issued low)
+unfolding within has
+nested zero zero k l v = v
+nested zero (suc high) k l v = view-in k 7 (within-members 3 7 refl k (in-view k 3 v))
+nested (suc low) zero k l v = absurd (omega arith)
+nested (suc low) (suc high) k l v = v
+
+premises : Premises issued begun
 unfolding start has size
 premises = record {
-  different = (each (λ n. n .me .number ≢ 0) (fresh 1) [] (λ e. omega arith) (λ n. elim [ ]), (λ n. elim [ ], tt));
+  different = (
+    each (λ n. n .me .number ≢ 0) (fresh 1) (fresh 2 ∷ []) (λ e. omega arith) (each (λ n. n .me .number ≢ 0) (fresh 2) [] (λ e. omega arith) (λ n. elim [ ])),
+    (each (λ n. n .me .number ≢ 1) (fresh 2) [] (λ e. omega arith) (λ n. elim [ ]), (λ n. elim [ ], tt)),
+  );
   count = 1;
-  fresh = each (FreshStart 3 1) (fresh 0) (fresh 1 ∷ []) (started 0 refl) (each (FreshStart 3 1) (fresh 1) [] (started 1 refl) (λ n. elim [ ]));
-  nested = λ low high k l v. v;
+  fresh = each (FreshStart 7 1) (fresh 0) (fresh 1 ∷ fresh 2 ∷ []) (started 0 refl)
+      (each (FreshStart 7 1) (fresh 1) (fresh 2 ∷ []) (started 1 refl) (each (FreshStart 7 1) (fresh 2) [] (started 2 refl) (λ n. elim [ ])));
+  nested = nested;
 }
 
-history : History pair begun list now
-unfolding apply effect refusal start has size lowest within othersIn with padded place later sameTimestamp
+-- a message that left the entry before
+sent : {earlier : List Entry} {m : Mail} (e : Entry) → Leaves m (sentBy (outcome e .answer)) (outcome e .node) → Left m (e ∷ earlier)
+sent e l = record { entry = e; listed = first; left = l }
+
+history : History issued begun list now
+unfolding apply effect refusal start has size lowest within othersIn with padded place later sameTimestamp view viewed
 history =
-    next shown
+    next shownAgain
+    (next settled
+    (next takenAgain
+    (next savedAgain
+    (next shown
+    (next heard
     (next finished
+    (next struck
     (next counted
-    (next taken (next saved empty tt here) (record { entry = saved; listed = first; left = refl }) (there here))
-    (record { entry = taken; listed = first; left = refl }) here)
+    (next taken (next saved empty tt here) (sent saved refl) (there here))
+    (sent taken refl) here)
+    refl here)
     tt here)
-    (record { entry = finished; listed = first; left = refl }) (there here)
+    refl (there here))
+    (record { entry = finished; listed = further first; left = refl }) (there here))
+    tt (there here))
+    (sent savedAgain refl) here)
+    (sent takenAgain refl) (there here))
+    (sent settled refl) here
+
+-- in {0,1} laptop 1 waits for 0 alone
+completing : CompletesView 0 0 (settled .found)
+unfolding apply effect refusal start has size lowest within othersIn with padded place later sameTimestamp view viewed
+completing k v d = go (others-members 1 3 (with 0 0) refl k (in-view k 3 v))
+  where
+    go : (k ≡ 1) ⊎ Has (with 0 0) k → (k ≡ 0) ⊎ InView k 0
+    go (inl e) = absurd (d e)
+    go (inr h) = counted (with-members 0 0 k h)
+      where
+        counted : Has 0 k ⊎ (k ≡ 0) → (k ≡ 0) ⊎ InView k 0
+        counted (inl n) = absurd (false≢true (sym (has-zero k) ∙ n))
+        counted (inr e) = inl e
 
 agreed : Agreement now × Kept list now
-agreed = second-demand3 pair begun premises list now history
+agreed = second-demand3 issued begun premises list now history
 
 pub second-witness : SecondWitness
-unfolding apply effect refusal start has size lowest within othersIn with padded place later sameTimestamp
+unfolding apply effect refusal start has size lowest within othersIn with padded place later sameTimestamp view viewed
 second-witness = record {
   any = any;
   premises = premises;
@@ -67,9 +110,22 @@ second-witness = record {
   agreed = agreed;
   sees = (omega arith, refl);
   seen = (omega arith, refl);
-  saverShows = record { itsOwn = omega arith; valid = refl };
-  otherShows = record { itsOwn = omega arith; valid = refl };
-  listed = further first;
-  accepted = refl;
-  finisherSees = (omega arith, refl);
+  shows = record { itsOwn = omega arith; valid = refl };
+  shown = record { itsOwn = omega arith; valid = refl };
+  byValidate = record {
+    listed = further (further (further (further (further (further first)))));
+    validates = refl;
+    accepted = refl;
+    there = further first;
+    sees = (omega arith, refl);
+    shows = record { itsOwn = omega arith; valid = refl };
+  };
+  byAck = record {
+    listed = further first;
+    validates = record { itsRecord = refl; stamp = _; ack = refl; waiting = inl refl; completing = completing };
+    accepted = refl;
+    there = first;
+    sees = (omega arith, refl);
+    shows = record { itsOwn = omega arith; valid = refl };
+  };
 }

@@ -6,32 +6,35 @@ use mathlib.Core.Bool.{Bool, true, false, cond, _&&_}
 use mathlib.Core.Logic.{_⊎_, inl, inr, ⊎-elim, ⊎-map, _≢_}
 use mathlib.Core.List.{List, [], _∷_, _++_, append-assoc}
 use native.Mathlib.Omega.{arith}
+use native.Mathlib.Decide.{ℕ-discrete}
 use lib.Dec.{ltb, eqb}
 use lib.ListN.{length, getD, drop}
 use lib.Seq.{getD-take, getD-drop}
 use borrow.Author.Tests.{eqb-true, ltb-true, eq-eqb, ne-eqb}
 use Rattle.hermes_record.specs.declared.timestamp.Timestamp.{Timestamp}
+use Rattle.hermes_record.specs.declared.record.State.the-variants as state
 use Rattle.hermes.specs.declared.message.Message.the-variants.{Inv, Ack, Val}
 use Rattle.hermes.specs.declared.message.Outgoing.{Outgoing}
 use Rattle.hermes.specs.declared.message.Outgoing.the-variants.{None, Sent}
 use Rattle.hermes.specs.declared.event.Replica.{Replica}
 use Rattle.hermes.specs.declared.event.Admission.the-variants.{Admitted}
-use Rattle.hermes_record.specs.Members.{has}
+use Rattle.hermes_record.specs.Members.{has, with}
 use Rattle.hermes_record.specs.Order.{higher, later, NotAfter, equal, rises}
+use Rattle.hermes_record.specs.Record.{oneOf}
 use Rattle.hermes.specs.Store.{slot}
-use Rattle.hermes.specs.Event.{sentBy}
+use Rattle.hermes.specs.Event.{completes, numberOf, sentBy}
 use Rattle.hermes.specs.Node.{Node, Start, lent, recordOf, newcomer, start}
 use Rattle.hermes.specs.Run as run
 use Rattle.hermes.specs.Run.{Logged, Action, Group, find, found, logged, result, advance}
 use Rattle.hermes.specs.Agreement as one
-use Rattle.hermes.specs.Agreement.{Started, AsIssued, Entries, Alike, validates}
+use Rattle.hermes.specs.Agreement.{Started, AsIssued, Entries, Alike, validates, acknowledges}
 use Rattle.hermes.specs.Reads.{Sound}
 use Rattle.hermes.specs.SecondReading.{InView, Greater, byVersion, byTie, SameOrLater, same, greater, Among, first, further}
 use Rattle.hermes.specs.SecondReading.{Mail, Happening, read, write, replay, delivery, validation, resend, change, perform}
 use Rattle.hermes.specs.SecondReading.{Entry, outcome, Leaves, Left, Honest, Replaced, here, there, History, empty, next}
-use Rattle.hermes.specs.SecondReading.{FreshStart, Different, Premises, ShowsValid, Agree, Agreement, Kept, SecondDemand3}
-use Rattle.hermes_record.proofs.Tests.{both, either}
-use Rattle.hermes.proofs.Members.{bit, bit-member}
+use Rattle.hermes.specs.SecondReading.{FreshStart, Different, Premises, ShowsValid, Agree, Agreement, InWriteOrReplay, LastAck, Validates, Kept, SecondDemand3}
+use Rattle.hermes_record.proofs.Tests.{both, and-both, either}
+use Rattle.hermes.proofs.Members.{bit, bit-member, member-bit, has-small, has-with, members-with, members-others}
 use Rattle.hermes.proofs.Start.{begun}
 use Rattle.hermes.proofs.Agreement.{run-append, at-who, at-other, agreement}
 use Rattle.hermes.proofs.Sound.{stay-sound}
@@ -39,9 +42,13 @@ use Rattle.hermes.proofs.Sound.{stay-sound}
 -- ---- views, stamps, bytes
 
 -- a number that stands in a view is a member
-in-view : (k s : ℕ) → InView k s → has s k ≡ true
+pub in-view : (k s : ℕ) → InView k s → has s k ≡ true
 unfolding bit
 in-view k s v = bit-member s k (v .0) (v .1)
+
+pub view-in : (k s : ℕ) → has s k ≡ true → InView k s
+unfolding bit
+view-in k s h = (has-small s k h, member-bit s k h)
 
 -- the two orders of stamps
 same-or-later : (s t : Timestamp) → NotAfter higher s t → SameOrLater s t
@@ -169,21 +176,49 @@ action (change epoch set) j = run.view epoch set
 abbrev entryOf : Entry → ℕ → run.Entry
 entryOf e j = record { who = e .found .me .number; what = action (e .event) j }
 
+-- the log has the message that an event delivers, under number j
+abbrev Brings : List Logged → Happening → ℕ → Type 0
+Brings log (read i) j = Unit
+Brings log (write i v) j = Unit
+Brings log (replay i) j = Unit
+Brings log (delivery m) j = find log j ≡ found (posted m)
+Brings log (validation i) j = Unit
+Brings log (resend i) j = Unit
+Brings log (change epoch set) j = Unit
+
 -- the action is one that the first reading takes, and does the same
 record Taken (issued : ℕ → ℕ) (log : List Logged) (n : Node) (h : Happening) : Type 0 where
   number : ℕ
+  brings : Brings log h number
   due : AsIssued issued (action h number)
   does : run.perform higher (action h number) log n ≡ run.event (perform h n)
 
 module _ (issued : ℕ → ℕ) (earlier : List Entry) (log : List Logged) (known : (m : Mail) → Left m earlier → In log m) (n : Node) where
   taken : (h : Happening) → Honest issued earlier h → Taken issued log n h
-  taken (read i) o = record { number = 0; due = tt; does = refl }
-  taken (write i v) o = record { number = 0; due = tt; does = refl }
-  taken (replay i) o = record { number = 0; due = tt; does = refl }
-  taken (delivery m) o = let (j, e) = known m o in record { number = j; due = tt; does = rw e }
-  taken (validation i) o = record { number = 0; due = tt; does = refl }
-  taken (resend i) o = record { number = 0; due = tt; does = refl }
-  taken (change epoch set) o = record { number = 0; due = o; does = refl }
+  taken (read i) o = record { number = 0; brings = tt; due = tt; does = refl }
+  taken (write i v) o = record { number = 0; brings = tt; due = tt; does = refl }
+  taken (replay i) o = record { number = 0; brings = tt; due = tt; does = refl }
+  taken (delivery m) o = let (j, e) = known m o in record { number = j; brings = e; due = tt; does = rw e }
+  taken (validation i) o = record { number = 0; brings = tt; due = tt; does = refl }
+  taken (resend i) o = record { number = 0; brings = tt; due = tt; does = refl }
+  taken (change epoch set) o = record { number = 0; brings = tt; due = o; does = refl }
+
+-- a last ACK completes the view in the first reading too
+completing : (m : Mail) (i : ℕ) (n : Node) → LastAck m i n → completes (n .me) (recordOf i n) (m .sender) ≡ true
+completing m i n w =
+    and-both _ _ (waits (w .waiting)) (members-others (n .me .number) (n .me .view) (with (recordOf i n .acks) (m .sender)) (λ k h. other k h (ℕ-discrete k (n .me .number))))
+  where
+    waits : InWriteOrReplay i n → oneOf (recordOf i n .state) (state.Write ∷ state.Replay ∷ []) ≡ true
+    waits (inl e) = rw e
+    waits (inr e) = rw e
+
+    counted : (k : ℕ) → k < 16 → (k ≡ m .sender) ⊎ InView k (recordOf i n .acks) → has (with (recordOf i n .acks) (m .sender)) k ≡ true
+    counted k l (inl e) = members-with (recordOf i n .acks) (m .sender) k (rw (← e) l) (inr e)
+    counted k l (inr a) = rw (has-with (recordOf i n .acks) (m .sender) k, in-view k (recordOf i n .acks) a)
+
+    other : (k : ℕ) → has (n .me .view) k ≡ true → Dec (k ≡ n .me .number) → (k ≡ n .me .number) ⊎ (has (with (recordOf i n .acks) (m .sender)) k ≡ true)
+    other k h (yes e) = inl e
+    other k h (no d) = inr (counted k (has-small (n .me .view) k h) (w .completing k (view-in k (n .me .view) h) d))
 
 -- one entry more
 entries-add : (member : ℕ → Bool) (issued : ℕ → ℕ) (xs : List run.Entry) (a : run.Entry) → Entries member issued xs → member (a .who) ≡ true → AsIssued issued (a .what)
@@ -215,6 +250,7 @@ module _ (issued : ℕ → ℕ) (begun : List Node) (p : Premises issued begun) 
     rest : List run.Entry
     number : ℕ
     split : entries ≡ before ++ entryOf e number ∷ rest
+    brings : Brings (after before .log) (e .event) number
     finds : after before .at (e .found .me .number) ≡ e .found
     gives : result higher (after before) (entryOf e number) ≡ run.event (outcome e)
     sent : (m : Mail) → Leaves m (sentBy (outcome e .answer)) (outcome e .node) → In (after entries .log) m
@@ -278,6 +314,7 @@ module _ (issued : ℕ → ℕ) (begun : List Node) (p : Premises issued begun) 
       rest = [];
       number = act .number;
       split = refl;
+      brings = act .brings;
       finds = it .1;
       gives = gives;
       sent = λ x l. rw log (joins x (g .log) (outcome e .node) (sentBy (outcome e .answer)) l);
@@ -287,6 +324,7 @@ module _ (issued : ℕ → ℕ) (begun : List Node) (p : Premises issued begun) 
       rest = q .rest ++ a ∷ [];
       number = q .number;
       split = ap (λ (xs : List run.Entry). xs ++ a ∷ []) (q .split) ∙ append-assoc (q .before) (entryOf f (q .number) ∷ q .rest) (a ∷ []);
+      brings = q .brings;
       finds = q .finds;
       gives = q .gives;
       sent = λ x l. rw log (stays x (g .log) (outcome e .node) (sentBy (outcome e .answer)) (q .sent x l));
@@ -305,6 +343,13 @@ module _ (issued : ℕ → ℕ) (begun : List Node) (p : Premises issued begun) 
   }
   matched (next e h o r) = one-more e (matched h) o r
 
+  -- an accepted validation is one of the first reading
+  validated : (entries : List run.Entry) (h : Happening) (f : Node) (i : ℕ) → Validates h i f → (q : Past entries (record { found = f; event = h }))
+      → numberOf (perform h f .answer) ≡ 0 → one.Validation higher (after (q .before)) (entryOf (record { found = f; event = h }) (q .number)) i
+  validated entries (delivery x) f i w q z =
+      acknowledges (q .number) (posted x) (w .stamp) refl (q .brings) (w .itsRecord) (w .ack) (rw (q .finds) (completing x i f w)) (rw (q .gives) z)
+  validated entries (validation j) f i w q z = validates (ap run.validate w) (rw (q .gives) z)
+
   -- ---- the claim
 
   module _ (list : List Entry) (now : List Node) (m : Matched list now) where
@@ -322,11 +367,11 @@ module _ (issued : ℕ → ℕ) (begun : List Node) (p : Premises issued begun) 
         (rw p (in-view (b .me .number) (a .me .view) va)) (rw q (in-view (a .me .number) (b .me .view) vb)) (rw p (sa .valid)) (rw q (sb .valid))))
 
     kept : Kept list now
-    kept i f a b z ha v s =
-        let q = m .past (record { found = f; event = validation i }) b in
+    kept i h f a b w z ha v s =
+        let q = m .past (record { found = f; event = h }) b in
         same-or-later (recordOf i f .timestamp) (recordOf i a .timestamp)
-        (rw (q .finds, m .held a ha .1) at (claimed .lasting i (a .me .number) (q .before) (q .rest) (entryOf (record { found = f; event = validation i }) (q .number))
-        (inside i a ha s) (m .held a ha .0) (q .split) (validates refl (rw (q .gives) z)) (rw (q .finds) (in-view (a .me .number) (f .me .view) v)) (rw (m .held a ha .1) (s .valid))))
+        (rw (q .finds, m .held a ha .1) at (claimed .lasting i (a .me .number) (q .before) (q .rest) (entryOf (record { found = f; event = h }) (q .number))
+        (inside i a ha s) (m .held a ha .0) (q .split) (validated (m .entries) h f i w q z) (rw (q .finds) (in-view (a .me .number) (f .me .view) v)) (rw (m .held a ha .1) (s .valid))))
 
 -- ---- the theorem
 

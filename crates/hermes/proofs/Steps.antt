@@ -20,11 +20,11 @@ use Rattle.hermes.specs.declared.message.Outgoing.the-variants.{None, Se
 use Rattle.hermes.specs.declared.event.Replica.{Replica}
 use Rattle.hermes.specs.declared.event.Event.{Event}
 use Rattle.hermes.specs.declared.event.Event.the-variants.{Read, Write, Replay, Deliver, Validate, Resend}
-use Rattle.hermes_record.specs.Members.{has}
+use Rattle.hermes_record.specs.Members.{has, with}
 use Rattle.hermes_record.specs.Order.{later}
 use Rattle.hermes_record.specs.Record.{nextVersion}
 use Rattle.hermes.specs.Guards.{AllYes, question5, shapely}
-use Rattle.hermes.specs.Event.{Stored, kept, placed, Step, invStep, deliverStep, resent, step, own}
+use Rattle.hermes.specs.Event.{Stored, kept, placed, Step, invStep, ackStep, completes, deliverStep, resent, step, own}
 use Rattle.hermes_record.proofs.Tests.{both, is-false}
 use Rattle.hermes.proofs.Guards.{Sound}
 use Rattle.hermes.proofs.Members.{Has, has-small, has-zero, with-members}
@@ -56,14 +56,18 @@ module _ (wins : ℕ → ℕ → Bool) (me : Replica) (i : ℕ) (r : Record) (sm
   deliver-sound sender (Inv t) v h d b =
       let (p, q) = both (leb (t .tie) 15) (leb (length v) 192) b in
       inv-sound t sender v (leb-true _ _ p) (omega (arith, has-small (me .view) sender h)) (leb-true _ _ q) (later wins t (r .timestamp))
-  deliver-sound sender (Ack t) v h d b = record {
-    after = record { short = ok .short; tie = ok .tie; own-tie = ok .own-tie; writer = ok .writer; uncounted = is-false _ (λ k. other (with-members (r .acks) sender (me .number) k)) };
-    fits = tt;
-  }
+  deliver-sound sender (Ack t) v h d b = go (completes me r sender)
     where
       other : Has (r .acks) (me .number) ⊎ (me .number ≡ sender) → ⊥
       other (inl k) = false≢true (sym (ok .uncounted) ∙ k)
       other (inr e) = eqb-false sender (me .number) d (sym e)
+
+      counted : has (with (r .acks) sender) (me .number) ≡ false
+      counted = is-false _ (λ k. other (with-members (r .acks) sender (me .number) k))
+
+      go : (c : Bool) → SoundStep me (ackStep c me i r sender)
+      go true = record { after = record { short = ok .short; tie = ok .tie; own-tie = ok .own-tie; writer = ok .writer; uncounted = counted }; fits = tt }
+      go false = record { after = record { short = ok .short; tie = ok .tie; own-tie = ok .own-tie; writer = ok .writer; uncounted = counted }; fits = tt }
   deliver-sound sender (Val t) v h d b = record { after = record { short = ok .short; tie = ok .tie; own-tie = ok .own-tie; writer = ok .writer; uncounted = ok .uncounted }; fits = tt }
 
   -- a step whose own questions all said yes
@@ -90,9 +94,13 @@ inv-about : (me : Replica) (i : ℕ) (r : Record) (t : Timestamp) (sender : ℕ)
 inv-about me i r t sender v true = search needs
 inv-about me i r t sender v false = search needs
 
+ack-about : (me : Replica) (i : ℕ) (r : Record) (sender : ℕ) (c : Bool) → About i (ackStep c me i r sender .sent)
+ack-about me i r sender true = search needs
+ack-about me i r sender false = search needs
+
 deliver-about : (wins : ℕ → ℕ → Bool) (me : Replica) (i : ℕ) (r : Record) (sender : ℕ) (m : Message) (v : List ℕ) → About i (deliverStep wins me i r sender m v .sent)
 deliver-about wins me i r sender (Inv t) v = inv-about me i r t sender v (later wins t (r .timestamp))
-deliver-about wins me i r sender (Ack t) v = tt
+deliver-about wins me i r sender (Ack t) v = ack-about me i r sender (completes me r sender)
 deliver-about wins me i r sender (Val t) v = tt
 
 resent-about : (me : Replica) (i : ℕ) (s : State) (t : Timestamp) → About i (resent me i s t)

@@ -4,15 +4,17 @@ use mathlib.Core.Path.{_≡_}
 use mathlib.Core.Bool.{Bool, true}
 use mathlib.Core.List.{List, [], _∷_, _++_}
 use lib.ListN.{length}
+use Rattle.hermes_record.specs.declared.timestamp.Timestamp.{Timestamp}
 use Rattle.hermes_record.specs.declared.record.Record.{Record}
 use Rattle.hermes_record.specs.declared.record.State.the-variants.{Valid}
+use Rattle.hermes.specs.declared.message.Message.the-variants.{Ack}
 use Rattle.hermes.specs.declared.event.Admission.the-variants.{Admitted}
 use Rattle.hermes_record.specs.Members.{has}
 use Rattle.hermes_record.specs.Order.{TieOrder, higher, NotAfter}
 use Rattle.hermes.specs.Store.{slot}
-use Rattle.hermes.specs.Event.{numberOf}
+use Rattle.hermes.specs.Event.{completes, numberOf}
 use Rattle.hermes.specs.Node.{Node, recordOf, start}
-use Rattle.hermes.specs.Run.{Action, read, write, replay, deliver, validate, resend, view, Entry, Group, Result, nothing, event, result, run}
+use Rattle.hermes.specs.Run.{Action, read, write, replay, deliver, validate, resend, view, Entry, Group, Logged, find, found, Result, nothing, event, result, run}
 
 -- ---- the premises, of a group: which numbers it has (`member`), how many records each replica has (`count`), the view that is issued
 -- for each epoch (`issued`)
@@ -68,9 +70,12 @@ IsAccepted nothing = ⊥
 IsAccepted (event o) = numberOf (o .answer) ≡ 0
 
 module _ (wins : ℕ → ℕ → Bool) where
-  -- 01, "A validation is an accepted Validate step": entry a, on record i; its replica is the finisher
+  -- 01, "A validation is an accepted Validate step": entry a, on record i; its replica is the finisher. 02, Wish 1, "that too is a
+  -- validation": an accepted delivery of an ACK that completes the view
   pub data Validation (g : Group) (a : Entry) (i : ℕ) : Type 0 where
     validates : a .what ≡ validate i → IsAccepted (result wins g a) → Validation g a i
+    acknowledges : (k : ℕ) (x : Logged) (t : Timestamp) → a .what ≡ deliver k → find (g .log) k ≡ found x → x .header .index ≡ i → x .message ≡ Ack t
+        → completes (g .at (a .who) .me) (recordOf i (g .at (a .who))) (x .header .sender) ≡ true → IsAccepted (result wins g a) → Validation g a i
 
   -- replica k after a list of entries
   abbrev pub after : Group → List Entry → ℕ → Node

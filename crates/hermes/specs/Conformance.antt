@@ -22,7 +22,7 @@ use Rattle.hermes.specs.Guards.{Question, AllYes, ask, question1, questi
 use Rattle.hermes.specs.Event.{numberOf, sentBy}
 use Rattle.hermes.specs.Node.{Node, recordOf, valueOf, apply, viewed, newcomer, start}
 use Rattle.hermes.specs.Locality.{body}
-use Rattle.hermes.specs.Source.{Vars, Sending, HInit, HReadGuard, HRead, HWriteGuard, HWrite, HReplayWriteGuard, HReplayWrite, HRcvInvGuard, HRcvInv, HRcvAckGuard, HRcvAck, HRcvValGuard, HRcvVal, HSendValsGuard, HSendVals, NodeFailureGuard, NodeFailure, ResendGuard, Resent}
+use Rattle.hermes.specs.Source.{Vars, Sending, HInit, HReadGuard, HRead, HWriteGuard, HWrite, HReplayWriteGuard, HReplayWrite, HRcvInvGuard, HRcvInv, HRcvAckGuard, HRcvAckThenSendVals, HRcvValGuard, HRcvVal, HSendValsGuard, HSendVals, NodeFailureGuard, NodeFailure, ResendGuard, Resent}
 
 -- the source's variables of record i
 abbrev pub varsOf : ℕ → Node → Vars
@@ -86,7 +86,7 @@ module _ (wins : ℕ → ℕ → Bool) where
     pub inv : (n : Node) (i sender epoch : ℕ) (t : Timestamp) (v : List ℕ)
         → Follows n i (Deliver (message sender epoch (Inv t))) v (delivered n i (message sender epoch (Inv t)) v) (λ s. HRcvInvGuard (n .me) sender epoch) (HRcvInv wins (n .me) i sender t v)
     pub ack : (n : Node) (i sender epoch : ℕ) (t : Timestamp) (v : List ℕ)
-        → Follows n i (Deliver (message sender epoch (Ack t))) v (delivered n i (message sender epoch (Ack t)) v) (HRcvAckGuard (n .me) sender epoch t) (HRcvAck sender)
+        → Follows n i (Deliver (message sender epoch (Ack t))) v (delivered n i (message sender epoch (Ack t)) v) (HRcvAckGuard (n .me) sender epoch t) (HRcvAckThenSendVals (n .me) i sender)
     pub val : (n : Node) (i sender epoch : ℕ) (t : Timestamp) (v : List ℕ)
         → Follows n i (Deliver (message sender epoch (Val t))) v (delivered n i (message sender epoch (Val t)) v) (HRcvValGuard (n .me) epoch t) HRcvVal
     pub validate : (n : Node) (i : ℕ) (v : List ℕ) → Follows n i Validate v (fiveAnd n i []) (HSendValsGuard (n .me)) (HSendVals (n .me) i)

@@ -105,10 +105,6 @@ abbrev pub invStep : Bool → Replica → ℕ → Record → Timestamp → ℕ �
 invStep true me i r t sender v = record { after = invalidated r t sender (length v); stored = placed v; sent = send me i (Ack t) }
 invStep false me i r t sender v = record { after = r; stored = kept; sent = send me i (Ack t) }
 
--- 01, Deliver ACK
-abbrev pub ackStep : Record → ℕ → Step
-ackStep r sender = record { after = acknowledged r sender; stored = kept; sent = None }
-
 -- 01, Deliver VAL
 abbrev pub valStep : Record → Step
 valStep r = record { after = validated r; stored = kept; sent = None }
@@ -116,6 +112,15 @@ valStep r = record { after = validated r; stored = kept; sent = None }
 -- 01, Validate: a VAL leaves with the stamp
 abbrev pub validateStep : Replica → ℕ → Record → Step
 validateStep me i r = record { after = validated r; stored = kept; sent = send me i (Val (r .timestamp)) }
+
+-- 02, Wish 1, "An ACK that completes the view while the record is in write or replay": with its sender counted, question 15 says yes
+abbrev pub completes : Replica → Record → ℕ → Bool
+completes me r sender = question15 me (acknowledged r sender) .yes
+
+-- 01, Deliver ACK: its sender is counted. 02, Wish 1: one that completes the view "now also validates it, and the VAL leaves with that same event"
+abbrev pub ackStep : Bool → Replica → ℕ → Record → ℕ → Step
+ackStep true me i r sender = validateStep me i (acknowledged r sender)
+ackStep false me i r sender = record { after = acknowledged r sender; stored = kept; sent = None }
 
 -- 01, Resend: write and replay send their INV again, valid sends its VAL; question 17 excludes the other states
 abbrev pub resent : Replica → ℕ → State → Timestamp → Outgoing
@@ -133,7 +138,7 @@ module _ (wins : ℕ → ℕ → Bool) where
   -- 01, Deliver: the step of each kind of message
   abbrev pub deliverStep : Replica → ℕ → Record → ℕ → Message → List ℕ → Step
   deliverStep me i r sender (Inv t) v = invStep (later wins t (r .timestamp)) me i r t sender v
-  deliverStep me i r sender (Ack t) v = ackStep r sender
+  deliverStep me i r sender (Ack t) v = ackStep (completes me r sender) me i r sender
   deliverStep me i r sender (Val t) v = valStep r
 
   -- the step of an event on record i, r, of replica me, with the value v

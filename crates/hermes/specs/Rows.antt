@@ -46,6 +46,9 @@ invOf v t = Inv (record { version = v; tie = t })
 abbrev ackOf : ℕ → ℕ → Message
 ackOf v t = Ack (record { version = v; tie = t })
 
+abbrev valOf : ℕ → ℕ → Message
+valOf v t = Val (record { version = v; tie = t })
+
 -- a fresh start, then the deeds
 abbrev fresh : List Deed → List Deed
 fresh ds = starts 2 group ∷ ds
@@ -69,7 +72,7 @@ ringing =
     -- write: (1,2), state write
     ∷ row (fresh []) save (answers 0 ∷ leaves state.Write ∷ stamps 1 2 ∷ lastWriter 2 ∷ lastWrite 1 2 ∷ acknowledgedBy 0 ∷ holding saved ∷ sends (invOf 1 2) ∷ [])
     -- no row of the paper: after a finished one a write of 1 byte, which empties the acknowledgements and leaves none of the 2 bytes
-    ∷ row (fresh (save ∷ ack 1 2 1 0 ∷ ack 1 2 5 0 ∷ does Validate [] ∷ [])) (does Write (67 ∷ [])) (answers 0 ∷ leaves state.Write ∷ stamps 2 2 ∷ lastWriter 2 ∷ lastWrite 2 2 ∷ acknowledgedBy 0 ∷ holding (67 ∷ []) ∷ sends (invOf 2 2) ∷ [])
+    ∷ row (fresh (save ∷ ack 1 2 1 0 ∷ ack 1 2 5 0 ∷ [])) (does Write (67 ∷ [])) (answers 0 ∷ leaves state.Write ∷ stamps 2 2 ∷ lastWriter 2 ∷ lastWrite 2 2 ∷ acknowledgedBy 0 ∷ holding (67 ∷ []) ∷ sends (invOf 2 2) ∷ [])
     -- write at (1,2), INV (1,5): invalid-write (1,5)
     ∷ row (fresh (save ∷ [])) (inv 1 5 5 0) (answers 0 ∷ leaves state.InvalidWrite ∷ stamps 1 5 ∷ lastWriter 5 ∷ lastWrite 1 2 ∷ acknowledgedBy 0 ∷ holding brought ∷ sends (ackOf 1 5) ∷ [])
     -- same, INV (1,1): ACK leaves, record unchanged
@@ -86,12 +89,21 @@ ringing =
     -- ACK (1,2) from 5: counted; a second time: 13
     ∷ row (fresh (save ∷ [])) (ack 1 2 5 0) (answers 0 ∷ leaves state.Write ∷ stamps 1 2 ∷ lastWriter 2 ∷ lastWrite 1 2 ∷ acknowledgedBy 32 ∷ holding saved ∷ silent ∷ [])
     ∷ row (fresh (save ∷ ack 1 2 5 0 ∷ [])) (ack 1 2 5 0) (answers 13 ∷ unchanged ∷ silent ∷ [])
+    -- 02, Wish 1: the ACK that completes the view, in write and in replay: valid, and the VAL leaves; then validate: 15
+    ∷ row (fresh (save ∷ ack 1 2 5 0 ∷ [])) (ack 1 2 1 0) (answers 0 ∷ leaves state.Valid ∷ stamps 1 2 ∷ lastWriter 2 ∷ lastWrite 1 2 ∷ acknowledgedBy 34 ∷ holding saved ∷ sends (valOf 1 2) ∷ [])
+    ∷ row (fresh (lays replaying (66 ∷ []) ∷ ack 1 5 1 0 ∷ [])) (ack 1 5 5 0) (answers 0 ∷ leaves state.Valid ∷ stamps 1 5 ∷ lastWriter 2 ∷ lastWrite 1 5 ∷ acknowledgedBy 34 ∷ holding (66 ∷ []) ∷ sends (valOf 1 5) ∷ [])
+    ∷ row (fresh (save ∷ ack 1 2 5 0 ∷ ack 1 2 1 0 ∷ [])) (does Validate []) (answers 15 ∷ unchanged ∷ silent ∷ [])
+    -- the same in invalid-write: counted, and nothing else
+    ∷ row (fresh (save ∷ ack 1 2 1 0 ∷ inv 1 5 5 0 ∷ [])) (ack 1 2 5 0) (answers 0 ∷ leaves state.InvalidWrite ∷ stamps 1 5 ∷ lastWriter 5 ∷ lastWrite 1 2 ∷ acknowledgedBy 34 ∷ holding brought ∷ silent ∷ [])
+    -- the view is the one held: with 5 struck off, 1's ACK is the last; one from 5 before that counts as any other
+    ∷ row (fresh (save ∷ turns 1 6 ∷ [])) (ack 1 2 1 1) (answers 0 ∷ leaves state.Valid ∷ stamps 1 2 ∷ lastWriter 2 ∷ lastWrite 1 2 ∷ acknowledgedBy 2 ∷ holding saved ∷ sends (valOf 1 2) ∷ [])
+    ∷ row (fresh (save ∷ ack 1 2 5 0 ∷ turns 1 6 ∷ [])) (ack 1 2 1 1) (answers 0 ∷ leaves state.Valid ∷ stamps 1 2 ∷ lastWriter 2 ∷ lastWrite 1 2 ∷ acknowledgedBy 34 ∷ holding saved ∷ sends (valOf 1 2) ∷ [])
     -- invalid-write (1,5): VAL (1,5) valid, VAL (1,2) 14
     ∷ row (fresh (save ∷ inv 1 5 5 0 ∷ [])) (val 1 5 5 0) (answers 0 ∷ leaves state.Valid ∷ stamps 1 5 ∷ lastWriter 5 ∷ lastWrite 1 2 ∷ acknowledgedBy 0 ∷ holding brought ∷ silent ∷ [])
     ∷ row (fresh (save ∷ inv 1 5 5 0 ∷ [])) (val 1 2 5 0) (answers 14 ∷ unchanged ∷ silent ∷ [])
     -- write, acknowledged by 1: validate 15; after view {1,2}, epoch 1, accepted
     ∷ row (fresh (save ∷ ack 1 2 1 0 ∷ [])) (does Validate []) (answers 15 ∷ unchanged ∷ silent ∷ [])
-    ∷ row (fresh (save ∷ ack 1 2 1 0 ∷ turns 1 6 ∷ [])) (does Validate []) (answers 0 ∷ leaves state.Valid ∷ stamps 1 2 ∷ lastWriter 2 ∷ lastWrite 1 2 ∷ acknowledgedBy 2 ∷ holding saved ∷ sends (Val (record { version = 1; tie = 2 })) ∷ [])
+    ∷ row (fresh (save ∷ ack 1 2 1 0 ∷ turns 1 6 ∷ [])) (does Validate []) (answers 0 ∷ leaves state.Valid ∷ stamps 1 2 ∷ lastWriter 2 ∷ lastWrite 1 2 ∷ acknowledgedBy 2 ∷ holding saved ∷ sends (valOf 1 2) ∷ [])
     -- write at version 4,294,967,294 accepted, at 4,294,967,295: 9
     ∷ row (fresh (inv 4294967294 5 5 0 ∷ [])) save (answers 0 ∷ leaves state.Write ∷ stamps 4294967295 2 ∷ [])
     ∷ row (fresh (inv 4294967295 5 5 0 ∷ [])) save (answers 9 ∷ unchanged ∷ silent ∷ [])

@@ -1,12 +1,13 @@
--- Demand 3 a second time, written from DEMANDS.md and document 01 alone. What one laptop does to one event (Event, Node) is taken as given.
+-- Demand 3 a second time, written from DEMANDS.md, document 01 and document 02's Wish 1 alone. What one laptop does to one event (Event, Node) is taken as given.
 use Prim.Native.Nat.{ℕ, _+_, _*_, _/_, _%_, _^_, _<_}
 use mathlib.Core.Path.{_≡_}
-use mathlib.Core.Logic.{_≢_}
+use mathlib.Core.Logic.{_≢_, _⊎_}
 use mathlib.Core.List.{List, [], _∷_}
 use lib.ListN.{length, getD, take, drop}
 use Rattle.hermes_record.specs.declared.timestamp.Timestamp.{Timestamp}
 use Rattle.hermes_record.specs.declared.record.Record.{Record}
 use Rattle.hermes_record.specs.declared.record.State.the-variants.{Valid}
+use Rattle.hermes_record.specs.declared.record.State.the-variants as state
 use Rattle.hermes_record.specs.Order.{higher}
 use Rattle.hermes.specs.declared.message.Message.{Message}
 use Rattle.hermes.specs.declared.message.Message.the-variants.{Inv, Ack, Val}
@@ -163,10 +164,37 @@ Agreement group = (i : ℕ) (a b : Node) → Among a group → Among b group
     → InView (b .me .number) (a .me .view) → InView (a .me .number) (b .me .view)
     → ShowsValid i a → ShowsValid i b → Agree i a b
 
+-- 02, Wish 1, "while the record is in write or replay": record i of the laptop as the event finds it
+abbrev pub InWriteOrReplay : ℕ → Node → Type 0
+InWriteOrReplay i n = (recordOf i n .state ≡ state.Write) ⊎ (recordOf i n .state ≡ state.Replay)
+
+-- 02, Wish 1, "completes the view"; 01, "every other laptop in the view acknowledged": each of them is the sender, or was counted for record i before
+abbrev pub CompletesView : ℕ → ℕ → Node → Type 0
+CompletesView sender i n = (k : ℕ) → InView k (n .me .view) → k ≢ n .me .number
+    → (k ≡ sender) ⊎ InView k (recordOf i n .acks)
+
+-- 02, Wish 1, "An ACK that completes the view while the record is in write or replay": m is one for record i of n, the laptop that it is delivered to
+pub record LastAck (m : Mail) (i : ℕ) (n : Node) : Type 0 where
+  pub itsRecord : m .number ≡ i
+  pub stamp : Timestamp
+  pub ack : m .kind ≡ Ack stamp
+  pub waiting : InWriteOrReplay i n
+  pub completing : CompletesView (m .sender) i n
+
+-- 01, "A validation is an accepted Validate step"; 02, Wish 1, of such an ACK, "for demand 3 that too is a validation": the event, once accepted, is one of record i
+abbrev pub Validates : Happening → ℕ → Node → Type 0
+Validates (read j) i n = ⊥
+Validates (write j value) i n = ⊥
+Validates (replay j) i n = ⊥
+Validates (delivery m) i n = LastAck m i n
+Validates (validation j) i n = j ≡ i
+Validates (resend j) i n = ⊥
+Validates (change epoch set) i n = ⊥
+
 -- DEMANDS 3, second half: "for every accepted validation in the list", the finisher as it was found, "each laptop then in the finisher's view"
 abbrev pub Kept : List Entry → List Node → Type 0
-Kept list group = (i : ℕ) (finisher a : Node) → Among (record { found = finisher; event = validation i }) list
-    → numberOf (perform (validation i) finisher .answer) ≡ 0
+Kept list group = (i : ℕ) (done : Happening) (finisher a : Node) → Among (record { found = finisher; event = done }) list
+    → Validates done i finisher → numberOf (perform done finisher .answer) ≡ 0
     → Among a group → InView (a .me .number) (finisher .me .view) → ShowsValid i a
     → SameOrLater (recordOf i finisher .timestamp) (recordOf i a .timestamp)
 

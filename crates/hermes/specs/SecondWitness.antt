@@ -1,15 +1,14 @@
--- The premises of the second reading of demand 3 can be met: they forbid no event that document 01 allows, and a group of two with one record each
--- makes a save and finishes it, after which both halves of the claim speak of something.
+-- The premises of the second reading of demand 3 can be met: they forbid no event that document 01 allows, and a group of three with one record
+-- each finishes one save by a Validate and one by the last ACK, after which both halves of the claim speak of something.
 use Prim.Native.Nat.{ℕ}
 use mathlib.Core.Path.{_≡_}
 use mathlib.Core.List.{List, [], _∷_}
-use lib.ListN.{replicate}
 use Rattle.hermes_record.specs.declared.timestamp.Timestamp.{Timestamp}
 use Rattle.hermes.specs.declared.message.Message.{Message}
 use Rattle.hermes.specs.declared.message.Message.the-variants.{Inv, Ack, Val}
 use Rattle.hermes.specs.Event.{numberOf}
-use Rattle.hermes.specs.Node.{Node, newcomer, start}
-use Rattle.hermes.specs.Played.{lentTable}
+use Rattle.hermes.specs.Node.{Node}
+use Rattle.hermes.specs.Played.{issued, fresh}
 use Rattle.hermes.specs.SecondReading.{
   InView,
   Among,
@@ -29,6 +28,7 @@ use Rattle.hermes.specs.SecondReading.{
   Premises,
   ShowsValid,
   Agreement,
+  Validates,
   Kept,
 }
 
@@ -44,27 +44,22 @@ pub record AnyEvent (issued : ℕ → ℕ) (earlier : List Entry) : Type 0 where
   pub resends : (i : ℕ) → Honest issued earlier (resend i)
   pub changes : (epoch : ℕ) → Honest issued earlier (change epoch (issued epoch))
 
--- ---- a save that is finished
+-- ---- two saves that are finished
 
--- the view {0,1}, at every epoch
-abbrev pub pair : ℕ → ℕ
-pair epoch = 3
-
--- laptop k as its start leaves it
-abbrev pub fresh : ℕ → Node
-fresh k = record { me = newcomer k 3; table = start k 3 lentTable (replicate 192 0) .table; store = start k 3 lentTable (replicate 192 0) .store }
-
--- the group at its start
+-- the group at its start, with `issued` and `fresh` of `Played`: 2 is struck off in epoch 1
 abbrev pub begun : List Node
-begun = fresh 0 ∷ fresh 1 ∷ []
+begun = fresh 0 ∷ fresh 1 ∷ fresh 2 ∷ []
 
--- the stamp of the save
+-- the stamps of the saves
 abbrev pub stamp : Timestamp
 stamp = record { version = 1; tie = 0 }
 
--- a message about the record, from this laptop
-abbrev pub mail : ℕ → Message → List ℕ → Mail
-mail sender kind bytes = record { sender = sender; epoch = 0; number = 0; kind = kind; bytes = bytes }
+abbrev pub stampAgain : Timestamp
+stampAgain = record { version = 2; tie = 1 }
+
+-- a message about the record, from this laptop at this epoch
+abbrev pub mail : ℕ → ℕ → Message → List ℕ → Mail
+mail sender epoch kind bytes = record { sender = sender; epoch = epoch; number = 0; kind = kind; bytes = bytes }
 
 -- 0 saves
 abbrev pub saved : Entry
@@ -72,47 +67,80 @@ saved = record { found = fresh 0; event = write 0 (65 ∷ 49 ∷ []) }
 
 -- 1 takes the INV
 abbrev pub taken : Entry
-taken = record { found = fresh 1; event = delivery (mail 0 (Inv stamp) (65 ∷ 49 ∷ [])) }
+taken = record { found = fresh 1; event = delivery (mail 0 0 (Inv stamp) (65 ∷ 49 ∷ [])) }
 
--- 0 counts the ACK
+-- 0 counts the ACK; 2's is missing
 abbrev pub counted : Entry
-counted = record { found = outcome saved .node; event = delivery (mail 1 (Ack stamp) []) }
+counted = record { found = outcome saved .node; event = delivery (mail 1 0 (Ack stamp) []) }
 
--- and finishes
+-- 2 is struck off
+abbrev pub struck : Entry
+struck = record { found = outcome counted .node; event = change 1 3 }
+
+-- 0 finishes by a Validate
 abbrev pub finished : Entry
-finished = record { found = outcome counted .node; event = validation 0 }
+finished = record { found = outcome struck .node; event = validation 0 }
 
--- 1 takes the VAL
+-- 1 hears of the view
+abbrev pub heard : Entry
+heard = record { found = outcome taken .node; event = change 1 3 }
+
+-- and takes the VAL
 abbrev pub shown : Entry
-shown = record { found = outcome taken .node; event = delivery (mail 0 (Val stamp) []) }
+shown = record { found = outcome heard .node; event = delivery (mail 0 1 (Val stamp) []) }
+
+-- 1 saves
+abbrev pub savedAgain : Entry
+savedAgain = record { found = outcome shown .node; event = write 0 (66 ∷ []) }
+
+-- 0 takes the INV
+abbrev pub takenAgain : Entry
+takenAgain = record { found = outcome finished .node; event = delivery (mail 1 1 (Inv stampAgain) (66 ∷ [])) }
+
+-- 1 finishes by the last ACK
+abbrev pub settled : Entry
+settled = record { found = outcome savedAgain .node; event = delivery (mail 0 1 (Ack stampAgain) []) }
+
+-- 0 takes the VAL
+abbrev pub shownAgain : Entry
+shownAgain = record { found = outcome takenAgain .node; event = delivery (mail 1 1 (Val stampAgain) []) }
 
 -- the list, the latest entry first
 abbrev pub list : List Entry
-list = shown ∷ finished ∷ counted ∷ taken ∷ saved ∷ []
+list =
+    shownAgain ∷ settled ∷ takenAgain ∷ savedAgain ∷ shown ∷ heard ∷ finished ∷ struck ∷ counted ∷ taken ∷ saved ∷ []
 
--- the two laptops after it
-abbrev pub saver : Node
-saver = outcome finished .node
+-- 0 and 1 after it, and the group
+abbrev pub laptop0 : Node
+laptop0 = outcome shownAgain .node
 
-abbrev pub other : Node
-other = outcome shown .node
+abbrev pub laptop1 : Node
+laptop1 = outcome settled .node
 
 abbrev pub now : List Node
-now = saver ∷ other ∷ []
+now = laptop0 ∷ laptop1 ∷ fresh 2 ∷ []
+
+-- the premises of `Kept`: an accepted validation is in the list, and a laptop of its finisher's view shows the record valid after it
+pub record Finished (e : Entry) (other : Node) : Type 0 where
+  pub listed : Among e list
+  pub validates : Validates (e .event) 0 (e .found)
+  pub accepted : numberOf (outcome e .answer) ≡ 0
+  pub there : Among other now
+  pub sees : InView (other .me .number) (e .found .me .view)
+  pub shows : ShowsValid 0 other
 
 -- what it shows; `proofs/SecondPremises` computes it
 pub record SecondWitness : Type 0 where
   pub any : (issued : ℕ → ℕ) (earlier : List Entry) → AnyEvent issued earlier
   -- the premises, and so the claim
-  pub premises : Premises pair begun
-  pub history : History pair begun list now
+  pub premises : Premises issued begun
+  pub history : History issued begun list now
   pub agreed : Agreement now × Kept list now
-  -- the first half: the two stand in each other's view, and both show the record valid
-  pub sees : InView (other .me .number) (saver .me .view)
-  pub seen : InView (saver .me .number) (other .me .view)
-  pub saverShows : ShowsValid 0 saver
-  pub otherShows : ShowsValid 0 other
-  -- the second: an accepted validation is in the list, and the other laptop is in the finisher's view
-  pub listed : Among finished list
-  pub accepted : numberOf (outcome finished .answer) ≡ 0
-  pub finisherSees : InView (other .me .number) (finished .found .me .view)
+  -- the first half: 0 and 1 stand in each other's view, and both show the record valid
+  pub sees : InView (laptop1 .me .number) (laptop0 .me .view)
+  pub seen : InView (laptop0 .me .number) (laptop1 .me .view)
+  pub shows : ShowsValid 0 laptop0
+  pub shown : ShowsValid 0 laptop1
+  -- the second, of a Validate and of a last ACK
+  pub byValidate : Finished finished laptop1
+  pub byAck : Finished settled laptop0

@@ -198,6 +198,13 @@ pub record HSendVals (n : Replica) (i : ℕ) (s s′ : Vars) (m : Sending) : Typ
   pub valid : BecomesValid s s′
   pub send : m ≡ sendVal n i s′
 
+-- 02, Wish 1: HRcvAck and then, where its guard holds, HSendVals, "done one after the other"; `between` has the variables between them
+pub record HRcvAckThenSendVals (n : Replica) (i sender : ℕ) (s s′ : Vars) (m : Sending) : Type 0 where
+  pub between : Vars
+  pub acknowledged : HRcvAck sender s between silent
+  pub complete : HSendValsGuard n between → HSendVals n i between s′ m
+  pub incomplete : (HSendValsGuard n between → ⊥) → (s′ ≡ between) × (m ≡ silent)
+
 -- nodeFailure, of all nodes that are not in the set `alive`: at least two stay, and the epoch rises (004)
 pub record NodeFailureGuard (n : Replica) (epoch alive : ℕ) : Type 0 where
   pub later : n .epoch < epoch

@@ -62,19 +62,20 @@ pub record TwoScreens (k m : ℕ) : Type 0 where
   pub shows : Shows (end k) 0
   pub shown : Shows (end m) 0
 
--- the premises of `lasting`: entry j, counted from 0, is k's accepted validation with m in its view, and m shows the record valid after the list
-pub record FinishedSave (j k m : ℕ) : Type 0 where
+-- the premises of `lasting`: entry j, counted from 0, is k's accepted validation by that action with m in its view, and m shows the record
+-- valid after the list
+pub record FinishedSave (j k : ℕ) (action : Action) (m : ℕ) : Type 0 where
   pub members : (three k ≡ true) × (three m ≡ true)
   pub apart : k ≢ m
-  pub split : story ≡ take j story ++ by k (validate 0) ∷ drop (suc j) story
-  pub validation : Validation higher (run higher group (take j story)) (by k (validate 0)) 0
+  pub split : story ≡ take j story ++ by k action ∷ drop (suc j) story
+  pub validation : Validation higher (run higher group (take j story)) (by k action) 0
   pub sees : Sees (after higher group (take j story) k) m
   pub shown : Shows (end m) 0
 
--- replica n holds A1 under the timestamp of 2's save
+-- replica n holds C3 under the timestamp of 1's last save
 pub record Holds (n : Node) : Type 0 where
-  pub timestamp : recordOf 0 n .timestamp ≡ record { version = 1; tie = 2 }
-  pub text : valueOf 0 n ≡ 65 ∷ 49 ∷ []
+  pub timestamp : recordOf 0 n .timestamp ≡ record { version = 2; tie = 1 }
+  pub text : valueOf 0 n ≡ 67 ∷ 51 ∷ []
 
 -- what the list `struckOff` of `Played` shows; `proofs/Premises` computes it
 pub record Witness : Type 0 where
@@ -88,14 +89,15 @@ pub record Witness : Type 0 where
   -- message 2 left, and is lost
   pub left : 2 < length (run higher group story .log)
   pub lost : some (λ x. delivers 2 (x .entry .what)) struckOff ≡ false
-  -- message 6 is repeated: 1 takes it twice; message 5 is late: its epoch is over
-  pub repeated : many (λ x. delivers 6 (x .entry .what) && (eqb (x .entry .who) 1 && eqb (x .number) 0)) struckOff ≡ 2
-  pub late : some (λ x. delivers 5 (x .entry .what) && eqb (x .number) 10) struckOff ≡ true
+  -- message 7 is repeated: 1 takes it twice; message 1 is late: its epoch is over
+  pub repeated : many (λ x. delivers 7 (x .entry .what) && (eqb (x .entry .who) 1 && eqb (x .number) 0)) struckOff ≡ 2
+  pub late : some (λ x. delivers 1 (x .entry .what) && eqb (x .number) 10) struckOff ≡ true
   -- 2 is struck off
   pub gone : has (end 2 .me .view) 2 ≡ false
-  -- 0 and 1 show one text; 2's save lasts, though 2 is gone, and so does 0's replay of it
+  -- 0 and 1 show one text; a validation of each kind lasts: by Validate, by the last ACK in replay and by the last ACK in write
   pub screens : TwoScreens 0 1
-  pub save : FinishedSave 14 2 1
-  pub replay : FinishedSave 23 0 1
+  pub struck : FinishedSave 16 1 (validate 0) 0
+  pub replay : FinishedSave 23 0 (deliver 8) 1
+  pub save : FinishedSave 33 1 (deliver 12) 0
   pub first : Holds (end 0)
   pub second : Holds (end 1)
