@@ -1,7 +1,7 @@
 -- What a delivery comes to, by what its questions answered: said once for the three kinds.
 use Prim.Native.Nat.{ℕ, zero, suc}
 use mathlib.Core.Path.{_≡_, refl, sym, ap, _∙_}
-use mathlib.Core.Bool.{true, false}
+use mathlib.Core.Bool.{Bool, true, false}
 use mathlib.Core.List.{List}
 use lib.ListN.{length}
 use Rattle.hermes_record.specs.declared.timestamp.Timestamp.{Timestamp}
@@ -14,7 +14,7 @@ use Rattle.hermes.specs.declared.event.Event.{Event}
 use Rattle.hermes.specs.declared.event.Event.the-variants.{Deliver}
 use Rattle.hermes.specs.declared.event.Moved.{Moved}
 use Rattle.hermes_record.specs.Order.{higher, later}
-use Rattle.hermes.specs.Event.{common, own, refusal, moved, effect, movedBy, storedBy, storing, invStep, deliverStep}
+use Rattle.hermes.specs.Event.{common, own, refusal, moved, effect, movedBy, storedBy, storing, invStep, ackStep, deliverStep}
 use Rattle.hermes.proofs.Guards.{event-passed, own-passed, deliver-own, inv-fits}
 use Rattle.replica_outcome.specs.Placing.{room, storedFor}
 use Rattle.replica_outcome.proofs.Bytes.{room-passed, stored-for}
@@ -27,6 +27,11 @@ use Rattle.replica_delivery.specs.Kinds.{cameFrom}
 -- a message taken apart by its kind is that message
 pub whole : (m : Received) (k : Message) → m .message ≡ k → cameFrom (m .sender) (m .epoch) k ≡ m
 whole m k e = ap (λ (z : Message). cameFrom (m .sender) (m .epoch) z) (sym e)
+
+-- an acknowledgement leaves the store, the last one too
+pub ack-keeps : (me : Replica) (i : ℕ) (r : Record) (store : List ℕ) (sender : ℕ) (c : Bool) → store ≡ storing i (ackStep c me i r sender .stored) store
+ack-keeps me i r store sender true = refl
+ack-keeps me i r store sender false = refl
 
 module _ (me : Replica) (count i : ℕ) (r : Record) (store : List ℕ) (v : List ℕ) (d : Moved) (store′ : List ℕ) where
   -- the answer, the record and the store are those of the delivery of m

@@ -102,7 +102,7 @@ pub fn deliver_ack(
     let Asked::Passed(r1) = a else {
         return replica_asking::stopped(a, r);
     };
-    replica_outcome::accepted(Outgoing::None, r1.acknowledge(sender))
+    replica_settling::acknowledge(me, i, r1, sender)
 }
 
 // A validation with timestamp t. The store stays as it is.

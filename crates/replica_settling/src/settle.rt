@@ -1,8 +1,8 @@
-// Replay, validate and resend.
+// Replay, validate and resend, and the acknowledgement that settles a record.
 ghost use mathlib.Core.Path.{_≡_};
 ghost use mathlib.Core.List.{[]};
 ghost use Rattle.hermes_record.specs.Order.{higher};
-ghost use Rattle.hermes.specs.Event.{common, own, moved, resent};
+ghost use Rattle.hermes.specs.Event.{common, own, moved, movedBy, completes, ackStep, validateStep, resent};
 ghost use Rattle.hermes.specs.declared.event.Event.the-variants.{Replay, Validate, Resend};
 ghost use Rattle.replica_asking.specs.Cascade.{asked};
 use hermes::Message;
@@ -39,6 +39,14 @@ fn asks_replay(me: Replica, count: usize, bytes: usize, i: usize, r: Record) -> 
     replica_guards::question16(me, r1)
 }
 
+// Record i, r becomes valid, and its VAL leaves.
+fn validated(me: Replica, i: usize, r: Record) -> Moved
+    ensures { λ m. ⌜ m ≡ movedBy 0 r (validateStep me i r) ⌝ }
+{
+    let t = r.timestamp;
+    replica_outcome::accepted(replica_outgoing::send(me, i, Message::Val(t)), r.validate())
+}
+
 // A validation of record i, r.
 pub fn validate(me: Replica, count: usize, bytes: usize, i: usize, r: Record) -> Moved
     ensures { λ m. ⌜ m ≡ moved higher me count bytes i r Validate [] ⌝ }
@@ -47,11 +55,7 @@ pub fn validate(me: Replica, count: usize, bytes: usize, i: usize, r: Record) ->
     let Asked::Passed(r1) = a else {
         return replica_asking::stopped(a, r);
     };
-    let t = r1.timestamp;
-    replica_outcome::accepted(
-        replica_outgoing::send(me, i, Message::Val(t)),
-        r1.validate(),
-    )
+    validated(me, i, r1)
 }
 
 fn asks_validate(me: Replica, count: usize, bytes: usize, i: usize, r: Record) -> Asked
@@ -62,6 +66,19 @@ fn asks_validate(me: Replica, count: usize, bytes: usize, i: usize, r: Record) -
         return a;
     };
     replica_guards::question15(me, r1)
+}
+
+// An accepted acknowledgement of record i, r: its sender is counted. With the last one of the view the record also becomes valid: what the
+// separate validation asks then holds.
+pub fn acknowledge(me: Replica, i: usize, r: Record, sender: u8) -> Moved
+    ensures { λ m. ⌜ m ≡ movedBy 0 r (ackStep (completes me r sender) me i r sender) ⌝ }
+{
+    let counted = r.acknowledge(sender);
+    let a = replica_guards::question15(me, counted);
+    let Asked::Passed(r1) = a else {
+        return replica_outcome::accepted(Outgoing::None, counted);
+    };
+    validated(me, i, r1)
 }
 
 // What is sent again of record i.

@@ -1,8 +1,9 @@
 -- `replica_delivery::delivery::deliver_ack` meets its contract.
 use Rattle.hermes.specs.declared.message.Message.the-variants.{Ack}
+use Rattle.hermes.specs.Event.{completes}
 use Rattle.replica_delivery.specs.Kinds.{cameFrom}
-use Rattle.replica_delivery.proofs.Deliveries.{refuses, accepts}
-use mathlib.Core.Path.{refl, _∙_}
+use Rattle.replica_delivery.proofs.Deliveries.{refuses, accepts, ack-keeps}
+use mathlib.Core.Path.{refl}
 use borrow.Author.Needs.{needs}
 use Rattle.replica_delivery.proofs.delivery.deliver_ack.Statement.{statement}
 use Rattle.replica_delivery.proofs.delivery.deliver_ack.Tie as tie
@@ -25,11 +26,11 @@ returns c = let v = c .before .before .before .before .before .before .args in r
 acknowledge-requires : tie.Need-acknowledge-requires
 acknowledge-requires c κs = search needs
 
-accepted-requires : tie.Need-accepted-requires
-accepted-requires c κs = search needs
-
 returns-2 : tie.Need-returns-2
-returns-2 c = let v = c .before .before .before .before .before .before .before .before .args in accepts (v .me) (v .count) (v .i) (v .r) (v .store .now) (v .value .now) _ (v .store .now) (cameFrom (v .sender) (v .epoch) (Ack (v .t))) _ (c .before .before .before .before .before .asks-ack .ensures) _ (c .before .before .before .a .given .1) (c .accepted .ensures ∙ rw (c .before .acknowledge .ensures)) refl
+returns-2 c =
+    let v = c .before .before .before .before .before .before .before .args in
+    let x = c .before .before .a .given .0 .0 in
+    accepts (v .me) (v .count) (v .i) (v .r) (v .store .now) (v .value .now) _ (v .store .now) (cameFrom (v .sender) (v .epoch) (Ack (v .t))) _ (c .before .before .before .before .asks-ack .ensures) x (c .before .before .a .given .1) (c .acknowledge .ensures) (ack-keeps (v .me) (v .i) x (v .store .now) (v .sender) (completes (v .me) x (v .sender)))
 
 pub deliver-ack-spec : {M : Type 1} → statement M
 deliver-ack-spec =
@@ -41,5 +42,4 @@ deliver-ack-spec =
     stopped-requires
     returns
     acknowledge-requires
-    accepted-requires
     returns-2)

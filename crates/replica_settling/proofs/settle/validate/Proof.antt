@@ -23,18 +23,12 @@ returns : tie.Need-returns
 unfolding moved
 returns c = let v = c .before .before .before .before .args in c .stopped .ensures ∙ stops (v .me) (v .count) (v .bytes) (v .i) (v .r) event.Validate 0 _ (c .before .enum-told .given .0 .0) _ (c .before .before .before .asks-validate .ensures) (c .before .enum-told .given .1)
 
-send-requires : tie.Need-send-requires
-send-requires c κs = search needs
-
-validate-requires : tie.Need-validate-requires
-validate-requires c κs = search needs
-
-accepted-requires : tie.Need-accepted-requires
-accepted-requires c κs = search needs
+validated-requires : tie.Need-validated-requires
+validated-requires c κs = search needs
 
 returns-2 : tie.Need-returns-2
 unfolding moved
-returns-2 c = let v = c .before .before .before .before .before .before .before .before .args in c .accepted .ensures ∙ rw (c .before .before .send .ensures, c .before .validate .ensures) (goes (v .me) (v .count) (v .bytes) (v .i) (v .r) event.Validate 0 _ (c .before .before .before .before .before .a .given .0 .0) (λ x. validateStep (v .me) (v .i) x) (c .before .before .before .before .before .before .before .asks-validate .ensures) (c .before .before .before .before .before .a .given .1))
+returns-2 c = let v = c .before .before .before .before .before .args in c .validated .ensures ∙ goes (v .me) (v .count) (v .bytes) (v .i) (v .r) event.Validate 0 _ (c .before .before .a .given .0 .0) (λ x. validateStep (v .me) (v .i) x) (c .before .before .before .before .asks-validate .ensures) (c .before .before .a .given .1)
 
 pub validate-spec : {M : Type 1} → statement M
 validate-spec =
@@ -45,6 +39,5 @@ validate-spec =
     enum-told
     stopped-requires
     returns
-    send-requires
-    validate-requires accepted-requires
+    validated-requires
     returns-2)
