@@ -22,7 +22,7 @@ use Rattle.hermes.specs.declared.event.Event.the-variants.{Read, Write, Replay,
 use Rattle.hermes_record.specs.Order.{higher, later}
 use Rattle.hermes.specs.Kind.{messageOf}
 use Rattle.hermes.proofs.Kind.{message-back}
-use Rattle.hermes.specs.Event.{sentBy, step, deliverStep, invStep, resent}
+use Rattle.hermes.specs.Event.{sentBy, step, deliverStep, invStep, ackStep, completes, resent}
 use Rattle.hermes.specs.Node.{Node, Outcome, recordOf, leaving, apply}
 use Rattle.hermes.specs.Run.{Logged, logged}
 use Rattle.hermes.proofs.Apply.{Applied, refused, accepted, applied}
@@ -63,7 +63,11 @@ module _ (me : Replica) (i : ℕ) (r : Record) (v : List ℕ) where
       go : (b : Bool) → Headed me i (invStep b me i r t sender v .sent)
       go true = refl
       go false = refl
-  delivered sender (Ack t) = tt
+  delivered sender (Ack t) = go (completes me r sender)
+    where
+      go : (c : Bool) → Headed me i (ackStep c me i r sender .sent)
+      go true = refl
+      go false = tt
   delivered sender (Val t) = tt
 
   headed : (e : Event) → Headed me i (step higher me i r e v .sent)

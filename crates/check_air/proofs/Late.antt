@@ -23,7 +23,7 @@ use Rattle.hermes_record.proofs.Order.{higher-order, same-equal, later-greater,
 use Rattle.hermes.specs.Guards.{AllYes}
 use Rattle.hermes.specs.Kind as kind
 use Rattle.hermes.specs.Store.{slot, valueAt}
-use Rattle.hermes.specs.Event.{Stored, kept, Step, own, step, deliverStep, invStep}
+use Rattle.hermes.specs.Event.{Stored, kept, Step, own, step, deliverStep, invStep, ackStep, completes}
 use Rattle.hermes.specs.Node.{Node, Outcome, recordOf, apply, viewed}
 use Rattle.hermes.specs.Frame.{bytesAfter, Changed}
 use Rattle.hermes.proofs.Guards.{slot-fits}
@@ -93,7 +93,11 @@ module _ (me : Replica) (k : ℕ) (r : Record) (v : List ℕ) where
       go : (g : Bool) → later higher t (r .timestamp) ≡ g → KeepsOrRises r (invStep g me k r t sender v)
       go true g = inr g
       go false g = inl (refl, refl, refl)
-  delivered sender (Ack t) = inl (refl, refl, refl)
+  delivered sender (Ack t) = go (completes me r sender)
+    where
+      go : (c : Bool) → KeepsOrRises r (ackStep c me k r sender)
+      go true = inl (refl, refl, refl)
+      go false = inl (refl, refl, refl)
   delivered sender (Val t) = inl (refl, refl, refl)
 
   steps : (e : Event) → AllYes (own me r e (length v)) → KeepsOrRises r (step higher me k r e v)

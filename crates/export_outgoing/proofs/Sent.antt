@@ -24,7 +24,7 @@ use Rattle.hermes_record.specs.Members.{with, without}
 use Rattle.hermes_record.specs.Order.{higher, later}
 use Rattle.hermes.specs.Kind as kind
 use Rattle.hermes.specs.Store.{valueAt}
-use Rattle.hermes.specs.Event.{leavingBody, recipients, sentBy, send, Step, step, movedBy, deliverStep, invStep, resent, refusal, effect}
+use Rattle.hermes.specs.Event.{leavingBody, recipients, sentBy, send, Step, step, movedBy, deliverStep, invStep, ackStep, completes, resent, refusal, effect}
 use Rattle.hermes.specs.Node.{Node, recordAt, recordOf, leaving, apply}
 use Rattle.export_records.specs.Layout.{countOf, tableOf}
 use Rattle.export_records.proofs.Lent.{length-table}
@@ -125,9 +125,13 @@ module _ (me : Replica) (i sender : ℕ) where
     ack true t = (ap (with 0) from, λ table store. refl)
     ack false t = (ap (with 0) from, λ table store. refl)
 
+    settling : (c : Bool) → Tells me (Deliver m) sender i (Accepted (ackStep c me i r (m .sender) .sent))
+    settling true = val (Deliver m) (r .timestamp)
+    settling false = nothing (Deliver m)
+
     delivered : (x : Message) → Tells me (Deliver m) sender i (Accepted (deliverStep higher me i r (m .sender) x v .sent))
     delivered (Inv t) = ack (later higher t (r .timestamp)) t
-    delivered (Ack t) = nothing (Deliver m)
+    delivered (Ack t) = settling (completes me r (m .sender))
     delivered (Val t) = nothing (Deliver m)
 
   steps : (r : Record) (e : Event) (v : List ℕ) → Delivered e sender → Tells me e sender i (Accepted (step higher me i r e v .sent))
@@ -165,7 +169,11 @@ module _ (me : Replica) (i : ℕ) (r : Record) (v : List ℕ) where
       go : (b : Bool) → Stamped (invStep b me i r t sender v .sent) (invStep b me i r t sender v .after)
       go true = tt
       go false = tt
-  delivered-stamped sender (Ack t) = tt
+  delivered-stamped sender (Ack t) = go (completes me r sender)
+    where
+      go : (c : Bool) → Stamped (ackStep c me i r sender .sent) (ackStep c me i r sender .after)
+      go true = tt
+      go false = tt
   delivered-stamped sender (Val t) = tt
 
   stamped : (e : Event) → Stamped (step higher me i r e v .sent) (step higher me i r e v .after)

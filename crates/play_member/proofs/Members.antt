@@ -23,7 +23,7 @@ use Rattle.hermes.specs.declared.event.Admission.the-variants as admission
 use Rattle.hermes_record.specs.Order.{higher, later}
 use Rattle.hermes_record.specs.Record.{freshRecord}
 use Rattle.hermes.specs.Guards.{firstNo}
-use Rattle.hermes.specs.Event.{step, invStep, resent, deliverStep, refusal, movedBy, effect, answerOf, sentBy}
+use Rattle.hermes.specs.Event.{step, invStep, ackStep, completes, resent, deliverStep, refusal, movedBy, effect, answerOf, sentBy}
 use Rattle.hermes.specs.Node.{
   indexOf,
   apply,
@@ -89,9 +89,13 @@ inv-index : (b : Bool) (me : Replica) (r : Record) (t : Timestamp) (sender : ℕ
 inv-index true me r t sender v = refl
 inv-index false me r t sender v = refl
 
+ack-index : (c : Bool) (me : Replica) (r : Record) (sender : ℕ) → indexOf (ackStep c me 0 r sender .sent) ≡ 0
+ack-index true me r sender = refl
+ack-index false me r sender = refl
+
 deliver-index : (me : Replica) (r : Record) (sender : ℕ) (m : Message) (v : List ℕ) → indexOf (deliverStep higher me 0 r sender m v .sent) ≡ 0
 deliver-index me r sender (Inv t) v = inv-index (later higher t (r .timestamp)) me r t sender v
-deliver-index me r sender (Ack t) v = refl
+deliver-index me r sender (Ack t) v = ack-index (completes me r sender) me r sender
 deliver-index me r sender (Val t) v = refl
 
 resent-index : (me : Replica) (s : State) (t : Timestamp) → indexOf (resent me 0 s t) ≡ 0
