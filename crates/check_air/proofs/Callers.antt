@@ -15,19 +15,23 @@ use Rattle.hermes.specs.declared.event.Admission.{Admission}
 use Rattle.hermes.specs.declared.event.Admission.the-variants as admission
 use Rattle.hermes.specs.declared.event.Event.{Event}
 use Rattle.hermes.specs.declared.event.Event.the-variants.{Read, Write, Replay, Deliver, Validate, Resend}
+use Rattle.hermes.specs.declared.message.Outgoing.{Outgoing}
 use Rattle.hermes.specs.declared.message.Outgoing.the-variants.{None, Sent}
+use Rattle.hermes.specs.declared.message.Message.{Message}
 use Rattle.hermes.specs.declared.message.Message.the-variants.{Inv, Ack, Val}
 use Rattle.hermes_record.specs.declared.record.Record.{Record}
-use Rattle.hermes_record.specs.Order.{higher, NotAfter}
+use Rattle.hermes_record.specs.declared.timestamp.Timestamp.{Timestamp}
+use Rattle.hermes_record.specs.Order.{higher, later, NotAfter}
 use Rattle.hermes_record.specs.Record.{freshRecord}
 use Rattle.hermes.specs.Kind.{inv, ack, known}
 use Rattle.hermes.specs.Guards.{shapely}
-use Rattle.hermes.specs.Event.{numberOf}
-use Rattle.hermes.specs.Node.{Node, Outcome, identity, newcomer, startRefusal, begin, start, apply, viewed, recordOf}
+use Rattle.hermes.specs.Event.{invStep, ackStep, completes, deliverStep, send, numberOf, sentBy}
+use Rattle.hermes.specs.Node.{Node, Outcome, indexOf, identity, newcomer, startRefusal, begin, start, apply, viewed, recordOf}
 use Rattle.hermes.specs.Node as hermes
 use Rattle.hermes.specs.Run as run
 use Rattle.hermes.specs.Run.{Logged, received, logged, Action, Entry, Group, Result, Found, found, missing, find, perform, nodeAfter, logAfter, result, advance}
-use Rattle.hermes.specs.Agreement.{FreshStart, Started, AsIssued, Entries, IsAccepted, Validation, validates, Agreement, Shows, Sees, Alike}
+use Rattle.hermes.specs.Agreement as agreement-of
+use Rattle.hermes.specs.Agreement.{FreshStart, Started, AsIssued, Entries, IsAccepted, Validation, Agreement, Shows, Sees, Alike}
 use Rattle.hermes.proofs.Apply.{Applied, refused, accepted, applied, its-own}
 use Rattle.hermes.proofs.Agreement.{agreement}
 use Rattle.packet_format.specs.declared.answer.Fetched.{Fetched}
@@ -41,7 +45,7 @@ use Rattle.export_numbers.specs.declared.numbers.CetskobiAnswer.{CetskobiAnswer
 use Rattle.export_numbers.specs.declared.numbers.CetskobiAdmission.{CetskobiAdmission}
 use Rattle.export_numbers.specs.declared.numbers.CetskobiMessage.{CetskobiMessage}
 use Rattle.export_numbers.specs.Crossing.{replicaOf, identityOf, answerOut, admissionOut, messageIn, receivedIn}
-use Rattle.check_air.specs.Callers.{Laptop, node, Call, read, write, replay, deliver, deliverPacket, validate, resend, view, Moves, Returns, Hut, Turn, outcome, logOf, next, after, Fair, Follows, Begun, AllBegun, laptop, CallsAgree, CalledDemand3}
+use Rattle.check_air.specs.Callers.{Laptop, node, Call, read, write, replay, deliver, deliverPacket, validate, resend, view, Moves, Returns, Hut, Turn, outcome, logOf, next, after, FromAir, Fair, Follows, Begun, AllBegun, laptop, Delivers, Finishes, validates, acknowledges, CallsAgree, CalledDemand3}
 use Rattle.check_air.proofs.Air.{found-left}
 
 -- ---- the log
@@ -131,6 +135,14 @@ unknown-refused n i m v e = go (applied higher n i (Deliver (receivedIn m)) v)
     go (refused k z p) = (suc k, p)
     go (accepted y c p) = absurd (false≢true (sym (unknown-shape (m .kind) (m .version) (m .tie) (length v) e) ∙ its-own n i (Deliver (receivedIn m)) v y .1 .1 .0))
 
+-- a packet brings the message that left
+carried : (log : List Logged) (n : Node) (p : List ℕ) (i : ℕ) (f : FromAir log p i)
+    → receipt higher n p i ≡ apply higher n (f .message .header .index) (Deliver (received (f .message))) (f .message .body)
+unfolding receipt
+carried log n p i f =
+    let (at, finds, brings) = found-left (f .before) (f .after) (f .sending) (f .message) p (f .called) (f .packed) in
+    ap (λ (j : ℕ). receiptOf higher n p (fetched p j)) (f .place) ∙ ap (receiptOf higher n p) finds ∙ ap (apply higher n (f .message .header .index) (Deliver (received (f .message)))) brings
+
 module _ (issued : ℕ → ℕ) (log : List Logged) where
   does : (c : Call) (f : Fair issued log c) (n : Node) → Does log n (action issued log c f) (outcome c n)
   unfolding action receipt
@@ -139,12 +151,7 @@ module _ (issued : ℕ → ℕ) (log : List Logged) where
   does (replay i) f n = event-does log n (run.replay i) _ refl
   does (deliver i m v) (inl f) n = sent-does log n (f .message) (f .earlier) (outcome (deliver i m v) n) (rw (f .index, f .same, f .bytes))
   does (deliver i m v) (inr f) n = let (k, e) = unknown-refused n i m v f in nothing-does log n k (outcome (deliver i m v) n) e
-  does (deliverPacket p i) (inl f) n = sent-does log n (f .message) (f .earlier) (receipt higher n p i) carried
-    where
-      carried : receipt higher n p i ≡ apply higher n (f .message .header .index) (Deliver (received (f .message))) (f .message .body)
-      carried =
-          let (at, finds, brings) = found-left (f .before) (f .after) (f .sending) (f .message) p (f .called) (f .packed) in
-          ap (λ (j : ℕ). receiptOf higher n p (fetched p j)) (f .place) ∙ ap (receiptOf higher n p) finds ∙ ap (apply higher n (f .message .header .index) (Deliver (received (f .message)))) brings
+  does (deliverPacket p i) (inl f) n = sent-does log n (f .message) (f .earlier) (receipt higher n p i) (carried log n p i f)
   does (deliverPacket p i) (inr f) n = nothing-does log n (f .number) (receipt higher n p i) (ap (receiptOf higher n p) (f .refused))
   does (validate i) f n = event-does log n (run.validate i) _ refl
   does (resend i) f n = event-does log n (run.resend i) _ refl
@@ -274,6 +281,81 @@ module _ (issued : ℕ → ℕ) (log : List Logged) (i : ℕ) where
   is-accepted l l′ number z c e = subst (λ (x : Call). Returns x l number l′ → IsAccepted (perform higher (run.validate i) log (node l))) (sym e)
       (λ r. sym (ap (λ (x : CetskobiAnswer). x .number) (r .1 .answer) ∙ number-out (apply higher (node l) i Validate [] .answer)) ∙ r .2 ∙ z)
 
+-- ---- a delivery with which a VAL leaves is that of a last ACK
+
+-- a VAL has number 1, all else 0
+valued : Outgoing → ℕ
+valued None = 0
+valued (Sent (Inv t) h) = 0
+valued (Sent (Ack t) h) = 0
+valued (Sent (Val t) h) = 1
+
+-- entry a, of a laptop n with this log, delivers an ACK of record i that completes the view
+record LastAck (log : List Logged) (n : Node) (i : ℕ) (a : Action) : Type 0 where
+  number : ℕ
+  message : Logged
+  stamp : Timestamp
+  delivers : a ≡ run.deliver number
+  finds : find log number ≡ found message
+  index : message .header .index ≡ i
+  ack : message .message ≡ Ack stamp
+  last : completes (n .me) (recordOf i n) (message .header .sender) ≡ true
+  accepted : IsAccepted (perform higher a log n)
+
+module _ (n : Node) (i : ℕ) (t : Timestamp) where
+  -- what the step of a message sends is that VAL, and so the message is an ACK and completes the view
+  step-last : (k sender : ℕ) (m : Message) (v : List ℕ) → deliverStep higher (n .me) k (recordOf k n) sender m v .sent ≡ send (n .me) i (Val t)
+      → (k ≡ i) × ((s : Timestamp) × (m ≡ Ack s)) × (completes (n .me) (recordOf k n) sender ≡ true)
+  unfolding valued
+  step-last k sender (Inv s) v e = absurd (omega (arith, ap valued e, none (later higher s (recordOf k n .timestamp))))
+    where
+      none : (b : Bool) → valued (invStep b (n .me) k (recordOf k n) s sender v .sent) ≡ 0
+      none true = refl
+      none false = refl
+  step-last k sender (Ack s) v e = go (completes (n .me) (recordOf k n) sender) e
+    where
+      go : (c : Bool) → ackStep c (n .me) k (recordOf k n) sender .sent ≡ send (n .me) i (Val t) → (k ≡ i) × ((s′ : Timestamp) × (Ack s ≡ Ack s′)) × (c ≡ true)
+      go true e = (ap indexOf e, (s, refl), refl)
+      go false e = absurd (omega (arith, ap valued e))
+  step-last k sender (Val s) v e = absurd (omega (arith, ap valued e))
+
+  -- nothing leaves a refusal
+  silent : (k : ℕ) → sentBy (Refused k) ≡ send (n .me) i (Val t) → ⊥
+  unfolding valued
+  silent k e = omega (arith, ap valued e)
+
+  module _ (log : List Logged) where
+    sent-last : (x : Logged) (m : List·Memᴰ x log) (o : Outcome) → o ≡ apply higher n (x .header .index) (Deliver (received x)) (x .body) → sentBy (o .answer) ≡ send (n .me) i (Val t)
+        → LastAck log n i (run.deliver (log-number x log m .0))
+    sent-last x m o same e = go (applied higher n (x .header .index) (Deliver (received x)) (x .body))
+      where
+        out : sentBy (apply higher n (x .header .index) (Deliver (received x)) (x .body) .answer) ≡ send (n .me) i (Val t)
+        out = ap (λ (z : Outcome). sentBy (z .answer)) (sym same) ∙ e
+
+        go : Applied higher n (x .header .index) (Deliver (received x)) (x .body) (apply higher n (x .header .index) (Deliver (received x)) (x .body))
+            → LastAck log n i (run.deliver (log-number x log m .0))
+        go (refused k z p) = absurd (silent (suc k) (ap (λ (z : Outcome). sentBy (z .answer)) (sym p) ∙ out))
+        go (accepted y c p) =
+            let (at, (s, is), last) = step-last (x .header .index) (x .header .sender) (x .message) (x .body) (ap (λ (z : Outcome). sentBy (z .answer)) (sym p) ∙ out) in
+            record {
+              number = log-number x log m .0;
+              message = x;
+              stamp = s;
+              delivers = refl;
+              finds = log-number x log m .1;
+              index = at;
+              ack = is;
+              last = rw at at last;
+              accepted = subst (λ (f : Found). IsAccepted (run.delivery higher f n)) (sym (log-number x log m .1)) (ap (λ (z : Outcome). numberOf (z .answer)) p);
+            }
+
+    call-last : (issued : ℕ → ℕ) (c : Call) (f : Fair issued log c) → Delivers c → sentBy (outcome c n .answer) ≡ send (n .me) i (Val t) → LastAck log n i (action issued log c f)
+    unfolding action receipt
+    call-last issued (deliver j m v) (inl f) d e = sent-last (f .message) (f .earlier) (outcome (deliver j m v) n) (rw (f .index, f .same, f .bytes)) e
+    call-last issued (deliver j m v) (inr f) d e = let (k, q) = unknown-refused n j m v f in absurd (silent k (ap (λ (z : Outcome). sentBy (z .answer)) (sym q) ∙ e))
+    call-last issued (deliverPacket p j) (inl f) d e = sent-last (f .message) (f .earlier) (receipt higher n p j) (carried log n p j f) e
+    call-last issued (deliverPacket p j) (inr f) d e = absurd (silent (f .number) (ap (λ (z : Outcome). sentBy (z .answer)) (sym (ap (receiptOf higher n p) (f .refused))) ∙ e))
+
 -- ---- the start
 
 -- an accepted start admits the identity that it answers
@@ -336,20 +418,30 @@ module _ (member : ℕ → Bool) (count : ℕ) (issued : ℕ → ℕ) (h : Hut) 
 
   -- an accepted validation among the calls is one among the entries
   valid : (i : ℕ) (before : List Turn) (s : Turn) (f : Follows member issued h before) (fair : Fair issued (after h before .log) (s .call))
-      → Returns (s .call) (after h before .at (s .who)) (s .number) (s .left) → s .call ≡ validate i → s .number ≡ 0
+      → Returns (s .call) (after h before .at (s .who)) (s .number) (s .left) → Finishes (laptop h before (s .who)) i (s .call) → s .number ≡ 0
       → Validation higher (run.run higher (groupOf h) (entriesOf before f)) (entry member issued (after h before) s fair) i
   unfolding result
-  valid i before s f fair r what said =
+  valid i before s f fair r (validates what) said =
       let e = match before f in
       let l = after h before .at (s .who) in
       let log = after h before .log in
       let is : action issued log (s .call) fair ≡ run.validate i = is-validate issued log i (s .call) what fair in
       let same : result higher (run.run higher (groupOf h) (entriesOf before f)) (entry member issued (after h before) s fair) ≡ perform higher (run.validate i) log (node l) =
       λ j. perform higher (is j) (e .logs j) (e .nodes (s .who) j) in
-      validates is (subst IsAccepted (sym same) (is-accepted issued log i l (s .left) (s .number) said (s .call) what r))
+      agreement-of.validates is (subst IsAccepted (sym same) (is-accepted issued log i l (s .left) (s .number) said (s .call) what r))
+  valid i before s f fair r (acknowledges d t out) said =
+      let e = match before f in
+      let n = laptop h before (s .who) in
+      let log = after h before .log in
+      let a = action issued log (s .call) fair in
+      let k = call-last n i t log issued (s .call) fair d out in
+      let same : result higher (run.run higher (groupOf h) (entriesOf before f)) (entry member issued (after h before) s fair) ≡ perform higher a log n =
+      λ j. perform higher a (e .logs j) (e .nodes (s .who) j) in
+      agreement-of.acknowledges (k .number) (k .message) (k .stamp) (k .delivers) (ap (λ (l : List Logged). find l (k .number)) (e .logs) ∙ k .finds) (k .index) (k .ack)
+      (ap (λ (m : Node). completes (m .me) (recordOf i m) (k .message .header .sender)) (e .nodes (s .who)) ∙ k .last) (subst IsAccepted (sym same) (k .accepted))
 
   lasting : (i m : ℕ) (before rest : List Turn) (s : Turn) (f : Follows member issued h (before ++ s ∷ rest)) → i < count → member m ≡ true
-      → s .call ≡ validate i → s .number ≡ 0
+      → Finishes (laptop h before (s .who)) i (s .call) → s .number ≡ 0
       → Sees (laptop h before (s .who)) m → Shows (laptop h (before ++ s ∷ rest) m) i
       → NotAfter higher (recordOf i (laptop h before (s .who)) .timestamp) (recordOf i (laptop h (before ++ s ∷ rest) m) .timestamp)
   unfolding entries

@@ -1,4 +1,4 @@
--- The premises of demand 3 of the exported functions can be met: a morning of two laptops, computed.
+-- The premises of demand 3 of the exported functions can be met: a morning of three laptops, computed.
 use Prim.Native.Nat.{ℕ, zero, suc, _*_}
 use mathlib.Core.Path.{_≡_, refl, sym, subst}
 use mathlib.Core.Bool.{Bool, true, _&&_}
@@ -30,20 +30,22 @@ use Rattle.export_numbers.specs.Crossing.{identityOf, answerOut}
 use Rattle.export_outgoing.specs.Leaving.{Along, along, alongOf, AlongAt}
 use Rattle.export_packets.specs.Calls.{packAnswer}
 use Rattle.check_air.specs.Air.{Sending, wordsSent, bodiesSent, Leaves, Called, Packed}
-use Rattle.check_air.specs.Callers.{Laptop, node, Broken, AsNumbers, Begun, AllBegun, Hut, Fair, Follows, FromAir, next}
-use Rattle.check_air.specs.Morning.{val, valNumbers, two, both, lentTable, lentStore, fresh, hut, inv, ack, packetOf, Plan, turn, plans, turnsOf, morning, Morning}
-use Rattle.check_air.specs.Answered.{afterEvent}
+use Rattle.check_air.specs.Callers.{Laptop, node, Broken, AsNumbers, Begun, AllBegun, Hut, Fair, Follows, FromAir, next, validates, acknowledges}
+use Rattle.check_air.specs.Callers as callers
+use Rattle.check_air.specs.Morning.{val, valNumbers, inv2, ack2, val2, three, issued, lentTable, lentStore, fresh, hut, inv, ack, packetOf, Plan, turn, plans, turnsOf, morning, Morning}
+use Rattle.check_air.specs.Answered.{afterEvent, afterCall}
 use Rattle.check_air.proofs.Callers.{called-demand3}
 use Rattle.check_air.proofs.Answered.{after-table, every-call-answers}
 
 abbrev admitted : ℕ → CetskobiAdmission
-admitted k = record { number = 0; replica = identityOf (newcomer k 3) }
+admitted k = record { number = 0; replica = identityOf (newcomer k 7) }
 
-begins : (k : ℕ) → two k ≡ true → Begun 1 both k (fresh k)
+begins : (k : ℕ) → three k ≡ true → Begun 1 issued k (fresh k)
 unfolding start has size lowest decode tableOf
 begins zero e = record { table = lentTable; store = lentStore; records = refl; admission = admitted 0; started = record { admission = refl; bytes = refl; table = refl; store = refl }; accepted = refl; identity = refl }
 begins (suc zero) e = record { table = lentTable; store = lentStore; records = refl; admission = admitted 1; started = record { admission = refl; bytes = refl; table = refl; store = refl }; accepted = refl; identity = refl }
-begins (suc (suc k)) e = absurd (omega (arith, ltb-true (suc (suc k)) 2 e))
+begins (suc (suc zero)) e = record { table = lentTable; store = lentStore; records = refl; admission = admitted 2; started = record { admission = refl; bytes = refl; table = refl; store = refl }; accepted = refl; identity = refl }
+begins (suc (suc (suc k))) e = absurd (omega (arith, ltb-true (suc (suc (suc k))) 3 e))
 
 -- the messages that left, as the run of a group logs them
 abbrev invLogged : Logged
@@ -53,7 +55,16 @@ abbrev ackLogged : Logged
 ackLogged = record { header = record { sender = 1; epoch = 0; index = 0 }; message = Ack (record { version = 1; tie = 0 }); body = [] }
 
 abbrev valLogged : Logged
-valLogged = record { header = record { sender = 0; epoch = 0; index = 0 }; message = Val (record { version = 1; tie = 0 }); body = [] }
+valLogged = record { header = record { sender = 0; epoch = 1; index = 0 }; message = Val (record { version = 1; tie = 0 }); body = [] }
+
+abbrev inv2Logged : Logged
+inv2Logged = record { header = record { sender = 1; epoch = 1; index = 0 }; message = Inv (record { version = 2; tie = 1 }); body = 66 ∷ [] }
+
+abbrev ack2Logged : Logged
+ack2Logged = record { header = record { sender = 0; epoch = 1; index = 0 }; message = Ack (record { version = 2; tie = 1 }); body = [] }
+
+abbrev val2Logged : Logged
+val2Logged = record { header = record { sender = 1; epoch = 1; index = 0 }; message = Val (record { version = 2; tie = 1 }); body = [] }
 
 -- the calls that they left: each on a laptop, with an event and a value
 record Leaving (x : Logged) (s : Sending) (l : Laptop) (e : Event) (v : List ℕ) : Type 0 where
@@ -78,12 +89,15 @@ call x s l e v h = record {
   leaves = rw (← h .who) (h .leaves);
 }
 
--- laptop 0 after its write, and then after the ACK
+-- laptop 0 after its write, after the ACK, and after the view without 2
 abbrev written : Laptop
 written = afterEvent (fresh 0) 0 Write (65 ∷ 49 ∷ [])
 
 abbrev acknowledged : Laptop
 acknowledged = afterEvent written 0 (Deliver (received ackLogged)) []
+
+abbrev alone : Laptop
+alone = afterCall (callers.view 1 3) acknowledged
 
 called-inv : Called invLogged inv
 unfolding has size lowest within othersIn with later sameTimestamp padded place refusal effect start apply view viewed good entryBytes walk fetchRefusal fetched summed contents packetBytes allGood writeRefusal packetWritten outputOf entryIn wordMessages receipt decode tableOf
@@ -95,7 +109,7 @@ called-ack = call ackLogged ack (fresh 1) (Deliver (received invLogged)) (65 ∷
 
 called-val : Called valLogged val
 unfolding has size lowest within othersIn with later sameTimestamp padded place refusal effect start apply view viewed good entryBytes walk fetchRefusal fetched summed contents packetBytes allGood writeRefusal packetWritten outputOf entryIn wordMessages receipt decode tableOf
-called-val = call valLogged val acknowledged Validate [] (record { who = refl; answer = refl; bytes = refl; there = refl; leaves = refl })
+called-val = call valLogged val alone Validate [] (record { who = refl; answer = refl; bytes = refl; there = refl; leaves = refl })
 
 -- packed together
 packs : (ss : List Sending) → packAnswer (wordsSent ss) (bodiesSent ss) (replicate 60 0) .number ≡ 0 → Packed ss (packetOf ss)
@@ -132,6 +146,10 @@ ack-came = record {
 abbrev log : List Logged
 log = invLogged ∷ ackLogged ∷ valLogged ∷ valLogged ∷ []
 
+-- what is behind the first four
+fifth : {x : Logged} {more : List Logged} → List·Memᴰ x more → List·Memᴰ x (invLogged ∷ ackLogged ∷ valLogged ∷ valLogged ∷ more)
+fifth m = List·Memᴰ·tail (List·Memᴰ·tail (List·Memᴰ·tail (List·Memᴰ·tail m)))
+
 val-earlier : List·Memᴰ valLogged log
 val-earlier = List·Memᴰ·tail (List·Memᴰ·tail (List·Memᴰ·head refl))
 
@@ -141,6 +159,16 @@ val-came = record { message = valLogged; earlier = val-earlier; sending = val; c
 val-numbers : AsNumbers log 0 valNumbers []
 val-numbers = record { message = valLogged; earlier = val-earlier; index = refl; same = refl; bytes = refl }
 
+-- the messages of 1's save, each the last that left
+inv2-numbers : AsNumbers (invLogged ∷ ackLogged ∷ valLogged ∷ valLogged ∷ inv2Logged ∷ []) 0 inv2 (66 ∷ [])
+inv2-numbers = record { message = inv2Logged; earlier = fifth (List·Memᴰ·head refl); index = refl; same = refl; bytes = refl }
+
+ack2-numbers : AsNumbers (invLogged ∷ ackLogged ∷ valLogged ∷ valLogged ∷ inv2Logged ∷ ack2Logged ∷ []) 0 ack2 []
+ack2-numbers = record { message = ack2Logged; earlier = fifth (List·Memᴰ·tail (List·Memᴰ·head refl)); index = refl; same = refl; bytes = refl }
+
+val2-numbers : AsNumbers (invLogged ∷ ackLogged ∷ valLogged ∷ valLogged ∷ inv2Logged ∷ ack2Logged ∷ val2Logged ∷ []) 0 val2 []
+val2-numbers = record { message = val2Logged; earlier = fifth (List·Memᴰ·tail (List·Memᴰ·tail (List·Memᴰ·head refl))); index = refl; same = refl; bytes = refl }
+
 broken : Broken (1 ∷ 1 ∷ 0 ∷ []) 0
 unfolding fetched fetchRefusal walk
 broken = record { number = 20; refused = refl }
@@ -148,28 +176,28 @@ broken = record { number = 20; refused = refl }
 -- each call is answered as its function's contract has it, so that it is enough that each is fair and a laptop's of the group
 abbrev AllFair : Hut → List Plan → Type 0
 AllFair h [] = Unit
-AllFair h (t ∷ rest) = Fair both (h .log) (t .call) × AllFair (next h (turn h t)) rest
+AllFair h (t ∷ rest) = Fair issued (h .log) (t .call) × AllFair (next h (turn h t)) rest
 
 members : List Plan → Bool
 members [] = true
-members (t ∷ rest) = two (t .who) && members rest
+members (t ∷ rest) = three (t .who) && members rest
 
-follow : (h : Hut) (ts : List Plan) → members ts ≡ true → AllFair h ts → Follows two both h (turnsOf h ts)
+follow : (h : Hut) (ts : List Plan) → members ts ≡ true → AllFair h ts → Follows three issued h (turnsOf h ts)
 unfolding members
 follow h [] m f = tt
 follow h (t ∷ rest) m (fair, f) =
-    let (a, b) = tests.both (two (t .who)) (members rest) m in (a, fair, every-call-answers (t .call) (h .at (t .who)), follow (next h (turn h t)) rest b f)
+    let (a, b) = tests.both (three (t .who)) (members rest) m in (a, fair, every-call-answers (t .call) (h .at (t .who)), follow (next h (turn h t)) rest b f)
 
 fair : AllFair hut plans
 unfolding has size lowest within othersIn with later sameTimestamp padded place refusal effect start apply view viewed good entryBytes walk fetchRefusal fetched summed contents packetBytes allGood writeRefusal packetWritten outputOf entryIn wordMessages receipt decode tableOf
 fair =
-    (tt, (tt, (tt, (tt, (tt, (inl inv-came, (inr broken, (tt, (inl ack-came, (tt, (tt, (tt, (inl val-came, (inl val-numbers, (inr refl, (refl, (refl, (refl, (tt, tt)))))))))))))))))))
+    (tt, (tt, (tt, (tt, (inl inv-came, (inr broken, (tt, (inl ack-came, (tt, (refl, (tt, (tt, (tt, (refl, (refl, (inl val-came, (inl val-numbers, (inr refl, (tt, (inl inv2-numbers, (inl ack2-numbers, (inl val2-numbers, (tt, tt)))))))))))))))))))))))
 
-followed : Follows two both hut morning
+followed : Follows three issued hut morning
 unfolding members
 followed = follow hut plans refl fair
 
-begun : AllBegun two 1 both hut
+begun : AllBegun three 1 issued hut
 begun = record { fresh = begins; silent = refl }
 
 pub morning-holds : Morning
@@ -177,13 +205,12 @@ unfolding has size lowest within othersIn with later sameTimestamp padded place 
 morning-holds = record {
   begun = begun;
   follows = followed;
-  agrees = called-demand3 two 1 both hut begun morning followed;
+  agrees = called-demand3 three 1 issued hut begun morning followed;
   numbers = refl;
   sees = refl;
   seen = refl;
   shows = refl;
   shown = refl;
-  split = refl;
-  finished = refl;
-  then = refl;
+  byValidate = record { split = refl; finishes = validates refl; number = refl; then = refl; shown = refl };
+  byAck = record { split = refl; finishes = acknowledges tt (record { version = 2; tie = 1 }) refl; number = refl; then = refl; shown = refl };
 }

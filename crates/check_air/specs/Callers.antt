@@ -6,11 +6,13 @@ use mathlib.Core.List.{List, [], _∷_, _++_, List·Memᴰ}
 use mathlib.Core.Logic.{_⊎_}
 use lib.Dec.{eqb}
 use lib.ListN.{length}
+use Rattle.hermes_record.specs.declared.timestamp.Timestamp.{Timestamp}
+use Rattle.hermes.specs.declared.message.Message.the-variants.{Val}
 use Rattle.hermes.specs.declared.event.Event.{Event}
 use Rattle.hermes.specs.declared.event.Event.the-variants.{Read, Write, Replay, Deliver, Validate, Resend}
 use Rattle.hermes_record.specs.Order.{higher, NotAfter}
 use Rattle.hermes.specs.Kind.{known}
-use Rattle.hermes.specs.Event.{sentBy}
+use Rattle.hermes.specs.Event.{send, sentBy}
 use Rattle.hermes.specs.Node as hermes
 use Rattle.hermes.specs.Node.{Node, Outcome, recordOf, apply, viewed}
 use Rattle.hermes.specs.Run.{Logged, received, logged}
@@ -176,6 +178,23 @@ pub record AllBegun (member : ℕ → Bool) (count : ℕ) (issued : ℕ → ℕ)
 
 -- ---- the claim
 
+-- a call that hands a message over
+abbrev pub Delivers : Call → Type 0
+Delivers (read i) = ⊥
+Delivers (write i v) = ⊥
+Delivers (replay i) = ⊥
+Delivers (deliver i m v) = Unit
+Delivers (deliverPacket p i) = Unit
+Delivers (validate i) = ⊥
+Delivers (resend i) = ⊥
+Delivers (view epoch set) = ⊥
+
+-- a call that finishes record i of laptop n: 01, "A validation is an accepted Validate step"; 02, Wish 1, "that too is a validation": a delivery
+-- with which a VAL leaves
+pub data Finishes (n : Node) (i : ℕ) (c : Call) : Type 0 where
+  validates : c ≡ validate i → Finishes n i c
+  acknowledges : Delivers c → (t : Timestamp) → sentBy (outcome c n .answer) ≡ send (n .me) i (Val t) → Finishes n i c
+
 -- laptop k after a list of calls
 abbrev pub laptop : Hut → List Turn → ℕ → Node
 laptop h turns k = node (after h turns .at k)
@@ -186,7 +205,7 @@ pub record CallsAgree (member : ℕ → Bool) (count : ℕ) (h : Hut) (turns : L
       → Sees (laptop h turns k) m → Sees (laptop h turns m) k → Shows (laptop h turns k) i → Shows (laptop h turns m) i
       → Alike i (laptop h turns k) (laptop h turns m)
   pub lasting : (i m : ℕ) (before rest : List Turn) (s : Turn) → i < count → member m ≡ true
-      → turns ≡ before ++ s ∷ rest → s .call ≡ validate i → s .number ≡ 0
+      → turns ≡ before ++ s ∷ rest → Finishes (laptop h before (s .who)) i (s .call) → s .number ≡ 0
       → Sees (laptop h before (s .who)) m → Shows (laptop h turns m) i
       → NotAfter higher (recordOf i (laptop h before (s .who)) .timestamp) (recordOf i (laptop h turns m) .timestamp)
 

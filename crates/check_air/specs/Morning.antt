@@ -1,6 +1,6 @@
--- A morning of two laptops with one record each, as their callers make it: calls of every kind, some of them refused, that meet the premises
+-- A morning of three laptops with one record each, as their callers make it: calls of every kind, some of them refused, that meet the premises
 -- of `CalledDemand3`.
-use Prim.Native.Nat.{ℕ}
+use Prim.Native.Nat.{ℕ, zero, suc}
 use mathlib.Core.Path.{_≡_}
 use mathlib.Core.Bool.{Bool}
 use mathlib.Core.List.{List, [], _∷_, _++_}
@@ -32,19 +32,21 @@ use Rattle.check_air.specs.Callers.{
   after,
   Follows,
   AllBegun,
-  CallsAgree,
   laptop,
+  Finishes,
+  CallsAgree,
 }
 
 -- ---- the group
 
 -- the numbers of its laptops
-abbrev pub two : ℕ → Bool
-two k = ltb k 2
+abbrev pub three : ℕ → Bool
+three k = ltb k 3
 
--- both of them are in the view of every epoch
-abbrev pub both : ℕ → ℕ
-both epoch = 3
+-- all are in the first view, and 2 is struck off in every later one
+abbrev pub issued : ℕ → ℕ
+issued zero = 7
+issued (suc epoch) = 3
 
 -- memory as it may be found
 abbrev pub lentTable : List ℕ
@@ -56,9 +58,9 @@ lentStore = replicate 192 7
 -- laptop k as `cetskobi_start` leaves it there
 abbrev pub fresh : ℕ → Laptop
 fresh k = record {
-  me = identityOf (newcomer k 3);
-  table = filledBy (start k 3 (tableOf lentTable) lentStore .admission) lentTable 3;
-  store = start k 3 (tableOf lentTable) lentStore .store;
+  me = identityOf (newcomer k 7);
+  table = filledBy (start k 7 (tableOf lentTable) lentStore .admission) lentTable 7;
+  store = start k 7 (tableOf lentTable) lentStore .store;
 }
 
 abbrev pub hut : Hut
@@ -95,15 +97,15 @@ numbersOf (s ∷ rest) = s .number ∷ numbersOf rest
 
 -- ---- what is sent
 
--- 0's INV with the text A1, 1's ACK of it, 0's VAL
+-- 0's INV with the text A1, 1's ACK of it, and 0's VAL, which leaves in epoch 1
 abbrev pub inv : Sending
-inv = record { from = identityOf (newcomer 0 3); index = 0; left = answering 0 1 0 1; body = 65 ∷ 49 ∷ [] }
+inv = record { from = identityOf (newcomer 0 7); index = 0; left = answering 0 1 0 1; body = 65 ∷ 49 ∷ [] }
 
 abbrev pub ack : Sending
-ack = record { from = identityOf (newcomer 1 3); index = 0; left = answering 0 2 0 1; body = [] }
+ack = record { from = identityOf (newcomer 1 7); index = 0; left = answering 0 2 0 1; body = [] }
 
 abbrev pub val : Sending
-val = record { from = identityOf (newcomer 0 3); index = 0; left = answering 0 3 0 1; body = [] }
+val = record { from = identityOf (record { number = 0; epoch = 1; view = 3 }); index = 0; left = answering 0 3 0 1; body = [] }
 
 -- the packet that `cetskobi_pack` makes, in an output of 60 bytes
 abbrev pub packetOf : List Sending → List ℕ
@@ -111,60 +113,75 @@ packetOf ss = take (packAnswer (wordsSent ss) (bodiesSent ss) (replicate 60 0) .
 
 -- the VAL as numbers
 abbrev pub valNumbers : CetskobiMessage
-valNumbers = record { kind = 3; sender = 0; tie = 0; epoch = 0; version = 1 }
+valNumbers = record { kind = 3; sender = 0; tie = 0; epoch = 1; version = 1 }
+
+-- the messages of 1's save, as numbers
+abbrev pub inv2 : CetskobiMessage
+inv2 = record { kind = 1; sender = 1; tie = 1; epoch = 1; version = 2 }
+
+abbrev pub ack2 : CetskobiMessage
+ack2 = record { kind = 2; sender = 0; tie = 1; epoch = 1; version = 2 }
+
+abbrev pub val2 : CetskobiMessage
+val2 = record { kind = 3; sender = 1; tie = 1; epoch = 1; version = 2 }
 
 -- numbers of no message
 abbrev pub unknown : CetskobiMessage
-unknown = record { kind = 9; sender = 0; tie = 0; epoch = 0; version = 1 }
+unknown = record { kind = 9; sender = 0; tie = 0; epoch = 1; version = 1 }
 
 -- ---- the morning
 
 abbrev pub plans : List Plan
 plans =
     by 0 (read 0)  -- the fresh record
-    ∷ by 0 (write 0 (65 ∷ 49 ∷ []))  -- the INV leaves
+    ∷ by 0 (write 0 (65 ∷ 49 ∷ []))  -- A1: the INV leaves
     ∷ by 0 (write 0 [])  -- 7: a write is under way
     ∷ by 0 (read 0)  -- 6: so it is
-    ∷ by 0 (validate 0)  -- 15: 1 has not acknowledged it
     ∷ by 1 (deliverPacket (packetOf (inv ∷ inv ∷ [])) 0)  -- the ACK leaves
     ∷ by 1 (deliverPacket (1 ∷ 1 ∷ 0 ∷ []) 0)  -- 20: the front of a packet
     ∷ by 1 (resend 0)  -- 17: it has nothing to send
     ∷ by 0 (deliverPacket (packetOf (inv ∷ ack ∷ [])) 1)  -- 1 is counted
+    ∷ by 0 (validate 0)  -- 15: 2 has not acknowledged it
+    ∷ by 0 (view 1 3)  -- 2 is struck off
     ∷ by 0 (validate 0)  -- the VAL leaves
     ∷ by 0 (resend 0)  -- and once more
     ∷ by 0 (replay 0)  -- 16: the record is valid
+    ∷ by 1 (view 0 7)  -- 18: the epoch that it has
+    ∷ by 1 (view 1 3)
     ∷ by 1 (deliverPacket (packetOf (val ∷ [])) 0)
     ∷ by 1 (deliver 0 valNumbers [])  -- 14: it has come already
     ∷ by 1 (deliver 0 unknown [])  -- 12: a kind that there is not
-    ∷ by 1 (view 0 3)  -- 18: the epoch that it has
-    ∷ by 1 (view 1 3)
-    ∷ by 0 (view 1 3)
-    ∷ by 1 (read 0)
+    ∷ by 1 (write 0 (66 ∷ []))  -- B: the INV leaves
+    ∷ by 0 (deliver 0 inv2 (66 ∷ []))  -- the ACK leaves
+    ∷ by 1 (deliver 0 ack2 [])  -- it was the last: the VAL leaves
+    ∷ by 0 (deliver 0 val2 [])
+    ∷ by 0 (read 0)
     ∷ []
 
 abbrev pub morning : List Turn
 morning = turnsOf hut plans
 
--- the calls before the accepted validation, and that one
-abbrev pub earlier : List Turn
-earlier = take 9 morning
-
-abbrev pub validation : Turn
-validation = turn (after hut earlier) (by 0 (validate 0))
+-- the premises of `lasting`: call j, counted from 0, is laptop k's, finishes the record and answers 0, with m in k's view, and m shows the
+-- record valid after the morning
+pub record FinishedCall (j k : ℕ) (c : Call) (m : ℕ) : Type 0 where
+  pub split : morning ≡ take j morning ++ turn (after hut (take j morning)) (by k c) ∷ drop (suc j) morning
+  pub finishes : Finishes (laptop hut (take j morning) k) 0 c
+  pub number : turn (after hut (take j morning)) (by k c) .number ≡ 0
+  pub then : Sees (laptop hut (take j morning) k) m
+  pub shown : Shows (laptop hut morning m) 0
 
 -- what it shows; `proofs/Morning` computes it
 pub record Morning : Type 0 where
-  pub begun : AllBegun two 1 both hut
-  pub follows : Follows two both hut morning
-  pub agrees : CallsAgree two 1 hut morning
+  pub begun : AllBegun three 1 issued hut
+  pub follows : Follows three issued hut morning
+  pub agrees : CallsAgree three 1 hut morning
   pub numbers : numbersOf morning
-      ≡ 0 ∷ 0 ∷ 7 ∷ 6 ∷ 15 ∷ 0 ∷ 20 ∷ 17 ∷ 0 ∷ 0 ∷ 0 ∷ 16 ∷ 0 ∷ 14 ∷ 12 ∷ 18 ∷ 0 ∷ 0 ∷ 0 ∷ []
+      ≡ 0 ∷ 0 ∷ 7 ∷ 6 ∷ 0 ∷ 20 ∷ 17 ∷ 0 ∷ 15 ∷ 0 ∷ 0 ∷ 0 ∷ 16 ∷ 18 ∷ 0 ∷ 0 ∷ 14 ∷ 12 ∷ 0 ∷ 0 ∷ 0 ∷ 0 ∷ 0 ∷ []
   -- the premises of `alike`
   pub sees : Sees (laptop hut morning 0) 1
   pub seen : Sees (laptop hut morning 1) 0
   pub shows : Shows (laptop hut morning 0) 0
   pub shown : Shows (laptop hut morning 1) 0
-  -- and those of `lasting`
-  pub split : morning ≡ earlier ++ validation ∷ drop 10 morning
-  pub finished : validation .number ≡ 0
-  pub then : Sees (laptop hut earlier 0) 1
+  -- and those of `lasting`, of a Validate and of a last ACK
+  pub byValidate : FinishedCall 10 0 (validate 0) 1
+  pub byAck : FinishedCall 20 1 (deliver 0 ack2 []) 0
