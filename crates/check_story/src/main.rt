@@ -1,4 +1,5 @@
-// A short story: two laptops start, one writes, the other takes the write and acknowledges it, the write is validated, and both read.
+// A short story: two laptops start, one writes, the other takes the write and acknowledges it, that acknowledgement settles the write, and both
+// read.
 mod laptop;
 mod telling;
 
@@ -101,8 +102,7 @@ fn main() {
         wrote,
     );
     reads(one, took, b"laptop 1 reads ");
-    let counted = takes(zero, wrote, b"laptop 0 takes the ACK", took);
-    let settled = next(zero, counted, b"laptop 0 validates", Event::Validate, b"");
+    let settled = takes(zero, wrote, b"laptop 0 takes the ACK", took);
     let valid = takes(one, took, b"laptop 1 takes the VAL", settled);
     reads(zero, settled, b"laptop 0 reads ");
     reads(one, valid, b"laptop 1 reads ");
