@@ -88,7 +88,7 @@ impl Record {
         }
     }
 
-    /// 01, "Deliver ACK".
+    /// 01, "Deliver ACK". The last one validates as well: see `steps`.
     pub(super) fn acknowledged(self, sender: u8) -> Record {
         Record {
             acks: self.acks | bit(sender),

@@ -73,7 +73,12 @@ impl Replica {
                     Refusal::StrayAck,
                 )?;
                 *record = record.acknowledged(sender);
-                Ok(None)
+                // 02, Wish 1: the last acknowledgement settles the record.
+                if self.is_finished(record) {
+                    Ok(Some(validate(record)))
+                } else {
+                    Ok(None)
+                }
             }
             Message::Val(timestamp) => {
                 ask(
@@ -86,18 +91,12 @@ impl Replica {
         }
     }
 
+    /// Since Wish 1 this is for a record whose last missing replica was struck
+    /// off, so that no last acknowledgement comes.
     pub(super) fn validate_step(&self, record: &mut Record) -> Answer {
         self.ask_sound(record)?;
-        // The others are compared as a set, not counted: acknowledgements of
-        // replicas since struck off do not help.
-        ask(
-            matches!(record.state, State::Write | State::Replay)
-                && self.others() & !record.acks == 0,
-            Refusal::NotFinished,
-        )?;
-
-        *record = record.validated();
-        Ok(Some(Message::Val(record.timestamp)))
+        ask(self.is_finished(record), Refusal::NotFinished)?;
+        Ok(Some(validate(record)))
     }
 
     /// Decision: a resent INV carries the record's stamp, as its value does. On
@@ -113,10 +112,23 @@ impl Replica {
         }
     }
 
+    /// 01, question 15, and 02, Wish 1: a write or a replay that every other
+    /// replica in the view has acknowledged. The others are compared as a set,
+    /// not counted: acknowledgements of replicas since struck off do not help.
+    fn is_finished(&self, record: &Record) -> bool {
+        matches!(record.state, State::Write | State::Replay) && self.others() & !record.acks == 0
+    }
+
     /// 01, question 5.
     fn ask_sound(&self, record: &Record) -> Result<(), Refusal> {
         ask(record.is_sound(self.number), Refusal::UnsoundRecord)
     }
+}
+
+/// 01, "Validate": the state becomes valid; a VAL leaves with the record's stamp.
+fn validate(record: &mut Record) -> Message {
+    *record = record.validated();
+    Message::Val(record.timestamp)
 }
 
 /// Stores a value of at most 192 bytes, zeroes the rest, and gives its length.

@@ -48,6 +48,8 @@ impl Replica {
     }
 
     /// The delivery of a message with its body. The envelope names the record.
+    /// An INV is answered with an ACK; the last ACK of a write or a replay
+    /// validates it, and the VAL leaves (02, Wish 1).
     pub fn deliver(
         &self,
         table: &mut [Record],
@@ -60,7 +62,8 @@ impl Replica {
         self.deliver_step(&mut table[record], slot_mut(store, record)?, envelope, body)
     }
 
-    /// The end of a write or a replay, once all others have acknowledged it.
+    /// The end of a write or a replay that all others have acknowledged, the
+    /// last missing replica having been struck off.
     pub fn validate(&self, table: &mut [Record], store: &[u8], record: usize) -> Answer {
         self.ask_record(Sizes::of(table, store), record)?;
         self.validate_step(&mut table[record])

@@ -47,7 +47,14 @@ fn name(
                     State::InvalidWrite => "INV at a write",
                     _ => "INV",
                 },
-                Message::Ack(_) => "ACK",
+                Message::Ack(_) => match (before[envelope.record], answer) {
+                    (State::Write, Ok(Some(_))) => "last ACK at a write",
+                    (State::Replay, Ok(Some(_))) => "last ACK at a replay",
+                    (State::InvalidWrite, _) if member.replica.others() & !held.acks == 0 => {
+                        "last ACK at invalid-write"
+                    }
+                    _ => "ACK",
+                },
                 Message::Val(_) => match before[envelope.record] {
                     State::InvalidWrite => "VAL at invalid-write",
                     State::Replay => "VAL at replay",
@@ -99,6 +106,9 @@ fn random_groups() {
         "older INV",
         "INV at a write",
         "ACK",
+        "last ACK at a write",
+        "last ACK at a replay",
+        "last ACK at invalid-write",
         "VAL",
         "VAL at invalid-write",
         "VAL at replay",
@@ -150,10 +160,8 @@ fn the_first_check_can_fail() {
     assert!(group.agreement().is_err());
 }
 
-/// A forged acknowledgement lets 0 validate while 2 still shows the old text.
-#[test]
-fn the_second_check_can_fail() {
-    let mut group = Group::start(&[0, 2], set(&[0, 2]), 1);
+/// A forged acknowledgement of 2's for 0's first write, which 2 has not heard of.
+fn forge(group: &mut Group) {
     let value = b"new".to_vec();
     group
         .play(0, &Event::Write { record: 0, value })
@@ -161,10 +169,42 @@ fn the_second_check_can_fail() {
     group.posts[0].envelope.message = ack(1, 0);
     group.posts[0].envelope.sender = 2;
     group.posts[0].body.clear();
-    assert_eq!(group.play(0, &Event::Deliver { post: 0 }), Ok(None));
+}
+
+/// A forged last acknowledgement validates while 2 still shows the old text.
+#[test]
+fn the_second_check_can_fail() {
+    let mut group = Group::start(&[0, 2], set(&[0, 2]), 1);
+    forge(&mut group);
     assert_eq!(group.durability(), Ok(()));
-    group
-        .play(0, &Event::Validate { record: 0 })
-        .expect("accepted");
+    let answer = group.play(0, &Event::Deliver { post: 0 });
+    assert_eq!(answer, Ok(Some(val(1, 0))));
     assert!(group.durability().is_err());
+}
+
+/// The same by the separate validation: 1, whose acknowledgement is missing, is
+/// struck off.
+#[test]
+fn the_second_check_can_fail_at_validate() {
+    let mut group = Group::start(&[0, 1, 2], set(&[0, 1, 2]), 1);
+    forge(&mut group);
+    assert_eq!(group.play(0, &Event::Deliver { post: 0 }), Ok(None));
+    let view = Event::View {
+        epoch: 1,
+        view: set(&[0, 2]),
+    };
+    assert_eq!(group.play(0, &view), Ok(None));
+    assert_eq!(group.durability(), Ok(()));
+    let answer = group.play(0, &Event::Validate { record: 0 });
+    assert_eq!(answer, Ok(Some(val(1, 0))));
+    assert!(group.durability().is_err());
+}
+
+/// A VAL sent again is no validation.
+#[test]
+fn a_resent_val_is_no_validation() {
+    let mut group = Group::start(&[0, 2], set(&[0, 2]), 1);
+    let answer = group.play(0, &Event::Resend { record: 0 });
+    assert_eq!(answer, Ok(Some(val(0, 0))));
+    assert!(group.validations.is_empty());
 }

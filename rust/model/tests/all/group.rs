@@ -13,7 +13,8 @@ pub struct Post {
     pub to: u16,
 }
 
-/// An accepted validation.
+/// A validation: an accepted Validate, or the last ACK of a write or a replay,
+/// with which a VAL leaves too (02, Wish 1).
 #[derive(Clone, Copy, Debug)]
 pub struct Validation {
     pub record: usize,
@@ -76,7 +77,8 @@ impl Group {
                 body: body(message, &member.table, &member.store, record).to_vec(),
                 to: member.replica.recipients(message, inv_sender),
             });
-            if let (Event::Validate { .. }, Message::Val(timestamp)) = (event, message) {
+            let settles = matches!(event, Event::Validate { .. } | Event::Deliver { .. });
+            if let (true, Message::Val(timestamp)) = (settles, message) {
                 self.validations.push(Validation {
                     record,
                     timestamp,

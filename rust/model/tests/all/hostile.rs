@@ -48,7 +48,7 @@ fn some_record(rng: &mut Rng) -> Record {
         timestamp,
         last_writer: some_number(rng),
         last_write: [timestamp, last_write][rng.below(2)],
-        acks: [0, some_view(rng) & !set(&[2])][rng.below(2)],
+        acks: [0, set(&[1]), set(&[5]), some_view(rng) & !set(&[2])][rng.below(4)],
         len: match rng.below(20) {
             0 => 193,
             1 => 255,
@@ -147,10 +147,25 @@ impl Done {
     }
 }
 
+/// 02, Wish 1: an accepted ACK is the counting and, where it can follow, the
+/// validation, done one after the other. Tells if it did follow.
+fn counts_then_validates(done: &Done, sender: u8) -> bool {
+    let mut expected = done.before.clone();
+    expected.table[done.index].acks |= set(&[sender]);
+    let validated = expected.validate(done.index);
+    assert_eq!(done.answer, validated.or(Ok(None)));
+    assert_eq!(done.after, expected);
+    validated.is_ok()
+}
+
 #[test]
 fn events() {
     let mut rng = rng();
     let mut accepted = [0; 8];
+    // Accepted ACKs that validate, by what the record was: write, replay.
+    let mut last = [0; 2];
+    // Those of an overtaken write by all others, which do not.
+    let mut overtaken = 0;
     for _ in 0..ROUNDS {
         let before = some_member(&mut rng);
         let index = some_index(&mut rng);
@@ -158,9 +173,10 @@ fn events() {
         let sizes = Sizes::of(&before.table, &before.store);
         let mut after = before.clone();
         let (mut record, mut slot) = taken_out(&before, index);
-        let bytes = some_bytes(&mut rng);
+        let mut bytes = some_bytes(&mut rng);
         let event = rng.below(8);
         let mut kind = event;
+        let mut sender = u8::MAX;
         let (answer, one) = match event {
             0 => {
                 let table = before.read(index);
@@ -192,8 +208,12 @@ fn events() {
                     Message::Ack(_) => 6,
                     Message::Val(_) => 7,
                 };
+                if kind != 5 && rng.chance(2, 3) {
+                    bytes.clear();
+                }
+                sender = some_number(&mut rng);
                 let envelope = Envelope {
-                    sender: some_number(&mut rng),
+                    sender,
                     epoch: replica.epoch ^ u32::from(rng.chance(1, 10)),
                     record: index,
                     message,
@@ -214,8 +234,20 @@ fn events() {
             one,
         };
         done.check();
+        if kind == 6 && done.answer.is_ok() {
+            let followed = counts_then_validates(&done, sender);
+            let all = replica.others() & !done.after.table[index].acks == 0;
+            match done.before.table[index].state {
+                State::Write => last[0] += u32::from(followed),
+                State::Replay => last[1] += u32::from(followed),
+                _ => overtaken += u32::from(all),
+            }
+        }
     }
     assert!(accepted.iter().all(|&times| times > 50), "{accepted:?}");
+    println!("accepted {accepted:?}, last ACKs {last:?}, overtaken {overtaken}");
+    assert!(last.iter().all(|&times| times > 5), "{last:?}");
+    assert!(overtaken > 5, "{overtaken}");
 }
 
 #[test]

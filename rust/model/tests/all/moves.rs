@@ -115,15 +115,74 @@ fn other_inv() {
     }
 }
 
+/// An ACK that is not the last is counted and nothing else.
 #[test]
 fn acknowledgement() {
     for state in [State::Write, State::InvalidWrite, State::Replay] {
-        let after = Record {
-            acks: set(&[1, 5, 7]),
+        // As many as the view's others, or more, are not the others: 1 is missing.
+        for counted in [&[][..], &[7], &[0, 3, 7, 9, 15]] {
+            let before = Record {
+                acks: set(counted),
+                ..held(state)
+            };
+            let after = Record {
+                acks: set(counted) | set(&[5]),
+                ..before
+            };
+            let event = |m: &mut Member| m.deliver(&from(5, ack(8, 2)), b"");
+            moves(before, event, after, None, None);
+        }
+    }
+}
+
+/// The last ACK validates a write or a replay too, and the VAL has the record's
+/// stamp. A write that was overtaken it only counts (02, Wish 1).
+#[test]
+fn last_acknowledgement() {
+    for state in [State::Write, State::InvalidWrite, State::Replay] {
+        // The second set is larger than the view.
+        for counted in [&[1][..], &[0, 1, 7, 9, 15]] {
+            let before = Record {
+                acks: set(counted),
+                ..held(state)
+            };
+            let counted = Record {
+                acks: set(counted) | set(&[5]),
+                ..before
+            };
+            let (after, sent) = match state {
+                State::InvalidWrite => (counted, None),
+                _ => {
+                    let state = State::Valid;
+                    (Record { state, ..counted }, Some(val(9, 5)))
+                }
+            };
+            let event = |m: &mut Member| m.deliver(&from(5, ack(8, 2)), b"");
+            moves(before, event, after, sent, None);
+        }
+    }
+}
+
+/// The view is the one at that event: a smaller one needs fewer.
+#[test]
+fn last_acknowledgement_of_a_smaller_view() {
+    for state in [State::Write, State::Replay] {
+        let before = Record {
+            acks: 0,
             ..held(state)
         };
-        let event = |m: &mut Member| m.deliver(&from(5, ack(8, 2)), b"");
-        moves(held(state), event, after, None, None);
+        let after = Record {
+            state: State::Valid,
+            acks: set(&[5]),
+            ..before
+        };
+        let event = |m: &mut Member| {
+            assert_eq!(m.view(1, set(&[2, 5])), Ok(None));
+            let mut envelope = from(5, ack(8, 2));
+            envelope.epoch = 1;
+            m.deliver(&envelope, b"")
+        };
+        moves(before, event, after, Some(val(9, 5)), None);
     }
 }
 

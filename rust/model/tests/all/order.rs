@@ -158,9 +158,17 @@ fn deliver_inv() {
 
 #[test]
 fn deliver_ack() {
+    // One that is counted alone, and one that is the last of a write.
+    for (awaiting, acks) in [(State::InvalidWrite, 0), (State::Write, set(&[1]))] {
+        deliver_ack_at(awaiting, acks);
+    }
+}
+
+fn deliver_ack_at(awaiting: State, acks: u16) {
     every_subset(&[1, 2, 3, 4, 5, 10, 11, 12, 13], |faults| {
         let mut record = written();
-        record.state = faults.choose(13, State::InvalidWrite, State::Invalid);
+        record.acks = acks;
+        record.state = faults.choose(13, awaiting, State::Invalid);
         let envelope = faults.envelope(ack(1, 2));
         let body = faults.choose(12, &b""[..], b"b");
         faults.answer(faults.member(record), |m| m.deliver(&envelope, body))

@@ -31,8 +31,9 @@ const EXAMPLE: [&str; 10] = [
 
 #[test]
 fn the_papers_example() {
-    let printed = "0 W 1 0 0\n0 I 1 0 1\n0 I 1 0 2\n0 W 1 0 -\n0 W 1 0 -\n\
-                   0 V 1 0 3\n0 V 1 0 -\n0 V 1 0 -\n6 I 1 0 -\n";
+    // The fifth and the sixth answer are those of Wish 1.
+    let printed = "0 W 1 0 0\n0 I 1 0 1\n0 I 1 0 2\n0 W 1 0 -\n0 V 1 0 3\n\
+                   15 V 1 0 -\n0 V 1 0 -\n0 V 1 0 -\n6 I 1 0 -\n";
     let input = EXAMPLE.join("\n");
     assert_eq!(play(input.as_bytes()), printed.as_bytes());
     assert_eq!(play((input + "\n").as_bytes()), printed.as_bytes());
@@ -183,8 +184,8 @@ fn all_states() {
         "0 R 1 2 5",
         "16 X 1 2 -",
         "0 X 1 2 6",
-        "0 R 1 2 -",
         "0 V 1 2 7",
+        "15 V 1 2 -",
         "0 V 1 2 -",
         "0 V 1 2 -",
         "0 V 1 2 8",
@@ -211,44 +212,117 @@ fn texts() {
     assert_eq!(printed[1], "7 W 1 0 -");
 }
 
+/// These lines, which leave some messages, and so many resends that the log
+/// holds `messages`; then the tail's lines, and what these print.
+fn with_messages(messages: usize, head: &[&str], tail: &[&str]) -> Vec<String> {
+    let left = lines(head).iter().filter(|p| !p.ends_with('-')).count();
+    let mut input = head.to_vec();
+    input.extend(vec!["resend 0"; messages - left]);
+    let filled = lines(&input);
+    let last = filled.last().expect("a line");
+    assert!(last.ends_with(&format!(" {}", messages - 1)), "{last}");
+    input.extend(tail);
+    lines(&input)[filled.len()..].to_vec()
+}
+
 #[test]
 fn a_full_log() {
-    let mut input = vec!["group 2", "write 0 a", "deliver 1 0", "deliver 0 1"];
-    input.extend(["resend 0"; 254]);
-    let filled = lines(&input);
-    assert_eq!(filled.last().expect("a line"), "0 W 1 0 255");
-
+    let head = ["group 2", "write 0 a", "deliver 1 0"];
     let tail = [
         // Accepted, but its message has no room.
         "resend 0",
-        "validate 0",
         "deliver 1 2",
         "write 1 b",
         // Refused, unknown, or with no message.
         "read 0",
         "write 0 b",
+        "validate 0",
         "deliver 0 0",
         "deliver 0 256",
         "read 1",
         "view 0 1 3",
         "deliver 0 0",
     ];
-    let mut whole = input.clone();
-    whole.extend(tail);
     let expected = [
-        "?",
         "?",
         "?",
         "?",
         "6 W 1 0 -",
         "7 W 1 0 -",
+        "15 W 1 0 -",
         "11 W 1 0 -",
         "?",
         "6 I 1 0 -",
         "0 W 1 0 -",
         "10 W 1 0 -",
     ];
-    assert_eq!(lines(&whole)[257..], expected);
+    assert_eq!(with_messages(256, &head, &tail), expected);
+}
+
+/// The last ACK sends a VAL. Without room for it the ACK is not counted either:
+/// it is not refused the second time, and Validate finds it missing.
+#[test]
+fn the_last_ack_and_a_full_log() {
+    let head = ["group 2", "write 0 a", "deliver 1 0"];
+    let tail = ["deliver 0 1", "deliver 0 1", "validate 0", "read 0"];
+    let room = ["0 V 1 0 255", "13 V 1 0 -", "15 V 1 0 -", "0 V 1 0 -"];
+    assert_eq!(with_messages(255, &head, &tail), room);
+    let full = ["?", "?", "15 W 1 0 -", "6 W 1 0 -"];
+    assert_eq!(with_messages(256, &head, &tail), full);
+
+    // A replay's.
+    let head = [
+        "group 3",
+        "write 2 a",
+        "deliver 0 0",
+        "view 0 1 3",
+        "view 1 1 3",
+        "replay 0",
+        "deliver 1 2",
+    ];
+    let tail = ["deliver 0 3", "deliver 0 3", "validate 0"];
+    let room = ["0 V 1 2 255", "13 V 1 2 -", "15 V 1 2 -"];
+    assert_eq!(with_messages(255, &head, &tail), room);
+    let full = ["?", "?", "15 R 1 2 -"];
+    assert_eq!(with_messages(256, &head, &tail), full);
+}
+
+/// An ACK that is not the last sends nothing, nor does the last one of an
+/// overtaken write: a full log takes them.
+#[test]
+fn other_acks_and_a_full_log() {
+    let head = ["group 3", "write 0 a", "deliver 1 0", "deliver 2 0"];
+    let tail = ["deliver 0 1", "deliver 0 1", "deliver 0 2"];
+    let room = ["0 W 1 0 -", "13 W 1 0 -", "0 V 1 0 255"];
+    assert_eq!(with_messages(255, &head, &tail), room);
+    let full = ["0 W 1 0 -", "13 W 1 0 -", "?"];
+    assert_eq!(with_messages(256, &head, &tail), full);
+
+    // Both write, 1 with the greater stamp; message 2 is 1's ACK. The last room
+    // in the log is taken by 0's ACK, which overtakes its own write.
+    let mut input = vec!["group 2", "write 0 a", "write 1 b", "deliver 1 0"];
+    input.extend(["resend 0"; 252]);
+    input.extend(["deliver 0 1", "deliver 0 2", "deliver 0 2", "validate 0"]);
+    let printed = lines(&input);
+    let last = ["0 X 1 1 255", "0 X 1 1 -", "13 X 1 1 -", "15 X 1 1 -"];
+    assert_eq!(printed[printed.len() - 4..], last);
+}
+
+/// The separate validation is still the way once the last missing laptop is
+/// struck off, and its VAL needs room as before.
+#[test]
+fn validate_and_a_full_log() {
+    let head = [
+        "group 3",
+        "write 0 a",
+        "deliver 1 0",
+        "deliver 0 1",
+        "view 0 1 3",
+    ];
+    let tail = ["validate 0", "validate 0"];
+    let room = ["0 V 1 0 255", "15 V 1 0 -"];
+    assert_eq!(with_messages(255, &head, &tail), room);
+    assert_eq!(with_messages(256, &head, &tail), ["?", "?"]);
 }
 
 #[test]

@@ -1,5 +1,5 @@
-//! The rows of document 01, "From the ringing table". Laptop 2, view {1,2,5},
-//! epoch 0 unless said.
+//! The rows of document 01, "From the ringing table", and the last ACK of
+//! document 02. Laptop 2, view {1,2,5}, epoch 0 unless said.
 
 use model::engine::{body, Record, Refusal, Replica, State};
 use model::packet;
@@ -137,6 +137,72 @@ fn ack_counted_once() {
         Err(Refusal::StrayAck)
     );
     assert_eq!(member.table, [expected]);
+}
+
+/// 02, Wish 1, at this table's laptop: the ACK of 1, after that of 5.
+#[test]
+fn last_ack_at_write() {
+    let mut member = written();
+    assert_eq!(member.deliver(&from(5, ack(1, 2)), b""), Ok(None));
+    let last = from(1, ack(1, 2));
+    assert_eq!(member.deliver(&last, b""), Ok(Some(val(1, 2))));
+    let expected = Record {
+        state: State::Valid,
+        acks: set(&[1, 5]),
+        ..WRITTEN
+    };
+    assert_eq!(member.table, [expected]);
+    assert_eq!(member.replica.recipients(val(1, 2), 1), set(&[1, 5]));
+    assert_eq!(body(val(1, 2), &member.table, &member.store, 0), b"");
+    assert_eq!(member.read(0), Ok(&b"A1"[..]));
+    // Nothing is left to do for Validate, nor for that ACK.
+    assert_eq!(member.validate(0), Err(Refusal::NotFinished));
+    assert_eq!(member.deliver(&last, b""), Err(Refusal::StrayAck));
+    assert_eq!(member.table, [expected]);
+}
+
+#[test]
+fn last_ack_at_replay() {
+    let mut member = Member::ringing();
+    assert!(member.deliver(&from(5, inv(1, 5)), b"B").is_ok());
+    assert_eq!(member.view(1, set(&[1, 2])), Ok(None));
+    assert_eq!(member.replay(0), Ok(Some(inv(1, 5))));
+    let mut last = from(1, ack(1, 5));
+    last.epoch = 1;
+    assert_eq!(member.deliver(&last, b""), Ok(Some(val(1, 5))));
+    let expected = Record {
+        state: State::Valid,
+        timestamp: ts(1, 5),
+        last_writer: 2,
+        last_write: ts(1, 5),
+        acks: set(&[1]),
+        len: 1,
+    };
+    assert_eq!(member.table, [expected]);
+    assert_eq!(member.replica.recipients(val(1, 5), 1), set(&[1]));
+    assert_eq!(member.read(0), Ok(&b"B"[..]));
+}
+
+/// An overtaken write is not validated by its last ACK: only the VAL of the
+/// greater stamp makes it valid.
+#[test]
+fn last_ack_at_invalid_write() {
+    let mut member = written();
+    assert_eq!(member.deliver(&from(1, ack(1, 2)), b""), Ok(None));
+    assert!(member.deliver(&from(5, inv(1, 5)), b"B").is_ok());
+    assert_eq!(member.deliver(&from(5, ack(1, 2)), b""), Ok(None));
+    let expected = Record {
+        state: State::InvalidWrite,
+        timestamp: ts(1, 5),
+        last_writer: 5,
+        acks: set(&[1, 5]),
+        len: 1,
+        ..WRITTEN
+    };
+    assert_eq!(member.table, [expected]);
+    assert_eq!(member.validate(0), Err(Refusal::NotFinished));
+    assert_eq!(member.deliver(&from(5, val(1, 5)), b""), Ok(None));
+    assert_eq!(member.read(0), Ok(&b"B"[..]));
 }
 
 #[test]

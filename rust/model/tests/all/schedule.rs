@@ -86,12 +86,11 @@ impl Schedule {
                 });
                 (at, Event::Replay { record })
             }
-            12..26 => {
-                let at = some_member(rng, group, |m| {
-                    matches!(m.table[record].state, State::Write | State::Replay)
-                });
-                (at, Event::Validate { record })
-            }
+            12..20 => (self.waiting(rng, group, record), Event::Validate { record }),
+            20..26 => match self.strike(rng, group, record) {
+                Some((at, epoch, view)) => (at, Event::View { epoch, view }),
+                None => (self.waiting(rng, group, record), Event::Validate { record }),
+            },
             26..30 => (anyone, Event::Resend { record }),
             30..34 => {
                 // Mostly the last view that anybody holds, so that it spreads.
@@ -105,6 +104,33 @@ impl Schedule {
             }
             _ => self.delivery(rng, group),
         }
+    }
+
+    /// Mostly a member that waits for acknowledgements.
+    fn waiting(&self, rng: &mut Rng, group: &Group, record: usize) -> usize {
+        some_member(rng, group, |m| {
+            matches!(m.table[record].state, State::Write | State::Replay)
+        })
+    }
+
+    /// A member that waits for none but those that an issued view lacks, with
+    /// that view: the separate validation is then the only way on.
+    fn strike(&self, rng: &mut Rng, group: &Group, record: usize) -> Option<(usize, u32, u16)> {
+        let mut fit = Vec::new();
+        for (at, member) in group.members.iter().enumerate() {
+            let held = member.table[record];
+            let own = bit(member.replica.number);
+            let missing = |view: u16| view & !own & !held.acks != 0;
+            if !matches!(held.state, State::Write | State::Replay) {
+                continue;
+            }
+            for &(epoch, view) in &self.views {
+                if epoch > member.replica.epoch && view & own != 0 && !missing(view) {
+                    fit.push((at, epoch, view));
+                }
+            }
+        }
+        rng.pick(&fit)
     }
 
     /// The radio takes up what has left since.
