@@ -99,6 +99,12 @@ static inline uint8_t ask(struct cetskobi_replica me, const uint8_t *table, size
     return sound(seen_at(table, i), me.number) ? 0 : CETSKOBI_REFUSED_UNSOUND_RECORD;
 }
 
+/* A write or a replay that every other replica in the view has acknowledged. */
+static inline bool finished(const record *r, struct cetskobi_replica me)
+{
+    return r->state >= CETSKOBI_WRITE && (me.view & ~(r->acks | bit(me.number))) == 0;
+}
+
 /* ---- the store */
 
 /* The value of record i: at most 192 bytes, and the rest of its 192 zero. What the value does not fill is zeroed first, in parts of a

@@ -21,13 +21,17 @@ static inline struct cetskobi_answer take_inv(record *r, uint8_t *store, size_t 
     return sent(CETSKOBI_ACK, m.version, m.tie);
 }
 
-static inline struct cetskobi_answer take_ack(record *r, struct cetskobi_message m)
+/* The last one validates a write or a replay too, and the VAL leaves; an overtaken write waits for the VAL of another. */
+static inline struct cetskobi_answer take_ack(record *r, struct cetskobi_replica me, struct cetskobi_message m)
 {
     bool awaited = r->state >= CETSKOBI_INVALID_WRITE && stamp(m.version, m.tie) == stamp(r->written_version, r->written_tie);
     if (!awaited || has(r->acks, m.sender))
         return refused(CETSKOBI_REFUSED_STRAY_ACK);
     r->acks |= bit(m.sender);
-    return sent(CETSKOBI_NONE, 0, 0);
+    if (!finished(r, me))
+        return sent(CETSKOBI_NONE, 0, 0);
+    r->state = CETSKOBI_VALID;
+    return sent(CETSKOBI_VAL, r->version, r->tie);
 }
 
 static inline struct cetskobi_answer take_val(record *r, struct cetskobi_message m)
@@ -58,7 +62,7 @@ static inline struct cetskobi_answer deliver(struct cetskobi_replica me, uint8_t
     case CETSKOBI_INV:
         return take_inv(r, store, i, m, value, value_len);
     case CETSKOBI_ACK:
-        return take_ack(r, m);
+        return take_ack(r, me, m);
     case CETSKOBI_VAL:
         return take_val(r, m);
     default:

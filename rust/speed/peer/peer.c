@@ -66,7 +66,7 @@ struct cetskobi_answer peer_validate(struct cetskobi_replica me, uint8_t *table,
     if (no)
         return refused(no);
     record *r = record_at(table, i);
-    if (r->state < CETSKOBI_WRITE || (me.view & ~(r->acks | bit(me.number))) != 0)
+    if (!finished(r, me))
         return refused(CETSKOBI_REFUSED_NOT_FINISHED);
     r->state = CETSKOBI_VALID;
     return sent(CETSKOBI_VAL, r->version, r->tie);

@@ -56,6 +56,25 @@ fn random_events() {
     }
 }
 
+/// A peer that counts the last ACK of a write or a replay alone is found.
+#[test]
+fn a_peer_that_only_counts_is_found() {
+    fn wrong(case: &Case, memory: &mut Memory) -> Outcome {
+        let mut outcome = by_peer(case, memory);
+        let delivered = matches!(case.event, Event::Deliver { .. });
+        let moved = memory.record(case.i);
+        if let (true, 3, Some(mut record)) = (delivered, outcome.sent.0, moved) {
+            record.state = case.record.state;
+            memory.put_record(case.i, &record);
+            outcome.sent = (0, 0, 0);
+        }
+        outcome
+    }
+    let found = compare(&Settings::USUAL, wrong).expect_err("a difference");
+    println!("{found}");
+    assert!(found.shrunk.record.state >= 3);
+}
+
 /// A wrong peer is found.
 #[test]
 fn a_wrong_peer_is_found() {

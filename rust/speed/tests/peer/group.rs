@@ -5,9 +5,10 @@ use std::collections::BTreeMap;
 
 use cetskobi::sys::{Answer, Message, Replica};
 use compare::bytes::Bytes;
+use compare::crossing::Fields;
 use compare::memory::Memory;
 use compare::settings::Settings;
-use compare::single::{by_engine, some_bytes, Case, Event, Kind, Outcome};
+use compare::single::{by_engine, last_ack, some_bytes, Case, Event, Kind, Outcome};
 use model::rng::Rng;
 use speed::{engine, peer};
 
@@ -20,6 +21,9 @@ const RECORDS: usize = 2;
 
 /// How often each kind of event gave each answer.
 type Tally = BTreeMap<Kind, [u64; 26]>;
+
+/// The last ACKs, as `last_ack` has them: at invalid-write, write and replay.
+type Last = [u64; 3];
 
 /// A replica with the memory of both sides.
 struct Member {
@@ -41,10 +45,11 @@ struct Group {
     /// The views, by epoch.
     views: Vec<u16>,
     tally: Tally,
+    last: Last,
 }
 
 impl Group {
-    fn start(rng: &mut Rng, tally: Tally) -> Group {
+    fn start(rng: &mut Rng, tally: Tally, last: Last) -> Group {
         let mut numbers: Vec<u8> = (0..16).collect();
         while numbers.len() > 2 + rng.below(3) {
             numbers.remove(rng.below(numbers.len()));
@@ -55,6 +60,7 @@ impl Group {
             posts: vec![],
             views: vec![view],
             tally,
+            last,
         };
         for (at, &number) in numbers.iter().enumerate() {
             let (mut table, mut store) = ([0; 16 * RECORDS], [0; 192 * RECORDS]);
@@ -145,6 +151,7 @@ impl Group {
         assert_eq!((written.number, x), (0, y));
         let packet = &x[..written.len];
         let member = &mut self.members[at];
+        let before = member.engine.record(*i);
         let (table, store) = member.engine.lend();
         let a = engine::deliver_packet(member.me, table, store, packet, 0);
         let (table, store) = member.peer.lend();
@@ -153,27 +160,32 @@ impl Group {
         let message = *message;
         let case = Case::on(member.me, *i, Event::Deliver { message, value });
         let (a, b) = (Outcome::of(member.me, a), Outcome::of(member.me, b));
-        self.same(at, &case, &a, &b);
+        self.same(at, &case, before, &a, &b);
     }
 
     /// An event by both sides: its number.
     fn play(&mut self, at: usize, i: usize, event: Event) -> u8 {
         let member = &mut self.members[at];
         let case = Case::on(member.me, i, event);
+        let before = member.engine.record(i);
         let a = by_engine(&case, &mut member.engine);
         let b = by_peer(&case, &mut member.peer);
-        self.same(at, &case, &a, &b);
+        self.same(at, &case, before, &a, &b);
         a.number
     }
 
     /// Both sides did the same. What left joins the posts.
-    fn same(&mut self, at: usize, case: &Case, a: &Outcome, b: &Outcome) {
+    fn same(&mut self, at: usize, case: &Case, before: Option<Fields>, a: &Outcome, b: &Outcome) {
         assert_eq!(a, b, "engine, peer: {:?} of {:?}", case.event, case.me);
         let member = &mut self.members[at];
         let difference = member.engine.difference(&member.peer);
         assert_eq!(difference, None, "{:?} of {:?}", case.event, case.me);
         let counts = self.tally.entry(case.kind()).or_default();
         counts[usize::from(a.number)] += 1;
+        if let (Kind::Ack, Event::Deliver { message, .. }) = (case.kind(), &case.event) {
+            let last = before.and_then(|before| last_ack(case.me, &before, message.sender, a));
+            last.into_iter().for_each(|state| self.last[state] += 1);
+        }
         member.me = a.me;
         let (kind, tie, version) = a.sent;
         if kind == 0 {
@@ -207,13 +219,13 @@ fn random_groups() {
     // Shown if it fails.
     println!("{settings}");
     let mut rng = settings.rng("group of peers");
-    let mut tally = Tally::new();
+    let (mut tally, mut last) = (Tally::new(), [0; 3]);
     for _ in 0..RUNS * settings.times {
-        let mut group = Group::start(&mut rng, tally);
+        let mut group = Group::start(&mut rng, tally, last);
         for _ in 0..STEPS {
             group.step(&mut rng);
         }
-        tally = group.tally;
+        (tally, last) = (group.tally, group.last);
     }
     let reached: [(Kind, &[usize]); 10] = [
         (Kind::Start, &[0]),
@@ -230,4 +242,6 @@ fn random_groups() {
     for (kind, answers) in reached {
         often(&format!("{kind:?}"), &tally[&kind], answers, 20);
     }
+    println!("the last ACK at X, W, R: {last:?}");
+    assert!(last.iter().all(|&times| times >= 20));
 }

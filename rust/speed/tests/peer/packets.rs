@@ -36,12 +36,12 @@ fn delivered() {
     }
     let settings = Settings::from_env();
     match deliver::compare(&settings, by_peer) {
-        Ok(tally) => often(
-            "delivery from a packet",
-            &tally.answers,
-            &deliver::Case::answers(),
-            100,
-        ),
+        Ok(tally) => {
+            let answers = deliver::Case::answers();
+            often("delivery from a packet", &tally.answers, &answers, 100);
+            println!("the last ACK at X, W, R: {:?}", tally.last);
+            assert!(tally.last.iter().all(|&times| times >= 100));
+        }
         Err(found) => panic!("{settings}\n{found}"),
     }
 }
