@@ -74,6 +74,8 @@ pub struct Tally {
     pub bodies: u64,
     /// INVs whose text is gone: from a sound record, and from any other memory.
     pub gone: [u64; 2],
+    /// VALs that an ACK sent, being the last.
+    pub last: u64,
 }
 
 /// Random events of the usual count.
@@ -93,6 +95,8 @@ pub fn compare(settings: &Settings, other: Leaving) -> Result<Tally, Box<Found<C
                 tally.sent[kind] += u64::from(kind > 0 && seen.was_sent);
                 tally.bodies += u64::from(seen.len > 0 && seen.len != GONE);
                 tally.gone[usize::from(!seen.sound)] += u64::from(seen.len == GONE);
+                let delivered = matches!(case.event.event, Event::Deliver { .. });
+                tally.last += u64::from(case.kind == 3 && delivered && seen.was_sent);
             }
             Err(what) => return Err(Box::new(shrink(case, what, |case| difference(case).err()))),
         }
@@ -144,7 +148,7 @@ fn some_leaving(rng: &mut Rng) -> Case {
     let kinds = [0, 1, 2, 3, 4, 255];
     // Mostly the kind that this event sends.
     let kind = match &event.event {
-        Event::Deliver { .. } => 2,
+        Event::Deliver { message, .. } => [2, 3][usize::from(message.kind == 2)],
         Event::Validate => 3,
         _ => 1,
     };

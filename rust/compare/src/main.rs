@@ -52,7 +52,11 @@ const PARTS: [(&str, Part); 8] = [
     }),
     ("deliver", |settings| {
         shown(deliver::compare(settings, deliver::by_model), |tally| {
-            answers(&tally.answers)
+            let [x, w, r] = tally.last;
+            format!(
+                "{}\nthe last ack at X:{x} W:{w} R:{r}",
+                answers(&tally.answers)
+            )
         })
     }),
     ("script", |settings| {

@@ -16,6 +16,8 @@ fn random_deliveries() {
                 println!("{times:8} answers {answer}");
                 assert!(times >= 100, "{answer}: only {times} times");
             }
+            println!("the last ACK at X, W, R: {:?}", tally.last);
+            assert!(tally.last.iter().all(|&times| times >= 100));
         }
         Err(found) => panic!("{settings}\n{found}"),
     }

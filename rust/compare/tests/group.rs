@@ -8,7 +8,7 @@ use model::engine::Record;
 
 /// What must have come about, each at least so many times.
 const OFTEN: u64 = 40;
-const NAMES: [&str; 41] = [
+const NAMES: [&str; 44] = [
     "Ack answers 10",
     "Ack answers 11",
     "Ack answers 13",
@@ -49,6 +49,9 @@ const NAMES: [&str; 41] = [
     "Write answers 8",
     "Write at Invalid",
     "Write at Valid",
+    "last Ack at InvalidWrite: no VAL",
+    "last Ack at Replay: VAL",
+    "last Ack at Write: VAL",
     "valid pairs",
 ];
 
@@ -147,28 +150,86 @@ fn the_check_of_agreement_can_fail() {
     assert!(broken.contains("shows"), "{broken}");
 }
 
-/// A forged acknowledgement lets 0 validate while 2 shows the old text: the
-/// floor of validated stamps sees it.
-#[test]
-fn the_check_of_validations_can_fail() {
+/// 0 has written, and a forged acknowledgement of 2's is under way as post 0.
+fn forged(numbers: Vec<u8>, view: u16) -> Group {
     let run = Run {
-        numbers: vec![0, 2],
-        view: 5,
+        numbers,
+        view,
         records: 1,
         entries: vec![],
     };
     let mut group = Group::start(&run, by_hand, on_table).expect("a fresh start");
-    let own = |event| What::Own { i: 0, event };
     let value = Bytes(b"new".to_vec());
-    assert_eq!(
-        play(&mut group, &[(0, own(Event::Write { value }), 0)]),
-        Ok(())
-    );
+    let event = Event::Write { value };
+    let write = [(0, What::Own { i: 0, event }, 0)];
+    assert_eq!(play(&mut group, &write), Ok(()));
     if let Some(post) = group.posts.get_mut(&0) {
         (post.message.kind, post.message.sender) = (2, 2);
         post.value.clear();
     }
-    assert_eq!(play(&mut group, &[(0, What::Deliver { of: 0 }, 1)]), Ok(()));
-    let broken = play(&mut group, &[(0, own(Event::Validate), 2)]).expect_err("2 shows the old");
+    group
+}
+
+/// A forged last acknowledgement validates while 2 shows the old text: the floor
+/// of validated stamps sees it.
+#[test]
+fn the_check_of_validations_can_fail() {
+    let mut group = forged(vec![0, 2], 5);
+    let ack = [(0, What::Deliver { of: 0 }, 1)];
+    let broken = play(&mut group, &ack).expect_err("2 shows the old");
     assert!(broken.contains("shows"), "{broken}");
+}
+
+/// The same by the separate validation: 1, whose acknowledgement is missing, is
+/// struck off.
+#[test]
+fn the_check_of_separate_validations_can_fail() {
+    let mut group = forged(vec![0, 1, 2], 7);
+    let own = |event| What::Own { i: 0, event };
+    let entries = [
+        (0, What::Deliver { of: 0 }, 1),
+        (0, own(Event::View { epoch: 1, set: 5 }), 2),
+    ];
+    assert_eq!(play(&mut group, &entries), Ok(()));
+    let validate = [(0, own(Event::Validate), 3)];
+    let broken = play(&mut group, &validate).expect_err("2 shows the old");
+    assert!(broken.contains("shows"), "{broken}");
+}
+
+/// The VAL that leaves with the last acknowledgement is for all others in the
+/// view, not for its sender alone.
+#[test]
+fn the_last_acknowledgement_sends_to_all() {
+    let run = Run {
+        numbers: vec![0, 1, 2],
+        view: 7,
+        records: 1,
+        entries: vec![],
+    };
+    let mut group = Group::start(&run, by_hand, on_table).expect("a fresh start");
+    let value = Bytes(b"ring".to_vec());
+    let event = Event::Write { value };
+    let entries = [
+        (0, What::Own { i: 0, event }, 0),
+        (1, What::Deliver { of: 0 }, 1),
+        (2, What::Deliver { of: 0 }, 2),
+        (0, What::Deliver { of: 1 }, 3),
+        (0, What::Deliver { of: 2 }, 4),
+    ];
+    assert_eq!(play(&mut group, &entries), Ok(()));
+    assert_eq!(
+        group.posts.keys().copied().collect::<Vec<_>>(),
+        [0, 1, 2, 4]
+    );
+    let val = &group.posts[&4];
+    assert_eq!((val.message.kind, val.to), (3, 6));
+    assert_eq!((group.posts[&1].message.kind, group.posts[&1].to), (2, 1));
+    let entries = [
+        (1, What::Deliver { of: 4 }, 5),
+        (2, What::Deliver { of: 4 }, 6),
+    ];
+    assert_eq!(play(&mut group, &entries), Ok(()));
+    for member in &group.members {
+        assert_eq!(member.memory.record(0).map(|r| r.state), Some(0));
+    }
 }

@@ -104,6 +104,75 @@ fn acknowledgements_are_counted_not_compared() {
     assert_eq!(case.record.acks.count_ones(), 1);
 }
 
+/// The last acknowledgement by the wrong models below: the record before it.
+fn last_by(wrong: Play) -> (Fields, u16) {
+    let case = caught(wrong);
+    assert_eq!((case.table, case.store, case.i), (RECORD_BYTES, 192, 0));
+    assert!(delivers(&case, 2));
+    let own = 1 << case.me.number;
+    (case.record, case.me.view & !own)
+}
+
+/// What a wrong model does at an accepted ACK where `settles` says so: it
+/// validates. Elsewhere it only counts.
+fn settling(case: &Case, memory: &mut Memory, settles: fn(&Fields, u16) -> bool) -> Outcome {
+    let mut outcome = by_model(case, memory);
+    let Some(mut record) = memory.record(case.i) else {
+        return outcome;
+    };
+    if outcome.number == 0 && delivers(case, 2) {
+        let settled = settles(
+            &Fields {
+                acks: record.acks,
+                ..case.record
+            },
+            case.me.view,
+        );
+        let (version, tie) = record.stamp();
+        record.state = if settled { 0 } else { case.record.state };
+        outcome.sent = if settled {
+            (3, tie, version)
+        } else {
+            (0, 0, 0)
+        };
+        memory.put_record(case.i, &record);
+    }
+    outcome
+}
+
+#[test]
+fn the_last_acknowledgement_is_only_counted() {
+    fn wrong(case: &Case, memory: &mut Memory) -> Outcome {
+        settling(case, memory, |_, _| false)
+    }
+    let (record, _) = last_by(wrong);
+    assert!(record.state >= 3);
+}
+
+#[test]
+fn the_last_acknowledgement_is_found_by_a_count() {
+    fn wrong(case: &Case, memory: &mut Memory) -> Outcome {
+        settling(case, memory, |record, view| {
+            record.state >= 3 && record.acks.count_ones() + 1 >= view.count_ones()
+        })
+    }
+    let (record, others) = last_by(wrong);
+    assert!(record.state >= 3 && others.count_ones() == 2);
+    assert_eq!((record.acks & others, record.acks.count_ones()), (0, 1));
+}
+
+#[test]
+fn an_overtaken_write_is_settled() {
+    fn wrong(case: &Case, memory: &mut Memory) -> Outcome {
+        settling(case, memory, |record, view| {
+            // Its own number is never among the acknowledgements.
+            (view & !record.acks).count_ones() == 1
+        })
+    }
+    let (record, others) = last_by(wrong);
+    assert_eq!((record.state, others.count_ones()), (2, 1));
+}
+
 #[test]
 fn a_later_validation_is_taken() {
     fn wrong(case: &Case, memory: &mut Memory) -> Outcome {

@@ -13,6 +13,7 @@ fn after_random_events() {
             println!("{tally:?}");
             assert!(tally.kinds.iter().all(|&times| times >= 1000));
             assert!(tally.sent[1..].iter().all(|&times| times >= 1000));
+            assert!(tally.last >= 1000);
             assert!(tally.bodies >= 1000 && tally.gone.iter().all(|&times| times >= 1000));
         }
         Err(found) => panic!("{settings}\n{found}"),

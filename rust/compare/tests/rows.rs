@@ -1,5 +1,6 @@
-//! The rows of document 01, "From the ringing table", one by one, in the engine
-//! and in the model. The rows of packets stand in `fetch` and `pack`.
+//! The rows of document 01, "From the ringing table", and of document 02's last
+//! acknowledgement, one by one, in the engine and in the model. The rows of
+//! packets stand in `fetch` and `pack`.
 
 use cetskobi::raw::{Message, Replica};
 use compare::bytes::Bytes;
@@ -234,6 +235,58 @@ fn an_acknowledgement_counts_once() {
     assert_eq!(laptop.record(), counted);
     assert_eq!(laptop.deliver(5, (ACK, 1, 2), b""), refused(13));
     assert_eq!(laptop.record(), counted);
+}
+
+/// Document 02, Wish 1: with the last acknowledgement a write is valid, and its
+/// VAL leaves.
+#[test]
+fn the_last_acknowledgement_of_a_write() {
+    let mut laptop = Laptop::written();
+    assert_eq!(laptop.deliver(5, (ACK, 1, 2), b""), DONE);
+    assert_eq!(laptop.deliver(1, (ACK, 1, 2), b""), sent(VAL, 1, 2));
+    let settled = record(VALID, (1, 2), 2, (1, 2), set(&[1, 5]), 2);
+    assert_eq!(laptop.record(), settled);
+    assert_eq!(laptop.read(0), Some(b"A1".to_vec()));
+    assert_eq!(laptop.play(0, Event::Validate), refused(15));
+    assert_eq!(laptop.deliver(1, (ACK, 1, 2), b""), refused(13));
+    assert_eq!(laptop.record(), settled);
+}
+
+#[test]
+fn the_last_acknowledgement_of_a_replay() {
+    let mut laptop = Laptop::fresh();
+    assert_eq!(laptop.deliver(5, (INV, 1, 5), b"B"), sent(ACK, 1, 5));
+    assert_eq!(laptop.view(1, &[1, 2]), DONE);
+    assert_eq!(laptop.play(0, Event::Replay), sent(INV, 1, 5));
+    assert_eq!(laptop.deliver(1, (ACK, 1, 5), b""), sent(VAL, 1, 5));
+    assert_eq!(laptop.record(), record(VALID, (1, 5), 2, (1, 5), 1 << 1, 1));
+    assert_eq!(laptop.read(0), Some(b"B".to_vec()));
+}
+
+/// An overtaken write is not validated by it: it waits for the other's VAL.
+#[test]
+fn the_last_acknowledgement_of_an_invalid_write() {
+    let mut laptop = Laptop::written();
+    assert_eq!(laptop.deliver(1, (ACK, 1, 2), b""), DONE);
+    assert_eq!(laptop.deliver(5, (INV, 1, 5), b"B"), sent(ACK, 1, 5));
+    assert_eq!(laptop.deliver(5, (ACK, 1, 2), b""), DONE);
+    let counted = record(INVALID_WRITE, (1, 5), 5, (1, 2), set(&[1, 5]), 1);
+    assert_eq!(laptop.record(), counted);
+    assert_eq!(laptop.play(0, Event::Validate), refused(15));
+    assert_eq!(laptop.read(0), None);
+}
+
+/// Laptops outside the view may be counted: the set is looked at, not its size.
+#[test]
+fn acknowledgements_from_outside_the_view() {
+    let outside = set(&[0, 3, 9]);
+    let mut laptop = Laptop::fresh();
+    laptop.lay(&record(WRITE, (1, 2), 2, (1, 2), outside, 0));
+    assert_eq!(laptop.deliver(5, (ACK, 1, 2), b""), DONE);
+    assert_eq!(laptop.record().state, WRITE);
+    assert_eq!(laptop.deliver(1, (ACK, 1, 2), b""), sent(VAL, 1, 2));
+    let all = outside | set(&[1, 5]);
+    assert_eq!(laptop.record(), record(VALID, (1, 2), 2, (1, 2), all, 0));
 }
 
 #[test]

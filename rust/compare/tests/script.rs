@@ -5,7 +5,7 @@ use compare::script::{by_engine, by_model, compare, BEYOND};
 use compare::settings::Settings;
 
 /// What scripts can print. The other answers need what no script can make.
-const WORDS: [&str; 21] = [
+const WORDS: [&str; 25] = [
     "?",
     "answer 0",
     "answer 3",
@@ -21,6 +21,11 @@ const WORDS: [&str; 21] = [
     "answer 17",
     "answer 18",
     "answer 19",
+    // Of ACKs: the last ones, and the last one at a full log.
+    "last ACK at R",
+    "last ACK at W",
+    "last ACK at X",
+    "last ACK without room",
     "log 255",
     "state I",
     "state R",
@@ -60,7 +65,8 @@ fn played(script: &[u8]) -> String {
 fn the_papers_script() {
     let script = "group 3\nwrite 0 A1\ndeliver 1 0\ndeliver 2 0\ndeliver 0 1\ndeliver 0 2\n\
                   validate 0\ndeliver 1 3\nread 1\nread 2";
-    let printed = "0 W 1 0 0\n0 I 1 0 1\n0 I 1 0 2\n0 W 1 0 -\n0 W 1 0 -\n0 V 1 0 3\n0 V 1 0 -\n\
+    // The fifth and the sixth answer are those of document 02, Wish 1.
+    let printed = "0 W 1 0 0\n0 I 1 0 1\n0 I 1 0 2\n0 W 1 0 -\n0 V 1 0 3\n15 V 1 0 -\n0 V 1 0 -\n\
                    0 V 1 0 -\n6 I 1 0 -\n";
     assert_eq!(played(script.as_bytes()), printed);
     assert_eq!(played(format!("{script}\n").as_bytes()), printed);
@@ -89,6 +95,32 @@ fn limits() {
     assert_eq!(lines[255..], ["0 W 1 0 255", "?", "?"]);
 }
 
+/// The last ACK sends a VAL: with 255 messages in the log there is room for it,
+/// with 256 it is not counted either.
+#[test]
+fn the_last_ack_at_the_limit() {
+    let tail = "deliver 0 1\ndeliver 0 1\nvalidate 0\nread 0";
+    let last = |resends| {
+        let resends = "resend 0\n".repeat(resends);
+        let script = format!("group 2\nwrite 0 x\ndeliver 1 0\n{resends}{tail}");
+        let printed = played(script.as_bytes());
+        let lines: Vec<String> = printed.lines().map(str::to_owned).collect();
+        lines[lines.len() - 5..].to_vec()
+    };
+    let room = [
+        "0 W 1 0 254",
+        "0 V 1 0 255",
+        "13 V 1 0 -",
+        "15 V 1 0 -",
+        "0 V 1 0 -",
+    ];
+    assert_eq!(last(253), room);
+    assert_eq!(
+        last(254),
+        ["0 W 1 0 255", "?", "?", "15 W 1 0 -", "6 W 1 0 -"]
+    );
+}
+
 /// Wrong players are found, by short scripts.
 #[test]
 fn wrong_players() {
@@ -110,7 +142,7 @@ fn wrong_players() {
         change(script, out, "8 V", "7 V")
     }
     for (wrong, lines) in [
-        (logs as fn(&[u8], &mut [u8]) -> Played, 12),
+        (logs as fn(&[u8], &mut [u8]) -> Played, 13),
         (states, 8),
         (text, 2),
     ] {

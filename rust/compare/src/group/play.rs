@@ -1,7 +1,7 @@
 use std::collections::BTreeMap;
 
 use cetskobi::raw::{self, Answer, Message, Replica};
-use model::engine::{has, Record};
+use model::engine::{bit, has, Record};
 
 use super::member::Member;
 use super::{Entry, Run, Tally, What};
@@ -88,7 +88,13 @@ impl Group {
         }
         member.me = outcome.me;
         member.same(case.i).map_err(at)?;
+        let others = member.me.view & !bit(member.me.number);
+        let all = member.table.get(case.i).map(|r| others & !r.acks == 0);
         let label = match (outcome.number, before) {
+            (0, Some(state)) if case.kind() == Kind::Ack && all == Some(true) => {
+                let val = ["no VAL", "VAL"][usize::from(outcome.sent.0 == 3)];
+                format!("last Ack at {state:?}: {val}")
+            }
             (0, Some(state)) if case.kind() != Kind::View => {
                 format!("{:?} at {state:?}", case.kind())
             }
@@ -133,7 +139,8 @@ impl Group {
     }
 
     /// A message that leaves joins the posts. A validation sets a floor for
-    /// each laptop in the finisher's view.
+    /// each laptop in the finisher's view: a Validate, or the last ACK, with
+    /// which a VAL leaves too.
     fn leave(&mut self, id: usize, at: usize, case: &Case, outcome: &Outcome) {
         let member = &self.members[at];
         let (kind, tie, version) = outcome.sent;
@@ -142,7 +149,7 @@ impl Group {
         }
         let (me, i) = (member.me, case.i);
         let to = match &case.event {
-            Event::Deliver { message, .. } => 1 << message.sender,
+            Event::Deliver { message, .. } if kind == 2 => 1 << message.sender,
             _ => me.view & !(1 << me.number),
         };
         let value = match (kind, member.memory.record(i), member.memory.slot(i)) {
@@ -164,7 +171,7 @@ impl Group {
             to,
         };
         self.posts.insert(id, post);
-        if case.event == Event::Validate {
+        if kind == 3 && case.event != Event::Resend {
             for other in &mut self.members {
                 if has(me.view, other.me.number) {
                     other.floor[i] = other.floor[i].max((version, tie));

@@ -88,13 +88,18 @@ impl Schedule {
                 let value = some_bytes(rng, len);
                 (anyone, Event::Write { value })
             }
-            10..14 => return self.replay(rng, group, (anyone, i)),
-            14..24 => {
+            10..18 => return self.replay(rng, group, (anyone, i)),
+            18..24 => {
                 let state = 3 + rng.below(2) as u8;
-                (at(rng, state), Event::Validate)
+                let any = (at(rng, state), i);
+                return self.validate(rng, group, any);
             }
-            24..30 => (anyone, Event::Resend),
-            30..34 => {
+            24..27 => match self.strike(rng, group) {
+                Some((at, epoch, set)) => (at, Event::View { epoch, set }),
+                None => (at(rng, 4), Event::Validate),
+            },
+            27..32 => (anyone, Event::Resend),
+            32..36 => {
                 let (epoch, set) = match rng.below(3) {
                     0 => self.views[rng.below(self.issued)],
                     _ => self.views[self.issued - 1],
@@ -118,6 +123,55 @@ impl Schedule {
         let (at, i) = rng.pick(&fit).unwrap_or(any);
         let event = Event::Replay;
         (at, What::Own { i, event })
+    }
+
+    /// Often where no acknowledgement is missing: the last missing laptop was
+    /// struck off.
+    fn validate(&self, rng: &mut Rng, group: &Group, any: (usize, usize)) -> (usize, What) {
+        let mut fit = vec![any];
+        for (at, member) in group.members.iter().enumerate() {
+            let others = member.me.view & !bit(member.me.number);
+            let all = |record: Fields| record.state >= 3 && others & !record.acks == 0;
+            let hot = self.hot.iter();
+            let hot = hot.filter(|&&i| member.memory.record(i).is_some_and(all));
+            fit.extend(hot.map(|&i| (at, i)));
+        }
+        let (at, i) = rng.pick(&fit).unwrap_or(any);
+        let event = Event::Validate;
+        (at, What::Own { i, event })
+    }
+
+    /// A laptop that waits for none but those that an issued view lacks, with
+    /// that view: the separate validation is then the only way on. Replays are
+    /// rare, so for one the warden issues such a view in the place of those to
+    /// come.
+    fn strike(&mut self, rng: &mut Rng, group: &Group) -> Option<(usize, u32, u16)> {
+        let (last, within) = self.views[self.issued - 1];
+        let mut fit = Vec::new();
+        let mut replays = Vec::new();
+        for (at, member) in group.members.iter().enumerate() {
+            let own = bit(member.me.number);
+            let hot = self.hot.iter().filter_map(|&i| member.memory.record(i));
+            for record in hot.filter(|record| record.state >= 3) {
+                for &(epoch, set) in &self.views[..self.issued] {
+                    let all = set & !own & !record.acks == 0;
+                    if epoch > member.me.epoch && set & own != 0 && all {
+                        fit.push((at, epoch, set));
+                    }
+                }
+                let set = within & (own | record.acks);
+                if record.state == 4 && set & own != 0 && set.count_ones() >= 2 {
+                    replays.push((at, last.checked_add(1)?, set));
+                }
+            }
+        }
+        let Some(issued) = rng.pick(&replays) else {
+            return rng.pick(&fit);
+        };
+        self.views.truncate(self.issued);
+        self.views.push((issued.1, issued.2));
+        self.issued += 1;
+        Some(issued)
     }
 
     /// The radio takes up what the last entry sent.

@@ -1,7 +1,7 @@
 //! Delivering message i of a packet, on lent memory of any kind.
 
 use cetskobi::raw;
-use model::engine::number;
+use model::engine::{number, Message};
 use model::packet;
 use model::rng::Rng;
 
@@ -12,7 +12,7 @@ use crate::crossing::sent_of;
 use crate::memory::Memory;
 use crate::settings::Settings;
 use crate::shrink::{drops, less, shrink, Found, Smaller};
-use crate::single::{self, on_memory, replica_of, some_case, Event, Kind, Outcome};
+use crate::single::{self, last_ack, on_memory, replica_of, some_case, Event, Kind, Outcome};
 
 /// A packet, the message that is delivered from it, and what is lent. The
 /// case's own event tells which message was meant.
@@ -50,6 +50,22 @@ pub fn by_model(case: &Case, memory: &mut Memory) -> Outcome {
 #[derive(Clone, Debug, Default)]
 pub struct Tally {
     pub answers: [u64; 26],
+    /// Accepted ACKs that were the last, as `last_ack` has them.
+    pub last: [u64; 3],
+}
+
+impl Tally {
+    fn count(&mut self, case: &Case, outcome: &Outcome) {
+        self.answers[usize::from(outcome.number)] += 1;
+        let Ok((envelope, _)) = packet::fetch(&case.packet, case.i) else {
+            return;
+        };
+        let lent = &case.lent;
+        if matches!(envelope.message, Message::Ack(_)) && envelope.record == lent.i {
+            let at = last_ack(lent.me, &lent.record, envelope.sender, outcome);
+            at.into_iter().for_each(|at| self.last[at] += 1);
+        }
+    }
 }
 
 /// Random deliveries of the usual count.
@@ -66,7 +82,7 @@ pub fn compare(settings: &Settings, other: Deliver) -> Result<Tally, Box<Found<C
     for _ in 0..DELIVERIES * settings.times {
         let case = some_delivery(&mut rng);
         match difference(&case) {
-            Ok(outcome) => tally.answers[usize::from(outcome.number)] += 1,
+            Ok(outcome) => tally.count(&case, &outcome),
             Err(what) => return Err(Box::new(shrink(case, what, |case| difference(case).err()))),
         }
     }

@@ -1,10 +1,11 @@
 //! Scripts of the playing program.
 
 mod some;
+mod tally;
 
 pub use some::some_script;
+pub use tally::Tally;
 
-use std::collections::BTreeMap;
 use std::fmt;
 
 use cetskobi::raw::{self, Played};
@@ -110,36 +111,6 @@ impl Bench {
     }
 }
 
-/// How often each answer, state letter and log number was printed.
-#[derive(Clone, Debug, Default)]
-pub struct Tally {
-    pub scripts: u64,
-    pub lines: u64,
-    pub words: BTreeMap<String, u64>,
-}
-
-impl Tally {
-    fn count(&mut self, printed: &[u8]) {
-        self.scripts += 1;
-        let printed = String::from_utf8_lossy(printed);
-        for line in printed.lines() {
-            self.lines += 1;
-            let words: Vec<&str> = line.split(' ').collect();
-            let mut add = |word: String| *self.words.entry(word).or_default() += 1;
-            match words[..] {
-                [answer, state, _, _, log] => {
-                    add(format!("answer {answer}"));
-                    add(format!("state {state}"));
-                    if log == "255" {
-                        add("log 255".to_owned());
-                    }
-                }
-                _ => add(line.to_owned()),
-            }
-        }
-    }
-}
-
 /// Random scripts of the usual count.
 const SCRIPTS: usize = 25_000;
 
@@ -150,7 +121,7 @@ pub fn compare(settings: &Settings, other: Play) -> Result<Tally, Box<Found<Scri
     for _ in 0..SCRIPTS * settings.times {
         let script = some_script(&mut rng);
         match bench.difference(&script, other) {
-            Ok(printed) => tally.count(printed),
+            Ok(printed) => tally.count(&script.lines, printed),
             Err(what) => {
                 let again = |script: &Script| bench.difference(script, other).err();
                 return Err(Box::new(shrink(script, what, again)));

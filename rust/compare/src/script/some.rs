@@ -96,6 +96,7 @@ impl Writer {
             23..26 => self.view(rng),
             26..30 => return self.whole_write(rng, lines),
             30..32 => return self.dead_writer(rng, lines),
+            32 if rng.chance(1, 8) => return self.last_ack_at_the_limit(rng, lines),
             32 => {
                 // The log fills.
                 let line = format!("resend {}", self.laptop(rng));
@@ -154,8 +155,9 @@ impl Writer {
         Bytes(line.into_bytes().into_iter().chain(text).collect())
     }
 
-    /// A write that reaches everyone, its acknowledgements and its end; some of
-    /// it may get lost.
+    /// A write that reaches everyone, its acknowledgements, the last of which is
+    /// its end, and a validation that finds nothing to do; some of it may get
+    /// lost.
     fn whole_write(&mut self, rng: &mut Rng, lines: &mut Vec<Bytes>) {
         self.look(lines);
         let writer = rng.below(self.size);
@@ -178,6 +180,32 @@ impl Writer {
             say(format!("deliver {other} {}", inv + others.len() + 1));
         }
         self.logged += others.len() + 2;
+    }
+
+    /// A write whose last acknowledgement finds the log full, or with room for
+    /// one message more.
+    fn last_ack_at_the_limit(&mut self, rng: &mut Rng, lines: &mut Vec<Bytes>) {
+        self.look(lines);
+        let writer = rng.below(self.size);
+        let inv = self.logged;
+        let acks = self.size - 1;
+        let mut say = |line: String| lines.push(Bytes(line.into_bytes()));
+        say(format!("write {writer} text {inv}"));
+        for other in (0..self.size).filter(|&other| other != writer) {
+            say(format!("deliver {other} {inv}"));
+        }
+        for k in 1..acks {
+            say(format!("deliver {writer} {}", inv + k));
+        }
+        let room = rng.below(2);
+        for _ in inv + 1 + acks..256 - room {
+            say(format!("resend {writer}"));
+        }
+        for _ in 0..2 {
+            say(format!("deliver {writer} {}", inv + acks));
+        }
+        say(format!("validate {writer}"));
+        self.logged = 256;
     }
 
     /// A writer dies after its message has reached one other, which replays it

@@ -9,7 +9,7 @@ mod tally;
 pub use case::{Case, Event, Kind};
 pub use play::{by_engine, by_model, on_memory, on_table, replica_of, Bench, Outcome, Play};
 pub use some::{some_bytes, some_case, some_number, some_set, some_word};
-pub use tally::Tally;
+pub use tally::{last_ack, Tally};
 
 use crate::settings::Settings;
 use crate::shrink::{shrink, Found};

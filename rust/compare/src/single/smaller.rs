@@ -35,27 +35,36 @@ impl Case {
         whole.into_iter().filter(move |case| sum(case) < sum(self))
     }
 
-    /// The least replica, in a view with the next.
+    /// The least replica, in a view with the next. Where replica 0 is counted,
+    /// the one that gave its number away is counted for it.
     fn renumber(&mut self) {
         let away = self.me.number;
         (self.me.number, self.me.view) = (0, 3);
+        let zero = self.record.acks & 1 != 0;
         self.record.acks &= !(1 | bit(away));
+        if zero && away != 0 {
+            self.record.acks |= bit(away);
+        }
         if let Event::Deliver { message, .. } = &mut self.event {
             message.sender = 1;
         }
     }
 
-    /// Each number alone, and two that are equal together.
+    /// Each number alone, and two that are equal together. Steps by one come
+    /// last: a great number would go down by them alone.
     fn lesser_numbers(&self) -> impl Iterator<Item = Case> + '_ {
         let numbers = self.all();
         let count = numbers.len();
-        let pairs = (0..count).flat_map(move |k| (k..count).map(move |l| (k, l)));
-        let equal = pairs.filter_map(move |(k, l)| {
-            let number = numbers[k];
-            (number == numbers[l]).then_some((k, l, number))
-        });
-        let lesser = equal.flat_map(|(k, l, number)| less(number).map(move |n| (k, l, n)));
-        lesser.map(|(k, l, number)| {
+        let pairs = (0..count).flat_map(|k| (k..count).map(move |l| (k, l)));
+        let equal = pairs.filter(|&(k, l)| numbers[k] == numbers[l]);
+        let equal: Vec<_> = equal.map(|(k, l)| (k, l, numbers[k])).collect();
+        let lesser = |by_one: bool| {
+            equal.clone().into_iter().flat_map(move |(k, l, number)| {
+                let lesser = less(number).filter(move |n| (n + 1 == number) == by_one);
+                lesser.map(move |n| (k, l, n))
+            })
+        };
+        lesser(false).chain(lesser(true)).map(|(k, l, number)| {
             self.with(|case| {
                 let mut numbers = case.numbers();
                 numbers[k].set(number);

@@ -197,6 +197,13 @@ fn delivery(rng: &mut Rng, kind: Kind, me: &Replica, record: &mut Fields) -> Eve
         }
         Kind::Ack => {
             record.state = 2 + rng.below(3) as u8;
+            match rng.below(4) {
+                // It is the last, mostly with others counted that are not in the view.
+                0 | 1 => record.acks |= others,
+                // Everyone is counted but one of the view.
+                2 => record.acks = !bit(me.number) & !one_of(rng, others).map_or(0, bit),
+                _ => {}
+            }
             record.acks &= !bit(sender);
             (version, tie) = record.written();
         }

@@ -1,9 +1,10 @@
 use std::fmt;
 
-use cetskobi::raw::RECORD_BYTES;
-use model::engine::has;
+use cetskobi::raw::{Replica, RECORD_BYTES};
+use model::engine::{bit, has};
 
 use super::{Case, Event, Kind, Outcome};
+use crate::crossing::Fields;
 
 /// How often each kind of event gave each answer.
 #[derive(Clone, Debug, Default)]
@@ -13,6 +14,11 @@ pub struct Tally {
     accepted: [[u64; 5]; Kind::ALL.len()],
     /// Accepted INVs that were not greater, by the state.
     older: [u64; 5],
+    /// Accepted ACKs that were the last, as `last_ack` has them.
+    last: [u64; 3],
+    /// Accepted ACKs after which as many are counted as the view has others,
+    /// or more, but one of the view is missing; by the state, as above.
+    many: [u64; 3],
     /// Refused by question 2, by what is wrong with the memory.
     sizes: [u64; SIZES.len()],
     /// Refused by question 5, by what alone is wrong with the record.
@@ -75,6 +81,17 @@ impl Tally {
             return;
         }
         let of_record = !matches!(kind, Kind::Start | Kind::View);
+        if let (Kind::Ack, Event::Deliver { message, .. }) = (kind, &case.event) {
+            let others = case.me.view & !bit(case.me.number);
+            let counted = case.record.acks | bit(message.sender);
+            match last_ack(case.me, &case.record, message.sender, outcome) {
+                Some(at) => self.last[at] += 1,
+                None if others & !counted != 0 && counted.count_ones() >= others.count_ones() => {
+                    self.many[state - 2] += 1;
+                }
+                None => {}
+            }
+        }
         match &case.event {
             Event::Deliver { message, .. }
                 if kind == Kind::Inv && (message.version, message.tie) <= case.record.stamp() =>
@@ -98,7 +115,9 @@ impl Tally {
             states(kind).iter().map(|&state| counts[state])
         });
         let wrong = self.sizes.into_iter().chain(self.unsound);
-        let all = answers.chain(accepted).chain(self.older).chain(wrong);
+        let acks = self.last.into_iter().chain(self.many);
+        let all = answers.chain(accepted).chain(self.older);
+        let all = all.chain(acks).chain(wrong);
         all.min().unwrap_or(0)
     }
 
@@ -114,6 +133,22 @@ impl Tally {
     pub fn total(&self) -> u64 {
         self.answers.as_flattened().iter().sum()
     }
+}
+
+/// The last ACK: an accepted one after which every other laptop in the view is
+/// counted. With it a VAL leaves from write and replay, and nothing from
+/// invalid-write (02, Wish 1): else it is none. Gives 0 for an ACK at
+/// invalid-write, 1 at write, 2 at replay.
+pub fn last_ack(me: Replica, before: &Fields, sender: u8, outcome: &Outcome) -> Option<usize> {
+    let others = me.view & !bit(me.number);
+    let all = others & !(before.acks | bit(sender)) == 0;
+    let at = [2, 3, 4].iter().position(|&state| state == before.state)?;
+    let (val, tie, version) = outcome.sent;
+    let leaves = match at {
+        0 => outcome.sent == (0, 0, 0),
+        _ => val == 3 && (version, tie) == before.stamp(),
+    };
+    (outcome.number == 0 && all && leaves).then_some(at)
 }
 
 /// The states at which an event of this kind can be accepted.
@@ -161,6 +196,13 @@ impl fmt::Display for Tally {
             write!(f, " {}:{count}", letter(state))?;
         }
         writeln!(f)?;
+        for (what, counts) in [
+            ("the last ack", self.last),
+            ("as many acks, not all,", self.many),
+        ] {
+            let [x, w, r] = counts;
+            writeln!(f, "          {what} at X:{x} W:{w} R:{r}")?;
+        }
         let sizes = self.sizes.iter().zip(SIZES);
         for (count, (name, _)) in sizes.chain(self.unsound.iter().zip(UNSOUND)) {
             writeln!(f, "          {count} with {name}")?;
