@@ -34,6 +34,7 @@ pub const TEXT: &[u8; 32] = b"Blue tit, f, wing 62, 10.9 g, wj";
 // Records as the events find them: at version 8, or at 7 with 8 to come.
 pub const VALID: Record = record(State::Valid, (7, 5), (0, 1), 0);
 const WRITING: Record = record(State::Write, (8, 2), (8, 2), 0);
+const ONE_MISSING: Record = record(State::Write, (8, 2), (8, 2), 0b10);
 const ACKNOWLEDGED: Record = record(State::Write, (8, 2), (8, 2), 0b10_0010);
 const INVALID: Record = record(State::Invalid, (8, 5), (0, 1), 0);
 const ORPHAN: Record = record(State::Invalid, (8, 4), (0, 1), 0);
@@ -228,6 +229,13 @@ fn deliveries(n: usize, visit: &mut impl Visit) {
     deliver(older, VALID, message(1, 6, 5), TEXT.to_vec(), visit);
     let ack = event("ack", "deliver ACK", n, NOTHING);
     deliver(ack, WRITING, message(2, 8, 2), vec![], visit);
+    let last = event(
+        "ack-last",
+        "deliver the last ACK, VAL leaves",
+        n,
+        sent(3, 8, 2),
+    );
+    deliver(last, ONE_MISSING, message(2, 8, 2), vec![], visit);
     let val = event("val", "deliver VAL", n, NOTHING);
     deliver(val, INVALID, message(3, 8, 5), vec![], visit);
 }

@@ -9,7 +9,8 @@ use crate::side::{About, Answers, Nobody, On, Told};
 const EXAMPLE: &str = "group 3\nwrite 0 A1\ndeliver 1 0\ndeliver 2 0\ndeliver 0 1\ndeliver 0 2\nvalidate 0\ndeliver 1 3\nread 1\nread 2\n";
 
 /// 30 writes with all their deliveries, which fill the log to 240, and then
-/// reads and repeated deliveries up to 65,536 bytes.
+/// reads and repeated deliveries up to 65,536 bytes. Each write ends with its
+/// last ACK; the `validate` after it is refused.
 fn long() -> String {
     let mut script = String::from("group 4\n");
     for round in 0..30 {
@@ -45,7 +46,7 @@ fn long() -> String {
 
 pub fn all(visit: &mut impl Visit) {
     play(
-        other("play", "player, document 01's example", 1, number(90)),
+        other("play", "player, document 01's example", 1, number(91)),
         EXAMPLE,
         visit,
     );
@@ -54,7 +55,7 @@ pub fn all(visit: &mut impl Visit) {
             "play-long",
             "player, 65,536 bytes of script",
             1,
-            number(60_006),
+            number(60_036),
         ),
         &long(),
         visit,
