@@ -84,7 +84,8 @@ impl Agreement {
         }
     }
 
-    /// An accepted validation: its laptop is the finisher.
+    /// A validation, by its own event or by the last acknowledgement: its laptop
+    /// is the finisher.
     pub fn finished(&mut self, finisher: &Laptop, record: usize) {
         let (Some(r), Some(row)) = (finisher.record(record), self.validated.get_mut(record)) else {
             return;

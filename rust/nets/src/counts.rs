@@ -22,6 +22,10 @@ impl Counts<'_> {
             let remark = format!("{} accepted", grouped(accepted));
             line(f, &name, report.events.events[kind as usize], &remark)?;
         }
+        let [last, own] = report.validations();
+        let (by_ack, by_event) = (grouped(last), grouped(own));
+        let remark = format!("{by_ack} by the last ACK, {by_event} by a validate");
+        line(f, "validations", last + own, &remark)?;
         let [inv, ack, val] = report.events.messages.map(grouped);
         line(
             f,

@@ -1,8 +1,8 @@
 //! The laptops of the group. Every event goes through here: it is counted,
 //! remembered, and agreement is checked after it.
 
-use cetskobi::Timestamp;
-use cetskobi::{Arriving, Envelope, Laptop, Leaving, Members, Record, Refusal, Reply, State};
+use cetskobi::{Arriving, Envelope, Laptop, Leaving, Members, Message, Record, Refusal, Reply};
+use cetskobi::{State, Timestamp};
 use std::collections::BTreeMap;
 
 use crate::agreement::{Agreement, Disagreement};
@@ -20,6 +20,8 @@ pub(crate) struct EventCounts {
     pub refused: BTreeMap<u8, u64>,
     /// Saves overtaken by another laptop's: from write to invalid-write.
     pub overtaken: u64,
+    /// Validations by the last acknowledgement.
+    pub completed: u64,
     /// INV, ACK, VAL.
     pub messages: [u64; 3],
 }
@@ -112,8 +114,7 @@ impl Group {
     pub fn validate(&mut self, number: u8, i: usize) -> Watched {
         let answer = self.act(number, i, |l| sent(l.validate(i)));
         if answer.is_ok() {
-            self.agreement
-                .finished(&self.laptops[usize::from(number)], i);
+            self.finished(number, i);
         }
         self.watched(number, i, Kind::Validate, None, answer)
     }
@@ -136,16 +137,33 @@ impl Group {
         k: usize,
         came: Envelope,
     ) -> Watched {
-        let answer = self.act(number, came.record, |l| {
-            replied(l.deliver_packet(packet, k))
-        });
-        self.watched(number, came.record, Kind::Deliver, Some(came), answer)
+        self.deliver(number, came, |l| replied(l.deliver_packet(packet, k)))
     }
 
     /// A message that came, handed over as another.
     pub fn deliver_as(&mut self, number: u8, came: Envelope, handed: Arriving) -> Watched {
-        let answer = self.act(number, came.record, |l| replied(l.deliver(handed)));
-        self.watched(number, came.record, Kind::Deliver, Some(came), answer)
+        self.deliver(number, came, |l| replied(l.deliver(handed)))
+    }
+
+    /// A delivery. An ACK that ends a write or replay is a validation too
+    /// (document 02, Wish 1).
+    fn deliver(
+        &mut self,
+        number: u8,
+        came: Envelope,
+        event: impl FnOnce(&mut Laptop) -> Left,
+    ) -> Watched {
+        let i = came.record;
+        let state = |group: &Group| group.record(number, i).map(|r| r.state);
+        let before = state(self);
+        let answer = self.act(number, i, event);
+        let waited = matches!(before, Some(State::Write | State::Replay));
+        let ended = waited && state(self) == Some(State::Valid);
+        if ended && matches!(came.message, Message::Ack(_)) {
+            self.counts.completed += 1;
+            self.finished(number, i);
+        }
+        self.watched(number, i, Kind::Deliver, Some(came), answer)
     }
 
     /// A view changes who stands in whose: all records are checked after it.
@@ -164,6 +182,12 @@ impl Group {
             self.agreement.check(&self.laptops, i)?;
         }
         Ok(answer.map(|_| None))
+    }
+
+    /// A validation: this laptop is the finisher, with its view and its record.
+    fn finished(&mut self, number: u8, i: usize) {
+        self.agreement
+            .finished(&self.laptops[usize::from(number)], i);
     }
 
     /// An event on a record, with an eye on what becomes of it.
@@ -237,5 +261,113 @@ impl Group {
 
     fn laptop_mut(&mut self, number: u8) -> &mut Laptop {
         &mut self.laptops[usize::from(number)]
+    }
+}
+
+#[cfg(test)]
+mod tests {
+    use super::*;
+
+    const SAVED: Timestamp = Timestamp { version: 1, tie: 0 };
+
+    /// Laptops 0 to 3 with one record.
+    fn four() -> Group {
+        let settings = Settings {
+            laptops: 4,
+            records: 1,
+            ..Settings::default()
+        };
+        Group::start(&settings).expect("a group of four")
+    }
+
+    /// A message about the record comes.
+    fn comes(group: &mut Group, to: u8, sender: u8, epoch: u32, message: Message) -> Watched {
+        let came = Envelope {
+            sender,
+            epoch,
+            record: 0,
+            message,
+        };
+        group.deliver_as(to, came, Arriving::new(came, b""))
+    }
+
+    /// The one message that leaves, with who gets it.
+    fn left(watched: Watched) -> Option<(Message, u16)> {
+        let left = watched.expect("agreement").expect("accepted");
+        left.map(|l| (l.envelope().message, l.recipients().bits()))
+    }
+
+    /// 0 saves, and only 1 and 2 take it. 3 has another view, without 0, so that
+    /// the two screens may differ; but it stands in 0's view.
+    fn open() -> Group {
+        let mut group = four();
+        let view = Members::from(0b1110);
+        (group.change_view(3, 1, view).expect("agreement")).expect("accepted");
+        let inv = group.write(0, 0, b"").expect("agreement");
+        let inv = inv.expect("accepted").expect("an INV");
+        for n in [1, 2] {
+            let ack = group.deliver_as(n, inv.envelope(), inv.arriving());
+            assert_eq!(left(ack), Some((Message::Ack(SAVED), 1)));
+        }
+        group
+    }
+
+    /// What is noticed when 3, which still shows the fresh record, is wrongly
+    /// said to have acknowledged.
+    const NOTICED: Watched = Err(Disagreement::OlderText {
+        record: 0,
+        laptop: 3,
+        validated: SAVED,
+    });
+
+    #[test]
+    fn the_last_acknowledgement_of_a_write_is_a_validation() {
+        let mut group = open();
+        let ack = Message::Ack(SAVED);
+        for n in [1, 2] {
+            assert_eq!(left(comes(&mut group, 0, n, 0, ack)), None);
+        }
+        assert_eq!(group.counts.completed, 0);
+        assert_eq!(comes(&mut group, 0, 3, 0, ack), NOTICED);
+        assert_eq!(group.counts.completed, 1);
+        assert_eq!(group.counts.messages, [1, 2, 1]);
+    }
+
+    /// 0 is struck off, and 1 replays its save.
+    #[test]
+    fn the_last_acknowledgement_of_a_replay_is_a_validation() {
+        let mut group = open();
+        let view = Members::from(0b1110);
+        for n in [1, 2] {
+            (group.change_view(n, 1, view).expect("agreement")).expect("accepted");
+        }
+        // 3 has heard of the next view already, which is without 1.
+        let other = Members::from(0b1100);
+        (group.change_view(3, 2, other).expect("agreement")).expect("accepted");
+        let inv = (Message::Inv(SAVED), 0b1100);
+        assert_eq!(left(group.replay(1, 0)), Some(inv));
+        let ack = Message::Ack(SAVED);
+        assert_eq!(left(comes(&mut group, 1, 2, 1, ack)), None);
+        assert_eq!(comes(&mut group, 1, 3, 1, ack), NOTICED);
+        assert_eq!(group.counts.completed, 1);
+    }
+
+    /// 0's save is overtaken: its acknowledgements are counted, and end nothing.
+    #[test]
+    fn an_acknowledgement_of_an_overtaken_write_is_none() {
+        let mut group = open();
+        let later = Timestamp { version: 1, tie: 2 };
+        let ack = Some((Message::Ack(later), 0b100));
+        assert_eq!(left(comes(&mut group, 0, 2, 0, Message::Inv(later))), ack);
+        for n in [1, 2, 3] {
+            let ack = Message::Ack(SAVED);
+            assert_eq!(left(comes(&mut group, 0, n, 0, ack)), None);
+        }
+        let record = group.record(0, 0).expect("a record");
+        assert_eq!(record.state, State::InvalidWrite);
+        assert_eq!(record.acks, Members::from(0b1110));
+        // Nor does a VAL make the laptop that takes it the finisher.
+        assert_eq!(left(comes(&mut group, 0, 2, 0, Message::Val(later))), None);
+        assert_eq!(group.counts.completed, 0);
     }
 }

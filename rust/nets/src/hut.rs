@@ -3,7 +3,7 @@
 
 use std::collections::BTreeMap;
 
-use cetskobi::{packet, Arriving, Envelope, Leaving, Members, Message, Timestamp};
+use cetskobi::{packet, Arriving, Envelope, Members, Message, State, Timestamp};
 
 use crate::agreement::Disagreement;
 use crate::fault::Fault;
@@ -82,14 +82,13 @@ impl Hut {
             if self.fault == Some(Fault::Val) && matches!(message, Message::Val(_)) {
                 continue;
             }
-            let Ok(left) = self.take(group, bytes, k, m)? else {
-                continue;
-            };
-            self.put(left);
-            if let Message::Ack(_) = message {
-                // The last one that was missing, perhaps.
-                let answer = group.validate(self.number, record)?;
-                self.put_again(group, record, answer, WAIT_FIRST);
+            match self.take(group, bytes, k, m)? {
+                Ok(Some(left)) if matches!(left.envelope().message, Message::Val(_)) => {
+                    // The last acknowledgement has come. Its VAL may be lost, as any.
+                    self.put_again(group, record, Ok(Some(left)), WAIT_FIRST);
+                }
+                Ok(Some(left)) => self.outbox.put(left),
+                Ok(None) | Err(_) => {}
             }
         }
         Ok(())
@@ -140,26 +139,40 @@ impl Hut {
     fn go_over(&mut self, group: &mut Group) -> Done {
         for i in 0..group.laptop(self.number).count() {
             let record = group.record(self.number, i);
-            if record.is_none_or(|r| r.timestamp.version == 0) {
+            let Some(record) = record.filter(|r| r.timestamp.version > 0) else {
                 continue;
-            }
-            // An old VAL keeps its long wait.
-            let wait = match group.laptop(self.number).shows_valid(i) {
-                true => self.timers.get(&i).map_or(WAIT_FIRST, |t| t.wait),
-                false => WAIT_FIRST,
             };
-            self.help(group, i, wait)?;
+            if !self.validated(group, i, record.state)? {
+                // An old VAL keeps its long wait.
+                let wait = match group.laptop(self.number).shows_valid(i) {
+                    true => self.timers.get(&i).map_or(WAIT_FIRST, |t| t.wait),
+                    false => WAIT_FIRST,
+                };
+                self.help(group, i, wait)?;
+            }
         }
         Ok(())
     }
 
-    /// Tries all that may move a record on from here.
+    /// Finishes a write or replay, if the last laptop that was missing is struck
+    /// off. Else the last acknowledgement does it.
+    fn validated(
+        &mut self,
+        group: &mut Group,
+        i: usize,
+        state: State,
+    ) -> Result<bool, Disagreement> {
+        if !matches!(state, State::Write | State::Replay) {
+            return Ok(false);
+        }
+        let answer = group.validate(self.number, i)?;
+        Ok(self.put_again(group, i, answer, WAIT_FIRST))
+    }
+
+    /// Tries what else may move a record on from here.
     fn help(&mut self, group: &mut Group, i: usize, wait: Tick) -> Done {
         let n = self.number;
-        let mut answer = group.validate(n, i)?;
-        if answer.is_err() {
-            answer = group.replay(n, i)?;
-        }
+        let mut answer = group.replay(n, i)?;
         if answer.is_err() {
             answer = group.resend(n, i)?;
         }
@@ -174,22 +187,19 @@ impl Hut {
     /// again after so many ticks.
     fn put_again(&mut self, group: &Group, i: usize, answer: Left, wait: Tick) -> bool {
         let Ok(left) = answer else { return false };
-        self.put(left);
-        let due = group.now + wait;
-        self.timers.insert(i, Timer { due, wait });
-        true
-    }
-
-    fn put(&mut self, left: Option<Leaving<'static>>) {
         if let Some(left) = left {
             self.outbox.put(left);
         }
+        let due = group.now + wait;
+        self.timers.insert(i, Timer { due, wait });
+        true
     }
 }
 
 #[cfg(test)]
 mod tests {
     use super::*;
+    use crate::history::Kind;
     use crate::settings::Settings;
 
     /// So many laptops with one record, each with its hut.
@@ -280,6 +290,80 @@ mod tests {
         sent(&mut one);
         assert_eq!(sent_at(&mut one, group, 60), [8, 24, 56]);
         assert_eq!(sent_at(&mut two, group, 60), []);
+    }
+
+    /// How often the hut validated, and how often question 15 said no.
+    fn validations(group: &Group) -> (u64, u64) {
+        let refused = group.counts.refused.get(&15).copied();
+        let asked = group.counts.events[Kind::Validate as usize];
+        (asked, refused.unwrap_or(0))
+    }
+
+    /// The VAL leaves with the last acknowledgement, to both others, and nobody
+    /// asks for a validation.
+    #[test]
+    fn the_last_acknowledgement_sends_the_val() {
+        let (mut group, [mut zero, mut one, mut two]) = huts();
+        let group = &mut group;
+        let seen = zero.open(group, 0).expect("agreement").expect("shown");
+        assert_eq!(zero.save(group, 0, seen, b"Wren"), Ok(true));
+        let inv = sent(&mut zero);
+        for hut in [&mut one, &mut two] {
+            hut.packet_came(group, &inv).expect("agreement");
+        }
+        zero.packet_came(group, &sent(&mut one)).expect("agreement");
+        assert!(zero.packets().is_empty());
+        zero.packet_came(group, &sent(&mut two)).expect("agreement");
+        let packets = zero.packets();
+        let [(to, val)] = &packets[..] else {
+            panic!("{} packets", packets.len());
+        };
+        assert_eq!(*to, Members::from(0b110));
+        for hut in [&mut one, &mut two] {
+            hut.packet_came(group, val).expect("agreement");
+            assert!(hut.packets().is_empty());
+            assert!(group.laptop(hut.number).shows_valid(0));
+        }
+        assert_eq!(validations(group), (0, 0));
+    }
+
+    /// 1 and 2 are dead. 1 is struck off, which leaves 2 missing, and then 2: the
+    /// view finishes the save, and the VAL leaves with it.
+    #[test]
+    fn a_view_finishes_the_save_that_only_the_dead_miss() {
+        let (mut group, [mut zero, _, _, mut three]) = huts();
+        let group = &mut group;
+        let seen = zero.open(group, 0).expect("agreement").expect("shown");
+        assert_eq!(zero.save(group, 0, seen, b"Wren"), Ok(true));
+        let inv = sent(&mut zero);
+        three.packet_came(group, &inv).expect("agreement");
+        zero.packet_came(group, &sent(&mut three))
+            .expect("agreement");
+        assert!(zero.packets().is_empty());
+
+        for hut in [&mut zero, &mut three] {
+            hut.view_came(group, 1, Members::from(0b1101))
+                .expect("agreement");
+        }
+        assert_eq!(validations(group), (1, 1));
+        // The INV again, under the new epoch.
+        sent(&mut zero);
+        assert_eq!(group.record(0, 0).map(|r| r.state), Some(State::Write));
+        assert_eq!(sent_at(&mut zero, group, 60), [8, 24, 56]);
+        assert_eq!(validations(group), (1, 1));
+
+        for hut in [&mut zero, &mut three] {
+            hut.view_came(group, 2, Members::from(0b1001))
+                .expect("agreement");
+        }
+        assert_eq!(validations(group), (2, 1));
+        assert!(group.laptop(0).shows_valid(0));
+        three
+            .packet_came(group, &sent(&mut zero))
+            .expect("agreement");
+        assert!(group.laptop(3).shows_valid(0));
+        assert_eq!(sent_at(&mut zero, group, 130), [8, 24, 56, 120]);
+        assert_eq!(validations(group), (2, 1));
     }
 
     #[test]

@@ -9,7 +9,7 @@ use crate::counts::Counts;
 use crate::figures::Figures;
 use crate::group::EventCounts;
 use crate::history::Kind;
-use crate::layout::{grouped, line, seconds};
+use crate::layout::{grouped, line, line_of, seconds};
 use crate::link::LinkCounts;
 use crate::plan::{Death, Plan};
 use crate::settings::Settings;
@@ -73,6 +73,13 @@ impl Report {
         self.waiting
     }
 
+    /// Validations: by the last acknowledgement, and by an event of their own,
+    /// where the last laptop that was missing was struck off.
+    pub fn validations(&self) -> [u64; 2] {
+        let own = self.events.accepted[Kind::Validate as usize];
+        [self.events.completed, own]
+    }
+
     /// Replays that were accepted.
     pub fn replays(&self) -> u64 {
         self.events.accepted[Kind::Replay as usize]
@@ -94,6 +101,14 @@ impl Report {
         let times = &self.times;
         let neither = times.left + times.hung;
         [count(times.finished), count(times.replaced), neither]
+    }
+
+    /// Events for each save that was finished or replaced, in tenths. None
+    /// without such a save.
+    fn tenths_a_save(&self) -> Option<u64> {
+        let [finished, replaced, _] = self.ends_of_saves();
+        let saves = (finished + replaced) as u64;
+        (self.events() * 10 + saves / 2).checked_div(saves)
     }
 
     /// The counts, which an engineer asks for.
@@ -162,6 +177,18 @@ impl Report {
             "agreement",
             self.checks,
             "records checked, after every event, and it held",
+        )?;
+        let tenths = self.tenths_a_save();
+        let events = tenths.map_or("-".to_owned(), |n| {
+            format!("{}.{}", grouped(n / 10), n % 10)
+        });
+        let remark = "of the engine, refused ones too, for each save finished or replaced";
+        line_of(f, "events a save", &events, remark)?;
+        line(
+            f,
+            "refused by 15",
+            self.refused(Refusal::NotFinished),
+            "validations that still lacked an acknowledgement",
         )?;
         line(
             f,

@@ -95,12 +95,12 @@ fn lost(group: &Group, members: &[&Laptop]) -> usize {
 mod tests {
     use super::*;
     use crate::settings::Settings;
-    use cetskobi::{Replica, Timestamp};
+    use cetskobi::{Leaving, Replica, Timestamp};
 
     const SAVED: Timestamp = Timestamp { version: 1, tie: 0 };
 
-    /// Two laptops; laptop 0 has saved the one record.
-    fn saved() -> Group {
+    /// Two laptops; laptop 0 has saved the one record, and 1 acknowledges that.
+    fn saved() -> (Group, Leaving<'static>) {
         let settings = Settings {
             laptops: 2,
             records: 1,
@@ -113,17 +113,15 @@ mod tests {
             .deliver_as(1, inv.envelope(), inv.arriving())
             .expect("agreement");
         let ack = ack.expect("accepted").expect("an ACK");
-        group
-            .deliver_as(0, ack.envelope(), ack.arriving())
-            .expect("agreement")
-            .expect("accepted");
-        group
+        (group, ack)
     }
 
-    /// Its validation reaches the other.
+    /// The acknowledgement comes, and its VAL reaches the other.
     fn finished() -> Group {
-        let mut group = saved();
-        let val = group.validate(0, 0).expect("agreement");
+        let (mut group, ack) = saved();
+        let val = group
+            .deliver_as(0, ack.envelope(), ack.arriving())
+            .expect("agreement");
         let val = val.expect("accepted").expect("a VAL");
         group
             .deliver_as(1, val.envelope(), val.arriving())
@@ -148,7 +146,7 @@ mod tests {
     #[test]
     fn an_open_save_is_not() {
         let cause = Cause::Unsettled { record: 0 };
-        assert_eq!(looked(&saved()), Err(cause));
+        assert_eq!(looked(&saved().0), Err(cause));
     }
 
     /// A record's state, its last writer, and whose save it is by its timestamp.

@@ -22,6 +22,11 @@ fn all_saved(settings: &Settings, report: &Report) {
     assert_eq!(ends.iter().sum::<usize>(), saved, "{settings:?}");
     // Finished or replaced, unless a laptop was struck off.
     assert!(settings.deaths > 0 || ends[2] == 0, "{settings:?}");
+    // The last acknowledgement settles the record. Only after a view is a
+    // validation asked for.
+    let [_, own] = report.validations();
+    let asked = report.refused(Refusal::NotFinished) + own;
+    assert!(settings.deaths > 0 || asked == 0, "{settings:?}");
 }
 
 #[test]
@@ -65,10 +70,17 @@ fn laptops_that_only_slept() {
 #[test]
 fn other_seeds() {
     let mut settings = Settings::from_env().expect("a seed");
+    let mut validations = [0, 0];
     for _ in 0..30 {
         settings.seed = settings.seed.wrapping_add(1);
-        all_saved(&settings, &agreed(&settings));
+        let report = agreed(&settings);
+        all_saved(&settings, &report);
+        let [last, own] = report.validations();
+        validations[0] += last;
+        validations[1] += own;
     }
+    // Both ways to finish have happened.
+    assert!(validations.iter().all(|n| *n > 0), "{validations:?}");
 }
 
 #[test]
