@@ -94,8 +94,32 @@ impl<T: AsMut<[u8]>, S: AsMut<[u8]>> Laptop<T, S> {
         lent.left(i, answer)
     }
 
-    /// Ends the write or replay of record `i`: every other laptop of the view
-    /// has acknowledged. A VAL leaves.
+    /// Ends the write or replay of record `i` after a change of view, where the
+    /// last laptop that was missing was struck off: every other one of the view
+    /// has acknowledged. A VAL leaves, to all of them.
+    ///
+    /// Nothing else needs it. The last acknowledgement ends a write or replay by
+    /// itself ([`deliver`](Laptop::deliver)), and then there is nothing to validate.
+    ///
+    /// ```
+    /// use cetskobi::{Laptop, Refusal};
+    ///
+    /// # fn main() -> Result<(), Refusal> {
+    /// # let mut net = Laptop::start(0, 0b111, 1)?;
+    /// # let mut hut = Laptop::start(1, 0b111, 1)?;
+    /// // Of {0,1,2} only 2, which is dead, has not acknowledged.
+    /// let inv = net.write(0, b"Wren")?;
+    /// let ack = hut.deliver(inv.arriving())?.leaving();
+    /// # let ack = ack.expect("an INV is acknowledged").into_owned();
+    /// assert_eq!(net.deliver(ack.arriving())?.leaving(), None);
+    /// assert_eq!(net.validate(0), Err(Refusal::NotFinished));
+    ///
+    /// net.change_view(1, 0b011)?;
+    /// let val = net.validate(0)?;
+    /// assert_eq!(val.recipients().to_string(), "{1}");
+    /// # Ok(())
+    /// # }
+    /// ```
     ///
     /// # Errors
     ///
@@ -119,6 +143,11 @@ impl<T: AsMut<[u8]>, S: AsMut<[u8]>> Laptop<T, S> {
 
     /// Takes a message in. An INV is answered by an ACK, which goes to its sender.
     ///
+    /// The last ACK that a write or replay waits for ends it: the record is
+    /// valid, and a VAL leaves, to all others in the view. Any other ACK is
+    /// counted, and nothing leaves; so is every ACK of a write that was overtaken
+    /// (invalid-write). A VAL that comes makes the record valid, and nothing leaves.
+    ///
     /// # Errors
     ///
     /// Questions 1 to 5, then [`OtherEpoch`](Refusal::OtherEpoch),
@@ -132,7 +161,8 @@ impl<T: AsMut<[u8]>, S: AsMut<[u8]>> Laptop<T, S> {
         lent.replied(envelope, answer)
     }
 
-    /// Takes message `i` of a packet in: [`packet::fetch`], then [`deliver`](Laptop::deliver).
+    /// Takes message `i` of a packet in: [`packet::fetch`], then [`deliver`](Laptop::deliver),
+    /// with what leaves there.
     ///
     /// # Errors
     ///

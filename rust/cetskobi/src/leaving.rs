@@ -95,8 +95,8 @@ impl<'a> Leaving<'a> {
     }
 }
 
-/// What a delivery answers: an INV is acknowledged, and nothing leaves for an
-/// ACK or a VAL.
+/// What a delivery answers: for an INV an ACK leaves, for the last ACK of a
+/// write or replay a VAL, and otherwise nothing.
 ///
 /// It borrows the laptop as [`Leaving`] does, and dropped unseen it does not
 /// compile either:
@@ -125,14 +125,14 @@ impl<'a> Leaving<'a> {
 /// # }
 /// ```
 #[derive(Clone, Debug, PartialEq, Eq, Hash)]
-#[must_use = "an acknowledgement that is not sent is heard by nobody"]
+#[must_use = "a message that is not sent is heard by nobody"]
 pub struct Reply<'a> {
     pub(crate) leaving: Option<Leaving<'a>>,
 }
 
 impl<'a> Reply<'a> {
     /// The message that leaves, if one does.
-    #[must_use = "an acknowledgement that is not sent is heard by nobody"]
+    #[must_use = "a message that is not sent is heard by nobody"]
     pub fn leaving(self) -> Option<Leaving<'a>> {
         self.leaving
     }

@@ -29,8 +29,9 @@
 //! let ack = ack.expect("an INV is acknowledged").into_owned();
 //! assert_eq!(hut.read(0), Err(Refusal::NotReadable));
 //!
-//! assert_eq!(net.deliver(ack.arriving())?.leaving(), None);
-//! let val = net.validate(0)?;
+//! // The last acknowledgement settles the record, and its validation leaves.
+//! let val = net.deliver(ack.arriving())?.leaving();
+//! let val = val.expect("the hut was the last that was missing");
 //! assert_eq!(hut.deliver(val.arriving())?.leaving(), None);
 //! assert_eq!(net.read(0)?, b"Blue tit, wing 62");
 //! assert_eq!(hut.read(0)?, b"Blue tit, wing 62");

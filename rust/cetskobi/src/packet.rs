@@ -18,7 +18,7 @@
 //! for message in packet::messages(&received)? {
 //!     // A refused message is one message: go on with the next.
 //!     let Ok(reply) = laptop.deliver(message) else { continue };
-//!     assert_eq!(reply.leaving(), None); // only an INV is answered
+//!     assert_eq!(reply.leaving(), None); // laptop 1 is still missing
 //! }
 //! assert!(laptop.record(7).is_some_and(|r| r.acks.contains(5)));
 //! # Ok(())

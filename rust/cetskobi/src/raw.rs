@@ -45,7 +45,8 @@ pub fn write(me: Replica, table: &mut [u8], store: &mut [u8], i: usize, value: &
     unsafe { sys::cetskobi_write(me, t, t_len, s, s_len, i, value.as_ptr(), value.len()) }
 }
 
-/// Delivery of a message about record `i`, with the bytes that came along.
+/// Delivery of a message about record `i`, with the bytes that came along. An ACK
+/// leaves for an INV; for the last ACK of a write or replay, which ends it, a VAL.
 pub fn deliver(
     me: Replica,
     table: &mut [u8],
@@ -86,7 +87,8 @@ pub fn replay(me: Replica, table: &mut [u8], store: &[u8], i: usize) -> Answer {
     }
 }
 
-/// Validation of record `i`. Of the store only the length is looked at.
+/// Validation of record `i`, where the last replica that was missing was struck
+/// off. Of the store only the length is looked at.
 pub fn validate(me: Replica, table: &mut [u8], store: &[u8], i: usize) -> Answer {
     // SAFETY: two slices; the table is borrowed mutably, so apart.
     unsafe {
@@ -126,7 +128,8 @@ pub fn body(table: &[u8], store: &[u8], i: usize, left: Answer) -> usize {
 }
 
 /// Who gets a message of this kind, bit n for replica n: an ACK goes to the
-/// sender of the delivered message, `sender`.
+/// sender of the delivered message, `sender`; an INV or VAL, also the VAL that
+/// left a delivered ACK, to all others in the view.
 pub fn recipients(me: Replica, kind: u8, sender: u8) -> u16 {
     // SAFETY: numbers only.
     unsafe { sys::cetskobi_recipients(me, kind, sender) }
@@ -146,7 +149,7 @@ pub fn pack(messages: &[u32], bodies: &[u8], out: &mut [u8]) -> Written {
     unsafe { sys::cetskobi_pack(m, m_len, b, b_len, out.as_mut_ptr(), out.len()) }
 }
 
-/// Delivery of message `i` of a packet.
+/// Delivery of message `i` of a packet: [`fetch`], then [`deliver`].
 pub fn deliver_packet(
     me: Replica,
     table: &mut [u8],

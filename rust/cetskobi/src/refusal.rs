@@ -39,8 +39,9 @@ pub enum Refusal {
     StrayAck = 13,
     /// 14: a validation of a valid record, or of another timestamp.
     StrayVal = 14,
-    /// 15: a validation of a record that is not in write or replay, or before
-    /// every other laptop of the view has acknowledged.
+    /// 15: a validation of a record that is not in write or replay, as after its
+    /// last acknowledgement, or before every other laptop of the view has
+    /// acknowledged.
     NotFinished = 15,
     /// 16: a replay of a record that is not invalid, or whose last writer is in the view.
     NotReplayable = 16,

@@ -157,6 +157,46 @@ fn deliver() {
     assert_eq!(store[198..], [0; 186]);
 }
 
+/// Acknowledgements of record 1 in this state: by 1, and by 8 and 15, which are
+/// not in the view, before; now by 5, the last of the view.
+fn last_ack(state: u8) -> (Answer, Vec<u8>) {
+    let record = [state, 4, 2, 4, 4, 3, 2, 1, 4, 3, 2, 1, 0b10, 0x81, 62, 9];
+    let (mut table, mut store) = table(record);
+    let ack = Message {
+        kind: 2,
+        sender: 5,
+        tie: 4,
+        epoch: 9,
+        version: VERSION,
+    };
+    let (t, s) = (table.as_mut_ptr(), store.as_mut_ptr());
+    let none = [].as_ptr();
+    let answer = unsafe { cetskobi_deliver(ME, t, 2 * RECORD_BYTES, s, 2 * 192, 1, ack, none, 0) };
+    assert_eq!(table[..RECORD_BYTES], FRESH);
+    assert_eq!(store, [7; 2 * 192]);
+    (answer, table[RECORD_BYTES..].to_vec())
+}
+
+/// A VAL leaves write and replay, which are valid then; invalid-write counts.
+#[test]
+fn deliver_the_last_ack() {
+    for (state, after, left) in [
+        (3, 0, answer(0, 3, 4, VERSION)),
+        (4, 0, answer(0, 3, 4, VERSION)),
+        (2, 2, answer(0, 0, 0, 0)),
+    ] {
+        let counted = [
+            after, 4, 2, 4, 4, 3, 2, 1, 4, 3, 2, 1, 0b10_0010, 0x81, 62, 9,
+        ];
+        assert_eq!(last_ack(state), (left, counted.to_vec()));
+    }
+    for state in [0, 1] {
+        let (refused, record) = last_ack(state);
+        assert_eq!(refused, answer(13, 0, 0, 0));
+        assert_eq!((record[0], record[12]), (state, 0b10));
+    }
+}
+
 /// The three events that take the table and only look at the store's length.
 type OnTable = unsafe extern "C" fn(Replica, *mut u8, usize, *const u8, usize, usize) -> Answer;
 
@@ -181,7 +221,8 @@ fn replay() {
 
 #[test]
 fn validate() {
-    // Acknowledged by 1 and 5, and by 8 and 15, which are not in the view.
+    // Acknowledged by 1 and 5, and by 8 and 15, which are not in the view: struck
+    // off, as the last one missing was.
     let acknowledged = [3, 2, 2, 2, 4, 3, 2, 1, 4, 3, 2, 1, 0x22, 0x81, 62, 9];
     let mut valid = acknowledged;
     valid[0] = 0;

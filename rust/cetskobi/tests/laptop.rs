@@ -101,14 +101,108 @@ fn a_write_from_save_to_screen() {
     assert_eq!(acked(&mut l, 5), Ok(None));
     assert_eq!(acked(&mut l, 5), Err(Refusal::StrayAck));
     assert_eq!(l.validate(1), Err(Refusal::NotFinished));
-    assert_eq!(acked(&mut l, 1), Ok(None));
-    assert_eq!(l.record(1).unwrap().acks, Members::from_iter([1, 5]));
-    let val = l.validate(1).unwrap();
+    let ack = from(1, Message::Ack(stamp(1, 2)));
+    let val = l.deliver(Arriving::new(ack, b"")).unwrap().leaving();
+    let val = val.expect("1 was the last").into_owned();
     assert_eq!(val.envelope(), from(2, Message::Val(stamp(1, 2))));
     assert_eq!((val.body(), val.recipients().bits()), (&b""[..], 0b10_0010));
+    let record = l.record(1).unwrap();
+    assert_eq!(record.state, State::Valid);
+    assert_eq!(record.acks, Members::from_iter([1, 5]));
     assert_eq!(l.read(1), Ok(b"wren".as_slice()));
     assert_eq!(l.record(0), laptop().record(0));
     assert_eq!(l.record(2), laptop().record(2));
+    // It is settled: nothing is left to validate or to acknowledge.
+    let settled = l.clone();
+    assert_eq!(l.validate(1), Err(Refusal::NotFinished));
+    assert_eq!(acked(&mut l, 1), Err(Refusal::StrayAck));
+    assert_eq!(l, settled);
+    assert_eq!(l.resend(1), Ok(val));
+}
+
+/// The last acknowledgement of a replay: the record keeps the dead writer's
+/// timestamp, and the VAL has it.
+#[test]
+fn a_replay_from_view_to_screen() {
+    let mut l = Laptop::start(2, 0b1010_0110, 3).unwrap();
+    let inv = from(7, Message::Inv(stamp(1, 7)));
+    assert!(l.deliver(Arriving::new(inv, b"wren")).is_ok());
+    l.change_view(1, 0b10_0110).unwrap();
+    assert_eq!(l.replay(1).unwrap().recipients().bits(), 0b10_0010);
+    let next = |sender, message| Envelope {
+        epoch: 1,
+        ..from(sender, message)
+    };
+    let ack = |sender| next(sender, Message::Ack(stamp(1, 7)));
+    assert_eq!(replied(l.deliver(Arriving::new(ack(1), b""))), Ok(None));
+    assert_eq!(l.record(1).unwrap().state, State::Replay);
+    let val = l.deliver(Arriving::new(ack(5), b"")).unwrap().leaving();
+    let val = val.expect("5 was the last");
+    assert_eq!(val.envelope(), next(2, Message::Val(stamp(1, 7))));
+    assert_eq!((val.body(), val.recipients().bits()), (&b""[..], 0b10_0010));
+    assert_eq!(l.record(1).unwrap().acks, Members::from_iter([1, 5]));
+    assert_eq!(l.read(1), Ok(b"wren".as_slice()));
+    assert_eq!(l.validate(1), Err(Refusal::NotFinished));
+}
+
+/// An overtaken write: its acknowledgements are counted, the last one too, and
+/// the record waits for the VAL of the other.
+#[test]
+fn acknowledgements_of_an_overtaken_write_are_only_counted() {
+    let mut l = laptop();
+    assert!(l.write(1, b"wren").is_ok());
+    assert!(invalidated(&mut l, stamp(1, 5), b"robin").is_ok());
+    let mut right = l.record(1).unwrap();
+    for sender in [1, 5] {
+        assert_eq!(acked(&mut l, sender), Ok(None));
+        right.acks = right.acks.iter().chain([sender]).collect();
+        assert_eq!(l.record(1), Some(right));
+    }
+    assert_eq!(right.state, State::InvalidWrite);
+    assert_eq!(right.acks.bits(), 0b10_0010);
+    assert_eq!(l.validate(1), Err(Refusal::NotFinished));
+    assert_eq!(l.read(1), Err(Refusal::NotReadable));
+}
+
+/// 5 is missing, and is struck off: no acknowledgement comes any more that could
+/// settle the record, so it is validated.
+#[test]
+fn a_write_whose_last_missing_laptop_is_struck_off() {
+    let mut l = laptop();
+    assert!(l.write(1, b"wren").is_ok());
+    assert_eq!(acked(&mut l, 1), Ok(None));
+    assert_eq!(l.validate(1), Err(Refusal::NotFinished));
+    l.change_view(1, 0b110).unwrap();
+    assert_eq!(l.record(1).unwrap().state, State::Write);
+    let val = l.validate(1).unwrap();
+    let right = Envelope {
+        epoch: 1,
+        ..from(2, Message::Val(stamp(1, 2)))
+    };
+    assert_eq!(val.envelope(), right);
+    assert_eq!((val.body(), val.recipients().bits()), (&b""[..], 0b10));
+    assert_eq!(l.read(1), Ok(b"wren".as_slice()));
+    assert_eq!(l.validate(1), Err(Refusal::NotFinished));
+}
+
+/// 5 has acknowledged and is struck off, 1 is still missing: its acknowledgement
+/// is the last, and the VAL does not go to 5.
+#[test]
+fn the_last_acknowledgement_after_a_view() {
+    let mut l = laptop();
+    assert!(l.write(1, b"wren").is_ok());
+    assert_eq!(acked(&mut l, 5), Ok(None));
+    l.change_view(1, 0b110).unwrap();
+    assert_eq!(l.validate(1), Err(Refusal::NotFinished));
+    let ack = Envelope {
+        epoch: 1,
+        ..from(1, Message::Ack(stamp(1, 2)))
+    };
+    let val = l.deliver(Arriving::new(ack, b"")).unwrap().leaving();
+    let val = val.expect("1 was the last");
+    assert_eq!((val.envelope().epoch, val.recipients().bits()), (1, 0b10));
+    assert_eq!(l.record(1).unwrap().acks.bits(), 0b10_0010);
+    assert_eq!(l.read(1), Ok(b"wren".as_slice()));
 }
 
 #[test]
@@ -337,7 +431,7 @@ fn a_number_that_no_laptop_has_is_not_collected() {
     let _ = [0, 1, 16].into_iter().collect::<Members>();
 }
 
-/// What leaves a delivery is for the sender of the message, and borrows the
+/// The ACK that leaves a delivery is for the sender of the INV, and borrows the
 /// laptop or owns its bytes.
 #[test]
 fn an_acknowledgement_goes_to_the_sender() {

@@ -129,14 +129,52 @@ fn a_write_by_packets() {
     assert_eq!(taken(&out[..len], 0), Err(Refusal::StrayAck));
     assert_eq!(taken(&out[..len], 1), Err(Refusal::PacketIndex));
     assert_eq!(taken(&out[1..len], 0), Err(Refusal::PacketHead));
+    assert_eq!(net.read(1), Err(Refusal::NotReadable));
+}
+
+/// Two acknowledgements in one packet: the first is counted, and with the second
+/// the VAL leaves, to both others. It goes on air as any message.
+#[test]
+fn the_last_acknowledgement_of_a_packet() {
+    let [mut net, mut hut, mut warden] = [0, 1, 2].map(|n| Laptop::start(n, 0b111, 2).unwrap());
+    let mut out = [0; PACKET_MAX];
+    let inv = net.write(1, b"wren").unwrap();
+    let acks = [&mut hut, &mut warden].map(|l| {
+        let reply = l.deliver(inv.arriving()).unwrap();
+        reply.leaving().unwrap().into_owned()
+    });
+    let len = packet::pack(&acks, &mut out).unwrap();
+    assert_eq!(net.deliver_packet(&out[..len], 0).unwrap().leaving(), None);
+    let val = net.deliver_packet(&out[..len], 1).unwrap().leaving();
+    let val = val.expect("the last").into_owned();
+    let stamp = Timestamp { version: 1, tie: 0 };
+    let envelope = Envelope {
+        sender: 0,
+        epoch: 0,
+        record: 1,
+        message: Message::Val(stamp),
+    };
+    assert_eq!(val.envelope(), envelope);
+    assert_eq!((val.body(), val.recipients().bits()), (&b""[..], 0b110));
+    assert_eq!(net.validate(1), Err(Refusal::NotFinished));
+
+    let len = packet::pack([val], &mut out).unwrap();
+    for laptop in [&mut hut, &mut warden] {
+        let reply = laptop.deliver_packet(&out[..len], 0).unwrap();
+        assert_eq!(reply.leaving(), None);
+    }
+    for laptop in [&net, &hut, &warden] {
+        assert_eq!(laptop.read(1), Ok(b"wren".as_slice()));
+    }
 }
 
 #[test]
 fn the_played_case_of_document_01() {
     let script = b"group 3\nwrite 0 A1\ndeliver 1 0\ndeliver 2 0\ndeliver 0 1\n\
         deliver 0 2\nvalidate 0\ndeliver 1 3\nread 1\nread 2\n";
-    let printed = "0 W 1 0 0\n0 I 1 0 1\n0 I 1 0 2\n0 W 1 0 -\n0 W 1 0 -\n\
-        0 V 1 0 3\n0 V 1 0 -\n0 V 1 0 -\n6 I 1 0 -\n";
+    // As document 02 has it, Wish 1: the fifth line and the sixth.
+    let printed = "0 W 1 0 0\n0 I 1 0 1\n0 I 1 0 2\n0 W 1 0 -\n0 V 1 0 3\n\
+        15 V 1 0 -\n0 V 1 0 -\n0 V 1 0 -\n6 I 1 0 -\n";
     assert_eq!(play(script).unwrap(), printed.as_bytes());
 }
 
