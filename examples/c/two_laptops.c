@@ -38,8 +38,8 @@ static void start(struct laptop *l, uint8_t number) {
     l->me = a.replica;
 }
 
-/* The packet of what left an event of this laptop. An ACK goes to the sender of its INV, the others to the view. */
-static struct packet send(const struct laptop *l, struct cetskobi_answer left, uint8_t inv_sender) {
+/* The packet of what left an event of this laptop; sender is that of a delivered message. An ACK goes to it, the others to the view. */
+static struct packet send(const struct laptop *l, struct cetskobi_answer left, uint8_t sender) {
     accepted(left.number);
     /* Never CETSKOBI_GONE here, right after the event; if it were, question 24 would say so. */
     size_t len = cetskobi_body(MEMORY(l), RING, left);
@@ -55,7 +55,7 @@ static struct packet send(const struct laptop *l, struct cetskobi_answer left, u
                                               len, p.bytes, sizeof p.bytes);
     accepted(w.number);
     p.len = w.len;
-    uint16_t to = cetskobi_recipients(l->me, left.kind, inv_sender);
+    uint16_t to = cetskobi_recipients(l->me, left.kind, sender);
     for (int n = 0; n < 16; n++)
         if (to >> n & 1)
             printf("  %s (%u,%u) to laptop %d, %zu bytes\n", cetskobi_kind_name(left.kind), (unsigned)left.version, (unsigned)left.tie, n,
@@ -93,8 +93,6 @@ int main(void) {
     send(&net, cetskobi_write(LENT(&net), RING, TEXT, sizeof TEXT - 1), net.me.number);
     printf("the packet is lost\n");
     show(&net);
-    printf("laptop 0 wants to finish\n");
-    refused(cetskobi_validate(LENT(&net), RING));
 
     printf("laptop 0 sends again\n");
     struct packet inv = send(&net, cetskobi_resend(LENT(&net), RING), net.me.number);
@@ -102,16 +100,15 @@ int main(void) {
     struct packet ack = send(&hut, take(&hut, &inv), net.me.number);
     show(&hut);
 
+    /* Nobody else is missing: the record is settled here, and the VAL leaves. */
     printf("laptop 0 takes the packet\n");
-    accepted(take(&net, &ack).number);
+    struct packet val = send(&net, take(&net, &ack), hut.me.number);
+    show(&net);
     printf("the packet comes a second time\n");
     refused(take(&net, &ack));
 
-    printf("laptop 0 wants to finish\n");
-    struct packet val = send(&net, cetskobi_validate(LENT(&net), RING), net.me.number);
     printf("laptop 1 takes the packet\n");
     accepted(take(&hut, &val).number);
-    show(&net);
     show(&hut);
     return 0;
 }

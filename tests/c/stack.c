@@ -7,9 +7,13 @@
 #include <string.h>
 #include <ucontext.h>
 
-enum { STACK = 1 << 20, PAINT = 0xa5, COUNT = CETSKOBI_COUNT_MAX, LAST = COUNT - 1, SCRIPT = 65536, PRINTED = 25 * SCRIPT + 2 };
+enum { STACK = 1 << 20, PAINT = 0xa5, SCRIPT = 65536, PRINTED = 25 * SCRIPT + 2 };
+/* Two records are saved. */
+enum { COUNT = CETSKOBI_COUNT_MAX, LAST = COUNT - 1, OPEN = LAST - 1 };
 
 static struct cetskobi_replica me = {.number = 2, .view = 38, .epoch = 0};
+/* After laptop 5 was struck off. */
+static const struct cetskobi_replica later = {.number = 2, .view = 6, .epoch = 1};
 static uint8_t table[COUNT * CETSKOBI_RECORD_BYTES], store[COUNT * CETSKOBI_VALUE_MAX];
 static const uint8_t text[CETSKOBI_VALUE_MAX];
 static struct cetskobi_entry entries[CETSKOBI_MESSAGES_MAX];
@@ -37,6 +41,7 @@ static void view(void) {
 
 static void saved(void) {
     number = cetskobi_write(LENT, LAST, text, sizeof text).number;
+    number |= cetskobi_write(LENT, OPEN, text, sizeof text).number;
 }
 
 static void body(void) {
@@ -52,16 +57,19 @@ static void resend(void) {
     number = cetskobi_resend(LENT, LAST).number;
 }
 
-/* Of the laptops 1 and 5. */
+/* By laptop 1 both saves; by 5, the last, one of them, whose VAL leaves. */
 static void acknowledged(void) {
     struct cetskobi_message ack = {.kind = CETSKOBI_ACK, .sender = 1, .tie = 2, .epoch = 0, .version = 1};
     number = cetskobi_deliver(LENT, LAST, ack, text, 0).number;
+    number |= cetskobi_deliver(LENT, OPEN, ack, text, 0).number;
     ack.sender = 5;
-    number |= cetskobi_deliver(LENT, LAST, ack, text, 0).number;
+    struct cetskobi_answer val = cetskobi_deliver(LENT, LAST, ack, text, 0);
+    number |= val.number | (val.kind != CETSKOBI_VAL);
 }
 
+/* The other one, whose last missing laptop is struck off. */
 static void validate(void) {
-    number = cetskobi_validate(LENT, LAST).number;
+    number = cetskobi_validate(later, MEMORY, OPEN).number;
 }
 
 static void shown(void) {
@@ -75,7 +83,6 @@ static void invalidated(void) {
 }
 
 static void replay(void) {
-    struct cetskobi_replica later = {.number = 2, .view = 6, .epoch = 1};
     number = cetskobi_replay(later, MEMORY, 0).number;
 }
 
