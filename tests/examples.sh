@@ -50,6 +50,21 @@ same "NULs" "$dir/want" "$dir/got"
 "$play" < "$dir/in" > "$dir/got"
 same "a full log" "$dir/want" "$dir/got"
 
+# a full log and acknowledgements: laptop 1's sends nothing and is counted; laptop 2's is the last, its VAL has no room, and it is not counted,
+# so that it prints `?` again and not 13. The same VAL by validate, once laptop 2 is struck off
+{
+    printf 'group 3\nwrite 0 x\ndeliver 1 0\ndeliver 2 0\n'
+    yes 'resend 0' | head -n 253
+    printf 'deliver 0 1\ndeliver 0 1\ndeliver 0 2\ndeliver 0 2\nvalidate 0\nview 0 1 3\nvalidate 0\nread 0\n'
+} > "$dir/in"
+{
+    printf '0 W 1 0 0\n0 I 1 0 1\n0 I 1 0 2\n'
+    k=3; while [ $k -lt 256 ]; do echo "0 W 1 0 $k"; k=$((k + 1)); done
+    printf '0 W 1 0 -\n13 W 1 0 -\n?\n?\n15 W 1 0 -\n0 W 1 0 -\n?\n6 W 1 0 -\n'
+} > "$dir/want"
+"$play" < "$dir/in" > "$dir/got"
+same "a full log and the last acknowledgement" "$dir/want" "$dir/got"
+
 # 300 writes: after the first the record is in state write, so question 7 refuses
 { printf 'group 2\n'; yes 'write 0 x' | head -n 300; } > "$dir/in"
 { echo '0 W 1 0 0'; yes '7 W 1 0 -' | head -n 299; } > "$dir/want"
