@@ -205,6 +205,23 @@ static void a_save_since_the_ring_was_opened(void) {
     CHECK(shows(&one, "two's"));
 }
 
+/* 2's save waits for 5 alone when 5 is struck off: no ACK comes that would finish it, so the view does. */
+static void a_save_that_waits_for_a_struck_off_laptop(void) {
+    fresh();
+    struct stamp saved = saves(&two, "robin, wing 73");
+    came(&one, sent(SET_1 | SET_5));
+    came(&two, sent(SET_2));
+    silent();
+    CHECK(is(&two, CETSKOBI_WRITE, 1, 2, SET_1));
+    CHECK(view_came(&two, 1, SET_1 | SET_2) == 0);
+    struct packet val = sent(SET_1);
+    CHECK(carries(val, CETSKOBI_VAL, 1, 2) && is(&two, CETSKOBI_VALID, 1, 2, SET_1) && fate_of(&two, RING, saved) == FINISHED);
+    CHECK(view_came(&one, 1, SET_1 | SET_2) == 0);
+    came(&one, val);
+    silent();
+    CHECK(shows(&one, "robin, wing 73"));
+}
+
 /* 2 saves unheard, and is struck off before that save is finished. Nothing more comes of it there. */
 static void a_save_that_waits_at_a_struck_off_laptop(void) {
     fresh();
@@ -325,6 +342,7 @@ int main(void) {
     a_worked_morning();
     two_saves_at_once();
     a_save_since_the_ring_was_opened();
+    a_save_that_waits_for_a_struck_off_laptop();
     a_save_that_waits_at_a_struck_off_laptop();
     waits();
     packets_are_shared();

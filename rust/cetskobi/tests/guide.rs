@@ -231,7 +231,7 @@ fn the_worked_morning_is_told_as_it_happens() {
     // All that was sent. A delivery is of the last that its row can mean.
     let mut sent: Vec<Leaving<'static>> = Vec::new();
     let rows = rows("| at | event | answer | record 7 there | what leaves |");
-    assert_eq!(rows.len(), 26);
+    assert_eq!(rows.len(), 23);
     for row in rows {
         let [at, event, answer, record, leaves] = &row[..] else {
             panic!("{row:?}");
@@ -368,6 +368,25 @@ fn a_save_that_nobody_heard_dies_with_its_laptop() {
         assert!(hut.all_sent().is_empty());
         hut.shows(b"");
     }
+}
+
+/// 2's save waits for 5 alone when 5 is struck off: no ACK comes that would
+/// finish it, so the view does.
+#[test]
+fn a_save_that_waits_for_a_struck_off_laptop_is_finished_after_the_view() {
+    let [mut one, mut two, _] = three();
+    let saved = two.saves(b"robin, wing 73");
+    one.came(&two.sent([1, 5]));
+    two.came(&one.sent([2]));
+    two.is(State::Write, saved, 1 << 1);
+    two.view_came(1, 6).expect("accepted");
+    let val = two.sent([1]);
+    assert_eq!(messages(&val), [Message::Val(saved)]);
+    two.is(State::Valid, saved, 1 << 1);
+    assert_eq!(two.fate(RING, saved), Fate::Finished);
+    one.view_came(1, 6).expect("accepted");
+    one.came(&val);
+    one.shows(b"robin, wing 73");
 }
 
 /// 2 saves unheard, and is struck off before that save is finished. Nothing more

@@ -22,7 +22,8 @@ enum Kind {
     Write,
     InvGreater,
     InvNotGreater,
-    Ack,
+    LastAck,
+    OtherAck,
     Val,
     Validate,
     Replay,
@@ -33,7 +34,7 @@ enum Kind {
 }
 
 /// A kind with its words in the picture, and in the table.
-const WORDS: [(Kind, &str, &str); 11] = [
+const WORDS: [(Kind, &str, &str); 12] = [
     (Kind::Read, "read", "read"),
     (Kind::Write, "write", "write"),
     (
@@ -47,9 +48,14 @@ const WORDS: [(Kind, &str, &str); 11] = [
         "INV comes, stamp not greater",
     ),
     (
-        Kind::Ack,
-        "ACK comes",
-        "ACK comes, of the last-write stamp, not yet counted",
+        Kind::LastAck,
+        "last ACK comes",
+        "ACK comes, of the last-write stamp, not yet counted: the last",
+    ),
+    (
+        Kind::OtherAck,
+        "other ACK comes",
+        "ACK comes, likewise: another is missing still",
     ),
     (Kind::Val, "VAL comes", "VAL comes, of the record's stamp"),
     (
@@ -68,10 +74,11 @@ const WORDS: [(Kind, &str, &str); 11] = [
 ];
 
 /// What the picture's note says of those words: the kinds above are meant so.
-const NOTE: [&str; 7] = [
+const NOTE: [&str; 8] = [
     "A greater INV has a greater stamp than the record, any other INV an equal or lesser one.",
     "A VAL that comes has the record's stamp.",
     "An ACK that comes has the last-write stamp, and its sender is not yet counted.",
+    "The last ACK: with it all others in the view have acknowledged.",
     "Validate: all others in the view have acknowledged.",
     "Replay: the last writer is not in the view.",
     "Resend from valid: this laptop is the last writer.",
@@ -137,13 +144,18 @@ fn messages() -> Vec<Envelope> {
     messages
 }
 
-/// What a message is to a record, by document 01's words.
+/// What a message is to a record, by document 01's words, and of an ACK by
+/// Wish 1's: the last one completes the view.
 fn kind_of(r: &Record, envelope: &Envelope) -> Kind {
     let counted = r.acks.contains(envelope.sender);
+    let last = OTHERS
+        .iter()
+        .all(|&n| n == envelope.sender || r.acks.contains(n));
     match envelope.message {
         Message::Inv(t) if t > r.timestamp => Kind::InvGreater,
         Message::Inv(_) => Kind::InvNotGreater,
-        Message::Ack(t) if t == r.written && !counted => Kind::Ack,
+        Message::Ack(t) if t == r.written && !counted && last => Kind::LastAck,
+        Message::Ack(t) if t == r.written && !counted => Kind::OtherAck,
         Message::Ack(_) => Kind::Other(Refusal::StrayAck),
         Message::Val(t) if t == r.timestamp => Kind::Val,
         Message::Val(_) => Kind::Other(Refusal::StrayVal),
@@ -226,6 +238,7 @@ fn all_tried() -> Vec<Tried> {
 fn kinds_named(words: &str, from: State) -> Vec<Kind> {
     match words {
         "any INV comes" => return vec![Kind::InvGreater, Kind::InvNotGreater],
+        "any ACK comes" => return vec![Kind::LastAck, Kind::OtherAck],
         // Only from valid a resend asks for the last writer: see `NOTE`.
         "resend" if from != State::Valid => return vec![Kind::Resend],
         _ => {}
@@ -334,7 +347,8 @@ fn table() -> Vec<Vec<String>> {
 }
 
 /// Of a cell with two parts the one that this event asks for: "valid, or 17"
-/// depends on the last writer, "INV; VAL from valid" on the state.
+/// depends on the last writer, "INV; VAL from valid" and "VAL; nothing from
+/// invalid-write" on the state.
 fn part<'a>(cell: &'a str, t: &Tried) -> &'a str {
     if let Some((own, others)) = cell.split_once(", or ") {
         return if t.kind == Kind::ResendSelf {
@@ -343,12 +357,13 @@ fn part<'a>(cell: &'a str, t: &Tried) -> &'a str {
             others
         };
     }
-    match cell.split_once("; ") {
-        Some((_, from_valid)) if t.from == State::Valid => {
-            from_valid.strip_suffix(" from valid").expect("two parts")
-        }
-        Some((message, _)) => message,
-        None => cell,
+    let Some((mostly, of_one)) = cell.split_once("; ") else {
+        return cell;
+    };
+    let (message, state) = of_one.split_once(" from ").expect("two parts");
+    match state_named(state) == t.from {
+        true => message,
+        false => mostly,
     }
 }
 

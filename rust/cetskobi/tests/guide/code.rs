@@ -93,25 +93,20 @@ impl Hut {
     fn packet_came(&mut self, bytes: &[u8]) -> Result<(), Refusal> {
         for m in packet::messages(bytes)? {
             let Ok(reply) = self.laptop.deliver(m) else { continue };
-            if let Some(ack) = reply.leaving().map(Leaving::into_owned) {
-                self.put(ack);
-            }
-            if let Message::Ack(_) = m.envelope().message {
-                if let Ok(val) = self.laptop.validate(m.envelope().record).map(Leaving::into_owned) {
-                    self.put_again(val, WAIT_FIRST);
-                }
+            let Some(left) = reply.leaving().map(Leaving::into_owned) else { continue };
+            match left.envelope().message {
+                // That was the last ACK: the record is valid, and all others are told.
+                Message::Val(_) => self.put_again(left, WAIT_FIRST),
+                _ => self.put(left),
             }
         }
         self.send();
         Ok(())
     }
 
-    /// Tries all that may move a record on from here.
+    /// Tries what may move a record on from here.
     fn help(&mut self, ring: usize, wait: u16) {
-        let mut left = self.laptop.validate(ring).map(Leaving::into_owned);
-        if left.is_err() {
-            left = self.laptop.replay(ring).map(Leaving::into_owned);
-        }
+        let mut left = self.laptop.replay(ring).map(Leaving::into_owned);
         if left.is_err() {
             left = self.laptop.resend(ring).map(Leaving::into_owned);
         }
@@ -140,7 +135,10 @@ impl Hut {
         for ring in 0..self.clocks.len() {
             if self.laptop.record(ring).is_some_and(|r| r.timestamp.version > 0) {
                 let wait = if self.laptop.shows_valid(ring) { self.clocks[ring].1 } else { WAIT_FIRST };
-                self.help(ring, wait.max(WAIT_FIRST)); // an old VAL keeps its long wait
+                match self.laptop.validate(ring).map(Leaving::into_owned) {
+                    Ok(val) => self.put_again(val, WAIT_FIRST), // it waited for a struck-off laptop alone
+                    Err(_) => self.help(ring, wait.max(WAIT_FIRST)), // an old VAL keeps its long wait
+                }
             }
         }
         self.send();
