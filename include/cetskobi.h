@@ -28,9 +28,9 @@
 #include <stddef.h>
 #include <stdint.h>
 
-#define CETSKOBI_VERSION "0.2.0"
+#define CETSKOBI_VERSION "0.3.0"
 #define CETSKOBI_VERSION_MAJOR 0
-#define CETSKOBI_VERSION_MINOR 2
+#define CETSKOBI_VERSION_MINOR 3
 #define CETSKOBI_VERSION_PATCH 0
 
 /* Bytes of stack that are enough for a call. */
@@ -192,12 +192,17 @@ struct cetskobi_admission {
 CETSKOBI_MUST_USE
 struct cetskobi_answer cetskobi_write(struct cetskobi_replica me, uint8_t *table, size_t table_len, uint8_t *store, size_t store_len,
                                       size_t i, const uint8_t *value, size_t value_len);
+/* The answer to an INV has an ACK, which goes to the INV's sender. The answer to an ACK has nothing; but with the last one that a record in
+ * state write or replay waits for, of all others in the view, the record becomes valid and the answer has its VAL, which goes to all of
+ * them. In invalid-write such an ACK is counted, and nothing else. The answer to a VAL has nothing. */
 CETSKOBI_MUST_USE
 struct cetskobi_answer cetskobi_deliver(struct cetskobi_replica me, uint8_t *table, size_t table_len, uint8_t *store, size_t store_len,
                                         size_t i, struct cetskobi_message message, const uint8_t *value, size_t value_len);
 CETSKOBI_MUST_USE
 struct cetskobi_answer cetskobi_replay(struct cetskobi_replica me, uint8_t *table, size_t table_len, const uint8_t *store, size_t store_len,
                                        size_t i);
+/* For a record whose last missing acknowledgement was that of a laptop since struck off: to be tried after a view. Any other is validated by
+ * the delivery of its last ACK, and then the answer here is 15. */
 CETSKOBI_MUST_USE
 struct cetskobi_answer cetskobi_validate(struct cetskobi_replica me, uint8_t *table, size_t table_len, const uint8_t *store,
                                          size_t store_len, size_t i);
@@ -238,7 +243,7 @@ CETSKOBI_MUST_USE
 struct cetskobi_written cetskobi_pack(const uint32_t *messages,
                                       size_t messages_len, /* words, 7 for each message: not messages, not bytes */
                                       const uint8_t *bodies, size_t bodies_len, uint8_t *out, size_t out_len);
-/* The delivery of message i of a packet: the questions of cetskobi_fetch, then those of cetskobi_deliver. */
+/* The delivery of message i of a packet: the questions of cetskobi_fetch, then those of cetskobi_deliver; what leaves is as there. */
 CETSKOBI_MUST_USE
 struct cetskobi_answer cetskobi_deliver_packet(struct cetskobi_replica me, uint8_t *table, size_t table_len, uint8_t *store,
                                                size_t store_len, const uint8_t *packet, size_t packet_len, size_t i);
