@@ -3,10 +3,9 @@
 use Prim.Native.Nat.{ℕ, zero, suc, _≤_, _<_}
 use mathlib.Core.Path.{_≡_, refl, sym, ap, subst₃, _∙_}
 use mathlib.Core.Bool.{Bool, true, false, not, _&&_, _||_, false≢true}
-use mathlib.Core.Logic.{_⊎_, inl, inr, _≢_, _↔_}
+use mathlib.Core.Logic.{inl, inr, _≢_, _↔_}
 use mathlib.Core.List.{List, [], _∷_}
 use native.Mathlib.Omega.{arith}
-use native.Mathlib.Decide.{ℕ-discrete}
 use lib.Dec.{eqb}
 use lib.ListN.{length, take, getD-replicate}
 use borrow.Author.Tests.{eqb-false, lt-ltb, eq-eqb, ne-eqb}
@@ -34,13 +33,14 @@ use Rattle.hermes.specs.Source as source
 use Rattle.hermes.specs.Source.{Vars, Sending, In, HInit, HReadGuard, HWriteGuard, HReplayWriteGuard, HRcvInvGuard, HRcvInv, HRcvAckGuard, HRcvAckThenSendVals, HRcvValGuard, HSendValsGuard, NodeFailureGuard, ResendGuard, Resent, sendInv}
 use Rattle.hermes.specs.Conformance.{varsOf, fiveAnd, delivered, message, Follows, ViewFollows, StartFollows, Demand2By, Demand2}
 use Rattle.hermes_record.proofs.Tests.{both, and-both, is-false, or-true}
-use Rattle.hermes.proofs.Members.{Has, has-zero, within-members, members-within, others-members, members-others, adds-sender}
+use Rattle.hermes.proofs.Members.{has-zero, within-members, members-within, adds-sender}
 use Rattle.hermes_record.proofs.Order.{later-greater, greater-later}
 use Rattle.hermes.proofs.Store.{value-slot, take-padded}
 use Rattle.hermes.proofs.Guards.{DeliverOwn, ResendOwn, read-own, write-own, deliver-own, replay-own, resend-own, view-later, view-inside, all-yes, none-says-no}
 use Rattle.hermes.proofs.Steps.{next-version, step-about}
 use Rattle.hermes.proofs.Apply.{passed-zero, questionsOf, ownOf, stepOf, done, Applied, refused, accepted, applied, first-five, its-own, sound-step}
 use Rattle.hermes.proofs.Words.{one-in, in-one, is-state, state-is, equal-ts, ts-same, Two, size-two, two-size}
+use Rattle.hermes.proofs.LastAck.{all-in, in-all}
 use Rattle.hermes.proofs.Locality.{leavingSlot, leaving-slot}
 use Rattle.hermes.proofs.Frame.{view-frame}
 use Rattle.hermes.proofs.Start.{Begun, begun, lowest-lowest}
@@ -135,21 +135,12 @@ coordinator s (inr (inr e)) = absurd e
 -- question 15 is the guard of HSendVals
 module _ (me : Replica) (r : Record) (b : List ℕ) where
   may-send : question15 me r .yes ≡ true → HSendValsGuard me (seen r b)
-  may-send h = (one-in (r .state) (state.Write ∷ state.Replay ∷ []) (p .0), λ k a d. other k d (others-members (me .number) (me .view) (r .acks) (p .1) k a))
-    where
-      p : (oneOf (r .state) (state.Write ∷ state.Replay ∷ []) ≡ true) × (othersIn (me .number) (me .view) (r .acks) ≡ true)
-      p = both (oneOf (r .state) (state.Write ∷ state.Replay ∷ [])) (othersIn (me .number) (me .view) (r .acks)) h
-
-      other : (k : ℕ) → k ≢ me .number → (k ≡ me .number) ⊎ Has (r .acks) k → Has (r .acks) k
-      other k d (inl e) = absurd (d e)
-      other k d (inr h) = h
+  may-send h =
+      let (p, q) = both (oneOf (r .state) (state.Write ∷ state.Replay ∷ [])) (othersIn (me .number) (me .view) (r .acks)) h in
+      (one-in (r .state) (state.Write ∷ state.Replay ∷ []) p, in-all me (r .acks) q)
 
   sends-may : HSendValsGuard me (seen r b) → question15 me r .yes ≡ true
-  sends-may g = and-both _ _ (in-one (r .state) (state.Write ∷ state.Replay ∷ []) (g .0)) (members-others (me .number) (me .view) (r .acks) (λ k a. which k (g .1 k a) (ℕ-discrete k (me .number))))
-    where
-      which : (k : ℕ) → (k ≢ me .number → Has (r .acks) k) → Dec (k ≡ me .number) → (k ≡ me .number) ⊎ Has (r .acks) k
-      which k f (yes e) = inl e
-      which k f (no d) = inr (f d)
+  sends-may g = and-both _ _ (in-one (r .state) (state.Write ∷ state.Replay ∷ []) (g .0)) (all-in me (r .acks) (g .1))
 
 module _ (wins : ℕ → ℕ → Bool) (n : Node) (i : ℕ) (v : List ℕ) where
   follows-read : Follows wins n i Read v (fiveAnd n i []) HReadGuard source.HRead

@@ -12,6 +12,7 @@ pub mod Protocol
 pub mod Refine
 pub mod Agreement
 pub mod Sound
+pub mod LastAck
 pub mod SecondReading
 pub mod SecondPremises
 pub mod Premises

@@ -12,6 +12,7 @@ pub mod Source
 pub mod Conformance
 pub mod Agreement
 pub mod SecondReading
+pub mod LastAck
 pub mod Reads
 pub mod Played
 pub mod Witness

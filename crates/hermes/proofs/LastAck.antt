@@ -1,0 +1,220 @@
+-- 02, Wish 1: what an accepted ACK does, and that nobody waits once all have replied. The idea of the second: every accepted event but a view
+-- leaves its record settled, just begun with nobody counted, or as the question after the last ACK left it.
+use Prim.Native.Nat.{ℕ, _<_}
+use mathlib.Core.Path.{_≡_, refl, sym, ap, _∙_}
+use mathlib.Core.Bool.{Bool, true, false, false≢true}
+use mathlib.Core.Logic.{_⊎_, inl, inr, ⊎-swap, _≢_}
+use mathlib.Core.List.{List, [], _∷_}
+use native.Mathlib.Omega.{arith}
+use native.Mathlib.Decide.{ℕ-discrete}
+use lib.Dec.{leb}
+use lib.ListN.{length, getD-replicate}
+use Rattle.hermes_record.specs.declared.timestamp.Timestamp.{Timestamp}
+use Rattle.hermes_record.specs.declared.record.Record.{Record}
+use Rattle.hermes_record.specs.declared.record.State.{State}
+use Rattle.hermes_record.specs.declared.record.State.the-variants as state
+use Rattle.hermes.specs.declared.message.Message.{Message}
+use Rattle.hermes.specs.declared.message.Message.the-variants.{Inv, Ack, Val}
+use Rattle.hermes.specs.declared.message.Outgoing.the-variants.{None}
+use Rattle.hermes.specs.declared.event.Replica.{Replica}
+use Rattle.hermes.specs.declared.event.Event.{Event}
+use Rattle.hermes.specs.declared.event.Event.the-variants.{Read, Write, Replay, Deliver, Validate, Resend}
+use Rattle.hermes_record.specs.Members.{has, size, lowest, with, othersIn}
+use Rattle.hermes_record.specs.Order.{later}
+use Rattle.hermes_record.specs.Record.{oneOf, invalidatedState, acknowledged, freshRecord}
+use Rattle.hermes.specs.Guards.{question1}
+use Rattle.hermes.specs.Event.{Step, invStep, ackStep, completes, deliverStep, step, send, numberOf}
+use Rattle.hermes.specs.Node.{Node, Outcome, recordOf, apply}
+use Rattle.hermes.specs.Run as run
+use Rattle.hermes.specs.Run.{Action, Entry, Group, Found, find, received, nodeAfter, perform, delivery, result, advance}
+use Rattle.hermes.specs.Agreement.{FreshStart, Started, after}
+use Rattle.hermes.specs.LastAck.{Waits, EveryOther, Completes, AckDone, LastAckSettles, AllReplied, IsView, NoView, NobodyWaits}
+use Rattle.hermes_record.proofs.Tests.{both, and-both}
+use Rattle.hermes.proofs.Members.{Has, has-small, has-zero, has-with, with-members, members-with, others-members, members-others}
+use Rattle.hermes.proofs.Guards.{deliver-own}
+use Rattle.hermes.proofs.Words.{Two, size-two}
+use Rattle.hermes.proofs.Apply.{stepOf, done, Applied, refused, accepted, applied, its-own}
+use Rattle.hermes.proofs.Start.{Begun, begun}
+use Rattle.hermes.proofs.Agreement.{at-who, at-other}
+
+-- ---- question 15, in the words of the statements
+
+pending : (r : Record) → Waits r → oneOf (r .state) (state.Write ∷ state.Replay ∷ []) ≡ true
+pending r (inl e) = rw e
+pending r (inr e) = rw e
+
+waits : (s : State) → oneOf s (state.Write ∷ state.Replay ∷ []) ≡ true → (s ≡ state.Write) ⊎ (s ≡ state.Replay)
+waits state.Valid e = absurd (false≢true e)
+waits state.Invalid e = absurd (false≢true e)
+waits state.InvalidWrite e = absurd (false≢true e)
+waits state.Write e = inl refl
+waits state.Replay e = inr refl
+
+-- every other of the view is in the set
+module _ (me : Replica) (s : ℕ) where
+  pub all-in : EveryOther me (λ m. has s m ≡ true) → othersIn (me .number) (me .view) s ≡ true
+  all-in h = members-others (me .number) (me .view) s (λ m k. go m k (ℕ-discrete m (me .number)))
+    where
+      go : (m : ℕ) → has (me .view) m ≡ true → Dec (m ≡ me .number) → (m ≡ me .number) ⊎ Has s m
+      go m k (yes e) = inl e
+      go m k (no d) = inr (h m k d)
+
+  pub in-all : othersIn (me .number) (me .view) s ≡ true → EveryOther me (λ m. has s m ≡ true)
+  in-all e m k d = go (others-members (me .number) (me .view) s e m k)
+    where
+      go : (m ≡ me .number) ⊎ Has s m → Has s m
+      go (inl e) = absurd (d e)
+      go (inr h) = h
+
+module _ (me : Replica) (r : Record) where
+  -- an ACK completes the view: as the statement has it, and as the step asks it
+  pub does-complete : (sender : ℕ) → Waits r → Completes me r sender → completes me r sender ≡ true
+  does-complete sender w c = and-both _ _ (pending r w) (all-in me (with (r .acks) sender) (λ m k d. counted m (has-small (me .view) m k) (c m k d)))
+    where
+      counted : (m : ℕ) → m < 16 → (m ≡ sender) ⊎ (has (r .acks) m ≡ true) → has (with (r .acks) sender) m ≡ true
+      counted m l (inl e) = members-with (r .acks) sender m (rw (← e) l) (inr e)
+      counted m l (inr h) = rw (has-with (r .acks) sender m, h)
+
+  completes-it : (sender : ℕ) → completes me r sender ≡ true → Waits r × Completes me r sender
+  completes-it sender e =
+      let (p, q) = both (oneOf (r .state) (state.Write ∷ state.Replay ∷ [])) _ e in
+      (waits (r .state) p, λ m k d. ⊎-swap (with-members (r .acks) sender m (in-all me (with (r .acks) sender) q m k d)))
+
+-- ---- one ACK
+
+module _ (me : Replica) (i : ℕ) (r : Record) (sender : ℕ) (known : has (me .view) sender ≡ true) where
+  -- the step, by whether it completes the view
+  record StepDone (s : Step) : Type 0 where
+    counted : has (s .after .acks) sender ≡ true
+    last : Waits r → Completes me r sender → (s .after .state ≡ state.Valid) × (s .sent ≡ send me i (Val (r .timestamp)))
+    other : (Waits r → Completes me r sender → ⊥) → (s .after .state ≡ r .state) × (s .sent ≡ None)
+
+  in-set : has (with (r .acks) sender) sender ≡ true
+  in-set = members-with (r .acks) sender sender (has-small (me .view) sender known) (inr refl)
+
+  step-done : (c : Bool) → completes me r sender ≡ c → StepDone (ackStep c me i r sender)
+  step-done true e = record { counted = in-set; last = λ w k. (refl, refl); other = λ f. let (w, k) = completes-it me r sender e in absurd (f w k) }
+  step-done false e = record { counted = in-set; last = λ w k. absurd (false≢true (sym e ∙ does-complete me r sender w k)); other = λ f. (refl, refl) }
+
+pub last-ack-settles : LastAckSettles
+last-ack-settles wins n i m t v is = go (apply wins n i (Deliver m) v) (applied wins n i (Deliver m) v)
+  where
+    go : (o : Outcome) → Applied wins n i (Deliver m) v o → numberOf (o .answer) ≡ 0 → AckDone n i (m .sender) o
+    go o (refused k z q) e = absurd (omega (arith, ap (λ (x : Outcome). numberOf (x .answer)) q))
+    go o (accepted y c q) e =
+        let known = deliver-own (n .me) (recordOf i n) m (length v) (its-own n i (Deliver m) v y) .known in
+        let s = step-done (n .me) i (recordOf i n) (m .sender) known (completes (n .me) (recordOf i n) (m .sender)) refl in
+        let same : stepOf wins n i (Deliver m) v ≡ ackStep (completes (n .me) (recordOf i n) (m .sender)) (n .me) i (recordOf i n) (m .sender) = rw is in
+        let d : StepDone (n .me) i (recordOf i n) (m .sender) known (stepOf wins n i (Deliver m) v) = rw same s in
+        rw q (record {
+          counted = rw (c .here) (d .counted);
+          last = λ w k. let (a, b) = d .last w k in (rw (c .here) a, b);
+          other = λ f. let (a, b) = d .other f in (rw (c .here) a, b);
+        })
+
+-- ---- nobody waits
+
+-- the same of a record, with its replica
+abbrev Replied : Replica → Record → Type 0
+Replied me r = Waits r × EveryOther me (λ m. has (r .acks) m ≡ true)
+
+-- a record of another state does not wait
+idle : (me : Replica) (r : Record) → oneOf (r .state) (state.Write ∷ state.Replay ∷ []) ≡ false → Replied me r → ⊥
+idle me r e h = false≢true (sym e ∙ pending r (h .0))
+
+-- in a view of two somebody is not counted yet when nobody is
+begun-waits : (me : Replica) (r : Record) → question1 me .yes ≡ true → r .acks ≡ 0 → Replied me r → ⊥
+begun-waits me r y z h = go (size-two (me .view) (both (leb (me .number) 15) (leb 2 (size (me .view))) y .1))
+  where
+    uncounted : (m : ℕ) → has (me .view) m ≡ true → m ≢ me .number → ⊥
+    uncounted m k d = false≢true (sym (has-zero m) ∙ rw z at (h .1 m k d))
+
+    go : Two 16 (has (me .view)) → ⊥
+    go t = side (ℕ-discrete (t .one) (me .number))
+      where
+        side : Dec (t .one ≡ me .number) → ⊥
+        side (no d) = uncounted (t .one) (t .onePasses) d
+        side (yes e) = uncounted (t .two) (t .twoPasses) (λ d. t .apart (e ∙ sym d))
+
+module _ (wins : ℕ → ℕ → Bool) (me : Replica) (i : ℕ) (r : Record) (before : Replied me r → ⊥) (two : question1 me .yes ≡ true) where
+  taken-idle : (s : State) → oneOf (invalidatedState s) (state.Write ∷ state.Replay ∷ []) ≡ false
+  taken-idle state.Valid = refl
+  taken-idle state.Invalid = refl
+  taken-idle state.InvalidWrite = refl
+  taken-idle state.Write = refl
+  taken-idle state.Replay = refl
+
+  inv-keeps : (t : Timestamp) (sender : ℕ) (v : List ℕ) (b : Bool) → Replied me (invStep b me i r t sender v .after) → ⊥
+  inv-keeps t sender v true = idle me (invStep true me i r t sender v .after) (taken-idle (r .state))
+  inv-keeps t sender v false = before
+
+  ack-keeps : (sender : ℕ) (c : Bool) → completes me r sender ≡ c → Replied me (ackStep c me i r sender .after) → ⊥
+  ack-keeps sender true e = idle me (ackStep true me i r sender .after) refl
+  ack-keeps sender false e = λ h. false≢true (sym e ∙ and-both _ _ (pending (acknowledged r sender) (h .0)) (all-in me (with (r .acks) sender) (h .1)))
+
+  deliver-keeps : (sender : ℕ) (m : Message) (v : List ℕ) → Replied me (deliverStep wins me i r sender m v .after) → ⊥
+  deliver-keeps sender (Inv t) v = inv-keeps t sender v (later wins t (r .timestamp))
+  deliver-keeps sender (Ack t) v = ack-keeps sender (completes me r sender) refl
+  deliver-keeps sender (Val t) v = idle me (deliverStep wins me i r sender (Val t) v .after) refl
+
+  step-keeps : (e : Event) (v : List ℕ) → Replied me (step wins me i r e v .after) → ⊥
+  step-keeps Read v = before
+  step-keeps Write v = begun-waits me (step wins me i r Write v .after) two refl
+  step-keeps Replay v = begun-waits me (step wins me i r Replay v .after) two refl
+  step-keeps (Deliver m) v = deliver-keeps (m .sender) (m .message) v
+  step-keeps Validate v = idle me (step wins me i r Validate v .after) refl
+  step-keeps Resend v = before
+
+-- an event on record j, as record i sees it
+event-keeps : (wins : ℕ → ℕ → Bool) (n : Node) (j : ℕ) (e : Event) (v : List ℕ) (i : ℕ) → (AllReplied i n → ⊥) → AllReplied i (apply wins n j e v .node) → ⊥
+event-keeps wins n j e v i before = go (apply wins n j e v) (applied wins n j e v)
+  where
+    go : (o : Outcome) → Applied wins n j e v o → AllReplied i (o .node) → ⊥
+    go o (refused k z q) = rw q before
+    go o (accepted y c q) = rw q (side (ℕ-discrete i j))
+      where
+        s : Step
+        s = stepOf wins n j e v
+
+        side : Dec (i ≡ j) → AllReplied i (done n j s) → ⊥
+        side (yes d) = rw (d, c .here) (step-keeps wins (n .me) j (recordOf j n) (rw d at before) (y .0) e v)
+        side (no d) = rw (c .others i d) before
+
+module _ (wins : ℕ → ℕ → Bool) (i : ℕ) where
+  entry-keeps : (a : Action) (log : List run.Logged) (n : Node) → (IsView a → ⊥) → (AllReplied i n → ⊥) → AllReplied i (nodeAfter (perform wins a log n) n) → ⊥
+  entry-keeps (run.read j) log n f = event-keeps wins n j Read [] i
+  entry-keeps (run.write j v) log n f = event-keeps wins n j Write v i
+  entry-keeps (run.replay j) log n f = event-keeps wins n j Replay [] i
+  entry-keeps (run.deliver k) log n f = go (find log k)
+    where
+      go : (x : Found) → (AllReplied i n → ⊥) → AllReplied i (nodeAfter (delivery wins x n) n) → ⊥
+      go run.missing = λ before. before
+      go (run.found x) = event-keeps wins n (x .header .index) (Deliver (received x)) (x .body) i
+  entry-keeps (run.validate j) log n f = event-keeps wins n j Validate [] i
+  entry-keeps (run.resend j) log n f = event-keeps wins n j Resend [] i
+  entry-keeps (run.view epoch set) log n f = absurd (f tt)
+
+  later-none : (k : ℕ) (g : Group) → (AllReplied i (g .at k) → ⊥) → (entries : List Entry) → NoView k entries → AllReplied i (after wins g entries k) → ⊥
+  unfolding result
+  later-none k g before [] f = before
+  later-none k g before (a ∷ rest) (f, fs) = later-none k (advance wins g a) (side (ℕ-discrete k (a .who))) rest fs
+    where
+      side : Dec (k ≡ a .who) → AllReplied i (advance wins g a .at k) → ⊥
+      side (yes e) = rw (e, at-who wins g a) (entry-keeps (a .what) (g .log) (g .at (a .who)) (f (sym e)) (rw e at before))
+      side (no d) = rw (at-other wins g a k d) before
+
+-- a fresh record is valid
+fresh-none : (member : ℕ → Bool) (count : ℕ) (issued : ℕ → ℕ) (g : Group) → Started member count issued g → (i k : ℕ) → i < count → member k ≡ true → AllReplied i (g .at k) → ⊥
+fresh-none member count issued g s i k l m h = idle (g .at k .me) (recordOf i (g .at k)) (ap (λ (r : Record). oneOf (r .state) (state.Write ∷ state.Replay ∷ [])) fresh) h
+  where
+    f : FreshStart count issued k (g .at k)
+    f = s .fresh k m
+
+    b : Begun k (issued 0) (f .table) (f .store) (g .at k .me)
+    b = begun k (issued 0) (f .table) (f .store) (g .at k .me) (f .accepted)
+
+    fresh : recordOf i (g .at k) ≡ freshRecord (lowest (issued 0))
+    fresh = rw (f .tableAfter, b .tableAfter) (getD-replicate (length (f .table)) i _ _ (omega (arith, f .records)))
+
+pub nobody-waits : NobodyWaits
+nobody-waits = record { fresh = fresh-none; later = λ wins g i k before entries f. later-none wins i k g before entries f }
