@@ -16,7 +16,7 @@ use Rattle.hermes.specs.Limits.{limits}
 unfoldable pub unstarted : Node
 unstarted = record { me = newcomer 9 0; table = freshRecord 9 ∷ []; store = replicate 192 7 }
 
--- views, as 16-bit sets: {1,2,5} is 38, {1,2} is 6, {1,5} is 34 and {1} is 2
+-- views, as 16-bit sets: {1,2,5} is 38, {1,2} is 6, {1,5} is 34, {1} is 2 and {1,2,5,7} is 166
 abbrev group : ℕ
 group = 38
 
@@ -95,9 +95,11 @@ ringing =
     ∷ row (fresh (save ∷ ack 1 2 5 0 ∷ ack 1 2 1 0 ∷ [])) (does Validate []) (answers 15 ∷ unchanged ∷ silent ∷ [])
     -- the same in invalid-write: counted, and nothing else
     ∷ row (fresh (save ∷ ack 1 2 1 0 ∷ inv 1 5 5 0 ∷ [])) (ack 1 2 5 0) (answers 0 ∷ leaves state.InvalidWrite ∷ stamps 1 5 ∷ lastWriter 5 ∷ lastWrite 1 2 ∷ acknowledgedBy 34 ∷ holding brought ∷ silent ∷ [])
-    -- the view is the one held: with 5 struck off, 1's ACK is the last; one from 5 before that counts as any other
+    -- the view is the one held: with 5 struck off, 1's ACK is the last; an ACK of 5 from before neither helps nor hinders
     ∷ row (fresh (save ∷ turns 1 6 ∷ [])) (ack 1 2 1 1) (answers 0 ∷ leaves state.Valid ∷ stamps 1 2 ∷ lastWriter 2 ∷ lastWrite 1 2 ∷ acknowledgedBy 2 ∷ holding saved ∷ sends (valOf 1 2) ∷ [])
     ∷ row (fresh (save ∷ ack 1 2 5 0 ∷ turns 1 6 ∷ [])) (ack 1 2 1 1) (answers 0 ∷ leaves state.Valid ∷ stamps 1 2 ∷ lastWriter 2 ∷ lastWrite 1 2 ∷ acknowledgedBy 34 ∷ holding saved ∷ sends (valOf 1 2) ∷ [])
+    -- nor does that of 7, struck off from {1,2,5,7}, stand for 5's: as many are counted as there are others
+    ∷ row (starts 2 166 ∷ save ∷ ack 1 2 7 0 ∷ turns 1 group ∷ []) (ack 1 2 1 1) (answers 0 ∷ leaves state.Write ∷ stamps 1 2 ∷ lastWriter 2 ∷ lastWrite 1 2 ∷ acknowledgedBy 130 ∷ holding saved ∷ silent ∷ [])
     -- invalid-write (1,5): VAL (1,5) valid, VAL (1,2) 14
     ∷ row (fresh (save ∷ inv 1 5 5 0 ∷ [])) (val 1 5 5 0) (answers 0 ∷ leaves state.Valid ∷ stamps 1 5 ∷ lastWriter 5 ∷ lastWrite 1 2 ∷ acknowledgedBy 0 ∷ holding brought ∷ silent ∷ [])
     ∷ row (fresh (save ∷ inv 1 5 5 0 ∷ [])) (val 1 2 5 0) (answers 14 ∷ unchanged ∷ silent ∷ [])
