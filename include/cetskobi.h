@@ -188,7 +188,7 @@ struct cetskobi_admission {
 /* Events on record i. A message that leaves is about record i, from me.number at me.epoch as they were passed: who sends it later keeps
  * them with it, since a view may have changed me. A delivery takes the record's number and the bytes that came with its message: other
  * bytes, or none, are accepted too, and two laptops may then show different texts for one timestamp. cetskobi_deliver_packet takes both
- * from the packet. */
+ * from the packet. What an accepted event sends: write and replay an INV, validate a VAL, resend an INV or a VAL, deliver what stands there. */
 CETSKOBI_MUST_USE
 struct cetskobi_answer cetskobi_write(struct cetskobi_replica me, uint8_t *table, size_t table_len, uint8_t *store, size_t store_len,
                                       size_t i, const uint8_t *value, size_t value_len);
@@ -202,7 +202,7 @@ CETSKOBI_MUST_USE
 struct cetskobi_answer cetskobi_replay(struct cetskobi_replica me, uint8_t *table, size_t table_len, const uint8_t *store, size_t store_len,
                                        size_t i);
 /* For a record whose last missing acknowledgement was that of a laptop since struck off: to be tried after a view. Any other is validated by
- * the delivery of its last ACK, and then the answer here is 15. */
+ * the delivery of its last ACK; before it and after it the answer here is 15. */
 CETSKOBI_MUST_USE
 struct cetskobi_answer cetskobi_validate(struct cetskobi_replica me, uint8_t *table, size_t table_len, const uint8_t *store,
                                          size_t store_len, size_t i);
@@ -229,7 +229,8 @@ struct cetskobi_admission cetskobi_start(uint8_t number, uint16_t view, uint8_t 
 #define CETSKOBI_GONE ((size_t)-1)
 CETSKOBI_MUST_USE
 size_t cetskobi_body(const uint8_t *table, size_t table_len, const uint8_t *store, size_t store_len, size_t i, struct cetskobi_answer left);
-/* Who gets a message of this kind: bit n for replica n. sender is that of the delivered message; only an ACK asks it. */
+/* Who gets a message of this kind: bit n for replica n. sender is that of the delivered message, and only asked for an ACK: of an INV or a
+ * VAL, also one that leaves a delivery, it may be anything. It is 0 of no message. */
 CETSKOBI_MUST_USE
 uint16_t cetskobi_recipients(struct cetskobi_replica me, uint8_t kind, uint8_t sender);
 

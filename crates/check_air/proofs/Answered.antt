@@ -30,8 +30,8 @@ use Rattle.export_storing.specs.Storing.{bytesAfter, tableAfter}
 use Rattle.export_storing.proofs.Table.{settled-table, settled-nowhere, settled-step}
 use Rattle.export_numbers.specs.Crossing.{replicaOf, identityOf, answerOut, admissionOut, receivedIn}
 use Rattle.export_arrival.specs.Arrival.{bytesArrived}
-use Rattle.check_air.specs.Callers.{Laptop, node, read, write, replay, deliver, deliverPacket, validate, resend, view, Moves, Returns}
-use Rattle.check_air.specs.Answered.{callNumber, afterEvent, afterCall, EveryCallMayFollow, EveryCallAnswers}
+use Rattle.check_air.specs.Callers.{Laptop, node, read, write, replay, deliver, deliverPacket, validate, resend, view, Moves, Returns, validates, acknowledges}
+use Rattle.check_air.specs.Answered.{callNumber, afterEvent, afterCall, EveryCallMayFollow, EveryCallFinishes, EveryCallAnswers}
 use Rattle.check_air.proofs.Callers.{number-out}
 
 -- the bytes after an event hold the table after it
@@ -124,4 +124,11 @@ every-call-may-follow issued log = record {
   validations = λ i. tt;
   resends = λ i. tt;
   views = λ epoch. refl;
+}
+
+pub every-call-finishes : EveryCallFinishes
+every-call-finishes = record {
+  validations = λ n i. validates refl;
+  deliveries = λ n i j m v t e. acknowledges tt t e;
+  packets = λ n i j p t e. acknowledges tt t e;
 }

@@ -96,8 +96,8 @@ written = afterEvent (fresh 0) 0 Write (65 ∷ 49 ∷ [])
 abbrev acknowledged : Laptop
 acknowledged = afterEvent written 0 (Deliver (received ackLogged)) []
 
-abbrev alone : Laptop
-alone = afterCall (callers.view 1 3) acknowledged
+abbrev struck : Laptop
+struck = afterCall (callers.view 1 3) acknowledged
 
 called-inv : Called invLogged inv
 unfolding has size lowest within othersIn with later sameTimestamp padded place refusal effect start apply view viewed good entryBytes walk fetchRefusal fetched summed contents packetBytes allGood writeRefusal packetWritten outputOf entryIn wordMessages receipt decode tableOf
@@ -109,7 +109,7 @@ called-ack = call ackLogged ack (fresh 1) (Deliver (received invLogged)) (65 ∷
 
 called-val : Called valLogged val
 unfolding has size lowest within othersIn with later sameTimestamp padded place refusal effect start apply view viewed good entryBytes walk fetchRefusal fetched summed contents packetBytes allGood writeRefusal packetWritten outputOf entryIn wordMessages receipt decode tableOf
-called-val = call valLogged val alone Validate [] (record { who = refl; answer = refl; bytes = refl; there = refl; leaves = refl })
+called-val = call valLogged val struck Validate [] (record { who = refl; answer = refl; bytes = refl; there = refl; leaves = refl })
 
 -- packed together
 packs : (ss : List Sending) → packAnswer (wordsSent ss) (bodiesSent ss) (replicate 60 0) .number ≡ 0 → Packed ss (packetOf ss)

@@ -1,15 +1,19 @@
--- Every call may follow, and on every laptop has its answer: `Fair` and `Returns` of `Callers` can be met, and this is by what.
+-- Every call may follow, and on every laptop has its answer: `Fair` and `Returns` of `Callers` can be met, and this is by what. And `Finishes`
+-- leaves no validation out.
 use Prim.Native.Nat.{ℕ}
 use mathlib.Core.Path.{_≡_}
 use mathlib.Core.Bool.{false}
 use mathlib.Core.List.{List, []}
+use Rattle.hermes_record.specs.declared.timestamp.Timestamp.{Timestamp}
+use Rattle.hermes.specs.declared.message.Message.the-variants.{Val}
 use Rattle.hermes.specs.declared.event.Event.{Event}
 use Rattle.hermes.specs.declared.event.Event.the-variants.{Write, Replay, Deliver, Validate, Resend}
 use Rattle.hermes_record.specs.Order.{higher}
 use Rattle.hermes.specs.Kind.{known}
 use Rattle.hermes.specs.Event as event
+use Rattle.hermes.specs.Event.{send, sentBy}
 use Rattle.hermes.specs.Node as hermes
-use Rattle.hermes.specs.Node.{apply, effectOf, identity}
+use Rattle.hermes.specs.Node.{Node, apply, effectOf, identity}
 use Rattle.hermes.specs.Run.{Logged}
 use Rattle.packet_format.specs.Reading.{fetched}
 use Rattle.packet_event.specs.Arrival.{receipt}
@@ -17,7 +21,7 @@ use Rattle.export_storing.specs.Storing.{bytesAfter}
 use Rattle.export_numbers.specs.declared.numbers.CetskobiMessage.{CetskobiMessage}
 use Rattle.export_numbers.specs.Crossing.{replicaOf, identityOf, receivedIn}
 use Rattle.export_arrival.specs.Arrival.{bytesArrived}
-use Rattle.check_air.specs.Callers.{Laptop, node, Call, read, write, replay, deliver, deliverPacket, validate, resend, view, Returns, outcome, FromAir, Broken, AsNumbers, Fair}
+use Rattle.check_air.specs.Callers.{Laptop, node, Call, read, write, replay, deliver, deliverPacket, validate, resend, view, Returns, outcome, FromAir, Broken, AsNumbers, Fair, Finishes}
 
 -- the number of the answer
 abbrev pub callNumber : Call → Laptop → ℕ
@@ -66,6 +70,14 @@ pub record AnyCall (issued : ℕ → ℕ) (log : List Logged) : Type 0 where
 
 abbrev pub EveryCallMayFollow : Type 0
 EveryCallMayFollow = (issued : ℕ → ℕ) (log : List Logged) → AnyCall issued log
+
+-- no validation is left out: a Validate, and a delivery with which a VAL leaves, of numbers or out of a packet
+pub record EveryCallFinishes : Type 0 where
+  pub validations : (n : Node) (i : ℕ) → Finishes n i (validate i)
+  pub deliveries : (n : Node) (i j : ℕ) (m : CetskobiMessage) (v : List ℕ) (t : Timestamp)
+      → sentBy (outcome (deliver j m v) n .answer) ≡ send (n .me) i (Val t) → Finishes n i (deliver j m v)
+  pub packets : (n : Node) (i j : ℕ) (p : List ℕ) (t : Timestamp)
+      → sentBy (outcome (deliverPacket p j) n .answer) ≡ send (n .me) i (Val t) → Finishes n i (deliverPacket p j)
 
 -- every call on every laptop is answered with that number, and leaves that laptop
 abbrev pub EveryCallAnswers : Type 0

@@ -33,14 +33,13 @@ use Rattle.hermes.specs.Source as source
 use Rattle.hermes.specs.Source.{Vars, Sending, In, HInit, HReadGuard, HWriteGuard, HReplayWriteGuard, HRcvInvGuard, HRcvInv, HRcvAckGuard, HRcvAckThenSendVals, HRcvValGuard, HSendValsGuard, NodeFailureGuard, ResendGuard, Resent, sendInv}
 use Rattle.hermes.specs.Conformance.{varsOf, fiveAnd, delivered, message, Follows, ViewFollows, StartFollows, Demand2By, Demand2}
 use Rattle.hermes_record.proofs.Tests.{both, and-both, is-false, or-true}
-use Rattle.hermes.proofs.Members.{has-zero, within-members, members-within, adds-sender}
+use Rattle.hermes.proofs.Members.{has-zero, within-members, members-within, every-other, others-every, adds-sender}
 use Rattle.hermes_record.proofs.Order.{later-greater, greater-later}
 use Rattle.hermes.proofs.Store.{value-slot, take-padded}
 use Rattle.hermes.proofs.Guards.{DeliverOwn, ResendOwn, read-own, write-own, deliver-own, replay-own, resend-own, view-later, view-inside, all-yes, none-says-no}
 use Rattle.hermes.proofs.Steps.{next-version, step-about}
 use Rattle.hermes.proofs.Apply.{passed-zero, questionsOf, ownOf, stepOf, done, Applied, refused, accepted, applied, first-five, its-own, sound-step}
 use Rattle.hermes.proofs.Words.{one-in, in-one, is-state, state-is, equal-ts, ts-same, Two, size-two, two-size}
-use Rattle.hermes.proofs.LastAck.{all-in, in-all}
 use Rattle.hermes.proofs.Locality.{leavingSlot, leaving-slot}
 use Rattle.hermes.proofs.Frame.{view-frame}
 use Rattle.hermes.proofs.Start.{Begun, begun, lowest-lowest}
@@ -137,10 +136,10 @@ module _ (me : Replica) (r : Record) (b : List ℕ) where
   may-send : question15 me r .yes ≡ true → HSendValsGuard me (seen r b)
   may-send h =
       let (p, q) = both (oneOf (r .state) (state.Write ∷ state.Replay ∷ [])) (othersIn (me .number) (me .view) (r .acks)) h in
-      (one-in (r .state) (state.Write ∷ state.Replay ∷ []) p, in-all me (r .acks) q)
+      (one-in (r .state) (state.Write ∷ state.Replay ∷ []) p, others-every (me .number) (me .view) (r .acks) q)
 
   sends-may : HSendValsGuard me (seen r b) → question15 me r .yes ≡ true
-  sends-may g = and-both _ _ (in-one (r .state) (state.Write ∷ state.Replay ∷ []) (g .0)) (all-in me (r .acks) (g .1))
+  sends-may g = and-both _ _ (in-one (r .state) (state.Write ∷ state.Replay ∷ []) (g .0)) (every-other (me .number) (me .view) (r .acks) (g .1))
 
 module _ (wins : ℕ → ℕ → Bool) (n : Node) (i : ℕ) (v : List ℕ) where
   follows-read : Follows wins n i Read v (fiveAnd n i []) HReadGuard source.HRead

@@ -19,7 +19,7 @@ use Rattle.hermes.specs.declared.message.Outgoing.the-variants.{None}
 use Rattle.hermes.specs.declared.event.Replica.{Replica}
 use Rattle.hermes.specs.declared.event.Event.{Event}
 use Rattle.hermes.specs.declared.event.Event.the-variants.{Read, Write, Replay, Deliver, Validate, Resend}
-use Rattle.hermes_record.specs.Members.{has, size, lowest, with, othersIn}
+use Rattle.hermes_record.specs.Members.{has, size, lowest, with}
 use Rattle.hermes_record.specs.Order.{later}
 use Rattle.hermes_record.specs.Record.{oneOf, invalidatedState, acknowledged, freshRecord}
 use Rattle.hermes.specs.Guards.{question1}
@@ -30,7 +30,7 @@ use Rattle.hermes.specs.Run.{Action, Entry, Group, Found, find, received
 use Rattle.hermes.specs.Agreement.{FreshStart, Started, after}
 use Rattle.hermes.specs.LastAck.{Waits, EveryOther, Completes, AckDone, LastAckSettles, AllReplied, IsView, NoView, NobodyWaits}
 use Rattle.hermes_record.proofs.Tests.{both, and-both}
-use Rattle.hermes.proofs.Members.{Has, has-small, has-zero, has-with, with-members, members-with, others-members, members-others}
+use Rattle.hermes.proofs.Members.{has-small, has-zero, has-with, with-members, members-with, every-other, others-every}
 use Rattle.hermes.proofs.Guards.{deliver-own}
 use Rattle.hermes.proofs.Words.{Two, size-two}
 use Rattle.hermes.proofs.Apply.{stepOf, done, Applied, refused, accepted, applied, its-own}
@@ -50,35 +50,19 @@ waits state.InvalidWrite e = absurd (false≢true e)
 waits state.Write e = inl refl
 waits state.Replay e = inr refl
 
--- every other of the view is in the set
-module _ (me : Replica) (s : ℕ) where
-  pub all-in : EveryOther me (λ m. has s m ≡ true) → othersIn (me .number) (me .view) s ≡ true
-  all-in h = members-others (me .number) (me .view) s (λ m k. go m k (ℕ-discrete m (me .number)))
-    where
-      go : (m : ℕ) → has (me .view) m ≡ true → Dec (m ≡ me .number) → (m ≡ me .number) ⊎ Has s m
-      go m k (yes e) = inl e
-      go m k (no d) = inr (h m k d)
-
-  pub in-all : othersIn (me .number) (me .view) s ≡ true → EveryOther me (λ m. has s m ≡ true)
-  in-all e m k d = go (others-members (me .number) (me .view) s e m k)
-    where
-      go : (m ≡ me .number) ⊎ Has s m → Has s m
-      go (inl e) = absurd (d e)
-      go (inr h) = h
-
 module _ (me : Replica) (r : Record) where
   -- an ACK completes the view: as the statement has it, and as the step asks it
-  pub does-complete : (sender : ℕ) → Waits r → Completes me r sender → completes me r sender ≡ true
-  does-complete sender w c = and-both _ _ (pending r w) (all-in me (with (r .acks) sender) (λ m k d. counted m (has-small (me .view) m k) (c m k d)))
+  pub does-complete : (sender : ℕ) → oneOf (r .state) (state.Write ∷ state.Replay ∷ []) ≡ true → Completes me r sender → completes me r sender ≡ true
+  does-complete sender p c = and-both _ _ p (every-other (me .number) (me .view) (with (r .acks) sender) (λ m k d. counted m (has-small (me .view) m k) (c m k d)))
     where
       counted : (m : ℕ) → m < 16 → (m ≡ sender) ⊎ (has (r .acks) m ≡ true) → has (with (r .acks) sender) m ≡ true
       counted m l (inl e) = members-with (r .acks) sender m (rw (← e) l) (inr e)
       counted m l (inr h) = rw (has-with (r .acks) sender m, h)
 
-  completes-it : (sender : ℕ) → completes me r sender ≡ true → Waits r × Completes me r sender
+  pub completes-it : (sender : ℕ) → completes me r sender ≡ true → Waits r × Completes me r sender
   completes-it sender e =
       let (p, q) = both (oneOf (r .state) (state.Write ∷ state.Replay ∷ [])) _ e in
-      (waits (r .state) p, λ m k d. ⊎-swap (with-members (r .acks) sender m (in-all me (with (r .acks) sender) q m k d)))
+      (waits (r .state) p, λ m k d. ⊎-swap (with-members (r .acks) sender m (others-every (me .number) (me .view) (with (r .acks) sender) q m k d)))
 
 -- ---- one ACK
 
@@ -94,7 +78,7 @@ module _ (me : Replica) (i : ℕ) (r : Record) (sender : ℕ) (known : has (me .
 
   step-done : (c : Bool) → completes me r sender ≡ c → StepDone (ackStep c me i r sender)
   step-done true e = record { counted = in-set; last = λ w k. (refl, refl); other = λ f. let (w, k) = completes-it me r sender e in absurd (f w k) }
-  step-done false e = record { counted = in-set; last = λ w k. absurd (false≢true (sym e ∙ does-complete me r sender w k)); other = λ f. (refl, refl) }
+  step-done false e = record { counted = in-set; last = λ w k. absurd (false≢true (sym e ∙ does-complete me r sender (pending r w) k)); other = λ f. (refl, refl) }
 
 pub last-ack-settles : LastAckSettles
 last-ack-settles wins n i m t v is = go (apply wins n i (Deliver m) v) (applied wins n i (Deliver m) v)
@@ -150,7 +134,7 @@ module _ (wins : ℕ → ℕ → Bool) (me : Replica) (i : ℕ) (r : Record) (be
 
   ack-keeps : (sender : ℕ) (c : Bool) → completes me r sender ≡ c → Replied me (ackStep c me i r sender .after) → ⊥
   ack-keeps sender true e = idle me (ackStep true me i r sender .after) refl
-  ack-keeps sender false e = λ h. false≢true (sym e ∙ and-both _ _ (pending (acknowledged r sender) (h .0)) (all-in me (with (r .acks) sender) (h .1)))
+  ack-keeps sender false e = λ h. false≢true (sym e ∙ and-both _ _ (pending (acknowledged r sender) (h .0)) (every-other (me .number) (me .view) (with (r .acks) sender) (h .1)))
 
   deliver-keeps : (sender : ℕ) (m : Message) (v : List ℕ) → Replied me (deliverStep wins me i r sender m v .after) → ⊥
   deliver-keeps sender (Inv t) v = inv-keeps t sender v (later wins t (r .timestamp))

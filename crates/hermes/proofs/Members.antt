@@ -152,6 +152,21 @@ members-others n view s h = all-of 16 (λ (x : ℕ). not (has view x) || (eqb x 
         join true = refl
         join false = e
 
+-- the same of every other member
+pub every-other : (n view s : ℕ) → ((m : ℕ) → Has view m → m ≢ n → Has s m) → othersIn n view s ≡ true
+every-other n view s h = members-others n view s (λ m k. go m k (ℕ-discrete m n))
+  where
+    go : (m : ℕ) → Has view m → Dec (m ≡ n) → (m ≡ n) ⊎ Has s m
+    go m k (yes e) = inl e
+    go m k (no d) = inr (h m k d)
+
+pub others-every : (n view s : ℕ) → othersIn n view s ≡ true → (m : ℕ) → Has view m → m ≢ n → Has s m
+others-every n view s e m k d = go (others-members n view s e m k)
+  where
+    go : (m ≡ n) ⊎ Has s m → Has s m
+    go (inl e) = absurd (d e)
+    go (inr h) = h
+
 -- ---- one more member, one less
 
 -- a number above 15 adds nobody

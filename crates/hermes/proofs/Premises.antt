@@ -3,6 +3,7 @@
 use Prim.Native.Nat.{ℕ, zero, suc}
 use mathlib.Core.Path.{_≡_, refl}
 use mathlib.Core.Bool.{true}
+use mathlib.Core.Logic.{inl}
 use mathlib.Core.List.{[], _∷_}
 use native.Mathlib.Omega.{arith}
 use lib.ListN.{replicate, drop}
@@ -18,6 +19,7 @@ use Rattle.hermes.specs.Run.{Action, result, advance}
 use Rattle.hermes.specs.Agreement.{Started, Entries, Agreement, validates, acknowledges}
 use Rattle.hermes.specs.Played.{three, issued, lentTable, group, played, answers, struckOff, story}
 use Rattle.hermes.specs.Witness.{kind, BothWays, Witness}
+use Rattle.hermes.proofs.Members.{others-every}
 use Rattle.hermes.proofs.Agreement.{agreement}
 
 admitted : (k : ℕ) → three k ≡ true → start k 7 lentTable (replicate 192 0) .admission ≡ Admitted (newcomer k 7)
@@ -33,6 +35,7 @@ started = record {
   silent = refl;
 }
 
+-- the sixth line, validate, is refused by 15: the last ACK before it has validated (02, Wish 1)
 pub played-answers : answers group played ≡ 0 ∷ 0 ∷ 0 ∷ 0 ∷ 0 ∷ 15 ∷ 0 ∷ 0 ∷ 6 ∷ []
 unfolding result advance apply effect refusal start has size lowest within othersIn with padded place later sameTimestamp
 played-answers = refl
@@ -66,6 +69,10 @@ every-kind (run.validate i) = (refl, refl)
 every-kind (run.resend i) = (refl, refl)
 every-kind (run.view epoch set) = (refl, refl)
 
+-- an entry that is no view
+calm : {A : Type 0} → A → ⊥ → ⊥
+calm a n = n
+
 pub witness : Witness
 unfolding result advance apply effect refusal start has size lowest within othersIn with padded place later sameTimestamp view viewed
 witness = record {
@@ -83,6 +90,11 @@ witness = record {
   struck = record { members = (refl, refl); apart = λ e. omega arith; split = refl; validation = validates refl refl; sees = refl; shown = refl };
   replay = record { members = (refl, refl); apart = λ e. omega arith; split = refl; validation = acknowledges 8 _ _ refl refl refl refl refl refl; sees = refl; shown = refl };
   save = record { members = (refl, refl); apart = λ e. omega arith; split = refl; validation = acknowledges 12 _ _ refl refl refl refl refl refl; sees = refl; shown = refl };
+  quiet0 =
+      (calm, (calm, (calm, (calm, (calm, (calm, (calm, (calm, (calm, (calm, (calm, (calm, (calm, (calm, (λ e v. omega arith, (λ e v. omega arith, (calm, (calm, tt))))))))))))))))));
+  quiet1 =
+      (calm, (calm, (calm, (calm, (calm, (calm, (calm, (calm, (calm, (calm, (calm, (calm, (calm, (calm, tt))))))))))))));
+  vain = (inl refl, others-every 1 3 1 refl);
   first = record { timestamp = refl; text = refl };
   second = record { timestamp = refl; text = refl };
 }

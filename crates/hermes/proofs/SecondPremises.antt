@@ -1,8 +1,8 @@
 -- The premises of the second reading of demand 3 can be met.
 use Prim.Native.Nat.{ℕ, zero, suc, _<_}
-use mathlib.Core.Path.{_≡_, refl, sym, _∙_}
-use mathlib.Core.Logic.{_⊎_, inl, inr, _≢_}
-use mathlib.Core.Bool.{false≢true}
+use mathlib.Core.Path.{_≡_, refl}
+use mathlib.Core.Logic.{inl, inr, ⊎-map, _≢_}
+use mathlib.Core.Bool.{true}
 use mathlib.Core.List.{List, [], _∷_}
 use native.Mathlib.Omega.{arith}
 use lib.ListN.{replicate}
@@ -10,12 +10,13 @@ use Rattle.hermes.specs.declared.event.Admission.the-variants.{Admitted}
 use Rattle.hermes_record.specs.Members.{has, size, lowest, within, othersIn, with}
 use Rattle.hermes_record.specs.Order.{later, sameTimestamp}
 use Rattle.hermes.specs.Store.{padded, place}
-use Rattle.hermes.specs.Event.{refusal, effect, sentBy}
-use Rattle.hermes.specs.Node.{Node, start, apply, view, viewed}
+use Rattle.hermes.specs.Event.{completes, refusal, effect, sentBy}
+use Rattle.hermes.specs.Node.{Node, recordOf, start, apply, view, viewed}
 use Rattle.hermes.specs.Played.{issued, lentTable, fresh}
 use Rattle.hermes.specs.SecondReading.{InView, Among, first, further, Mail, Entry, outcome, Leaves, Left, here, there, History, empty, next, FreshStart, Premises, Agreement, CompletesView, Kept}
-use Rattle.hermes.specs.SecondWitness.{AnyEvent, begun, saved, taken, counted, struck, finished, heard, shown, savedAgain, takenAgain, settled, shownAgain, list, now, SecondWitness}
-use Rattle.hermes.proofs.Members.{Has, has-zero, within-members, others-members, with-members}
+use Rattle.hermes.specs.SecondWitness.{AnyEvent, begun, saved, taken1, taken2, counted, settled, saved1, saved2, lower, higher, counted1, struck, finished, heard, replayed, retaken, resettled, shown, list, now, SecondWitness}
+use Rattle.hermes.proofs.Members.{within-members}
+use Rattle.hermes.proofs.LastAck.{completes-it}
 use Rattle.hermes.proofs.SecondReading.{in-view, view-in, second-demand3}
 
 any : (issued : ℕ → ℕ) (earlier : List Entry) → AnyEvent issued earlier
@@ -58,45 +59,51 @@ premises = record {
   nested = nested;
 }
 
--- a message that left the entry before
+-- a message that left an entry of the list, and one that left the last
+left : {earlier : List Entry} {m : Mail} (e : Entry) → Among e earlier → Leaves m (sentBy (outcome e .answer)) (outcome e .node) → Left m earlier
+left e a l = record { entry = e; listed = a; left = l }
+
 sent : {earlier : List Entry} {m : Mail} (e : Entry) → Leaves m (sentBy (outcome e .answer)) (outcome e .node) → Left m (e ∷ earlier)
-sent e l = record { entry = e; listed = first; left = l }
+sent e l = left e first l
 
 history : History issued begun list now
 unfolding apply effect refusal start has size lowest within othersIn with padded place later sameTimestamp view viewed
 history =
-    next shownAgain
-    (next settled
-    (next takenAgain
-    (next savedAgain
-    (next shown
+    next shown
+    (next resettled
+    (next retaken
+    (next replayed
     (next heard
     (next finished
     (next struck
+    (next counted1
+    (next higher
+    (next lower
+    (next saved2
+    (next saved1
+    (next settled
     (next counted
-    (next taken (next saved empty tt here) (sent saved refl) (there here))
-    (sent taken refl) here)
+    (next taken2
+    (next taken1 (next saved empty tt here) (sent saved refl) (there here))
+    (left saved (further first) refl) (there (there here)))
+    (left taken1 (further first) refl) here)
+    (left taken2 (further first) refl) here)
+    tt (there here))
+    tt (there (there here)))
+    (left saved1 (further first) refl) here)
+    (left saved2 (further first) refl) here)
+    (left lower (further first) refl) (there here))
+    refl (there here))
+    tt (there here))
     refl here)
     tt here)
-    refl (there here))
-    (record { entry = finished; listed = further first; left = refl }) (there here))
-    tt (there here))
-    (sent savedAgain refl) here)
-    (sent takenAgain refl) (there here))
-    (sent settled refl) here
+    (sent replayed refl) (there here))
+    (sent retaken refl) here)
+    (sent resettled refl) (there here)
 
--- in {0,1} laptop 1 waits for 0 alone
-completing : CompletesView 0 0 (settled .found)
-unfolding apply effect refusal start has size lowest within othersIn with padded place later sameTimestamp view viewed
-completing k v d = go (others-members 1 3 (with 0 0) refl k (in-view k 3 v))
-  where
-    go : (k ≡ 1) ⊎ Has (with 0 0) k → (k ≡ 0) ⊎ InView k 0
-    go (inl e) = absurd (d e)
-    go (inr h) = counted (with-members 0 0 k h)
-      where
-        counted : Has 0 k ⊎ (k ≡ 0) → (k ≡ 0) ⊎ InView k 0
-        counted (inl n) = absurd (false≢true (sym (has-zero k) ∙ n))
-        counted (inr e) = inl e
+-- what completes the view as the step asks it, does so in the second reading's words
+completing : (sender : ℕ) (n : Node) → completes (n .me) (recordOf 0 n) sender ≡ true → CompletesView sender 0 n
+completing sender n e k v d = ⊎-map (λ s. s) (view-in k (recordOf 0 n .acks)) (completes-it (n .me) (recordOf 0 n) sender e .1 k (in-view k (n .me .view) v) d)
 
 agreed : Agreement now × Kept list now
 agreed = second-demand3 issued begun premises list now history
@@ -112,19 +119,27 @@ second-witness = record {
   seen = (omega arith, refl);
   shows = record { itsOwn = omega arith; valid = refl };
   shown = record { itsOwn = omega arith; valid = refl };
-  byValidate = record {
-    listed = further (further (further (further (further (further first)))));
-    validates = refl;
+  inWrite = record {
+    listed = further (further (further (further (further (further (further (further (further (further (further (further first)))))))))));
+    validates = record { itsRecord = refl; stamp = _; ack = refl; waiting = inl refl; completing = completing 2 (settled .found) refl };
     accepted = refl;
     there = further first;
     sees = (omega arith, refl);
     shows = record { itsOwn = omega arith; valid = refl };
   };
-  byAck = record {
-    listed = further first;
-    validates = record { itsRecord = refl; stamp = _; ack = refl; waiting = inl refl; completing = completing };
+  byValidate = record {
+    listed = further (further (further (further (further first))));
+    validates = refl;
     accepted = refl;
     there = first;
+    sees = (omega arith, refl);
+    shows = record { itsOwn = omega arith; valid = refl };
+  };
+  inReplay = record {
+    listed = further first;
+    validates = record { itsRecord = refl; stamp = _; ack = refl; waiting = inr refl; completing = completing 1 (resettled .found) refl };
+    accepted = refl;
+    there = further first;
     sees = (omega arith, refl);
     shows = record { itsOwn = omega arith; valid = refl };
   };

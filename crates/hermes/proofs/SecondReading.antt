@@ -11,6 +11,7 @@ use lib.ListN.{length, getD, drop}
 use lib.Seq.{getD-take, getD-drop}
 use borrow.Author.Tests.{eqb-true, ltb-true, eq-eqb, ne-eqb}
 use Rattle.hermes_record.specs.declared.timestamp.Timestamp.{Timestamp}
+use Rattle.hermes_record.specs.declared.record.State.the-variants as state
 use Rattle.hermes.specs.declared.message.Message.the-variants.{Inv, Ack, Val}
 use Rattle.hermes.specs.declared.message.Outgoing.{Outgoing}
 use Rattle.hermes.specs.declared.message.Outgoing.the-variants.{None, Sent}
@@ -18,6 +19,7 @@ use Rattle.hermes.specs.declared.event.Replica.{Replica}
 use Rattle.hermes.specs.declared.event.Admission.the-variants.{Admitted}
 use Rattle.hermes_record.specs.Members.{has}
 use Rattle.hermes_record.specs.Order.{higher, later, NotAfter, equal, rises}
+use Rattle.hermes_record.specs.Record.{oneOf}
 use Rattle.hermes.specs.Store.{slot}
 use Rattle.hermes.specs.Event.{completes, numberOf, sentBy}
 use Rattle.hermes.specs.Node.{Node, Start, lent, recordOf, newcomer, start}
@@ -29,7 +31,7 @@ use Rattle.hermes.specs.Reads.{Sound}
 use Rattle.hermes.specs.SecondReading.{InView, Greater, byVersion, byTie, SameOrLater, same, greater, Among, first, further}
 use Rattle.hermes.specs.SecondReading.{Mail, Happening, read, write, replay, delivery, validation, resend, change, perform}
 use Rattle.hermes.specs.SecondReading.{Entry, outcome, Leaves, Left, Honest, Replaced, here, there, History, empty, next}
-use Rattle.hermes.specs.SecondReading.{FreshStart, Different, Premises, ShowsValid, Agree, Agreement, LastAck, Validates, Kept, SecondDemand3}
+use Rattle.hermes.specs.SecondReading.{FreshStart, Different, Premises, ShowsValid, Agree, Agreement, InWriteOrReplay, LastAck, Validates, Kept, SecondDemand3}
 use Rattle.hermes_record.proofs.Tests.{both, either}
 use Rattle.hermes.proofs.Members.{bit, bit-member, member-bit, has-small}
 use Rattle.hermes.proofs.LastAck.{does-complete}
@@ -203,7 +205,11 @@ module _ (issued : ℕ → ℕ) (earlier : List Entry) (log : List Logged) (know
 
 -- a last ACK completes the view in the first reading too
 completing : (m : Mail) (i : ℕ) (n : Node) → LastAck m i n → completes (n .me) (recordOf i n) (m .sender) ≡ true
-completing m i n w = does-complete (n .me) (recordOf i n) (m .sender) (w .waiting) (λ k h d. ⊎-map (λ e. e) (in-view k (recordOf i n .acks)) (w .completing k (view-in k (n .me .view) h) d))
+completing m i n w = does-complete (n .me) (recordOf i n) (m .sender) (waits (w .waiting)) (λ k h d. ⊎-map (λ e. e) (in-view k (recordOf i n .acks)) (w .completing k (view-in k (n .me .view) h) d))
+  where
+    waits : InWriteOrReplay i n → oneOf (recordOf i n .state) (state.Write ∷ state.Replay ∷ []) ≡ true
+    waits (inl e) = rw e
+    waits (inr e) = rw e
 
 -- one entry more
 entries-add : (member : ℕ → Bool) (issued : ℕ → ℕ) (xs : List run.Entry) (a : run.Entry) → Entries member issued xs → member (a .who) ≡ true → AsIssued issued (a .what)

@@ -91,7 +91,7 @@ ringing =
     ∷ row (fresh (save ∷ ack 1 2 5 0 ∷ [])) (ack 1 2 5 0) (answers 13 ∷ unchanged ∷ silent ∷ [])
     -- 02, Wish 1: the ACK that completes the view, in write and in replay: valid, and the VAL leaves; then validate: 15
     ∷ row (fresh (save ∷ ack 1 2 5 0 ∷ [])) (ack 1 2 1 0) (answers 0 ∷ leaves state.Valid ∷ stamps 1 2 ∷ lastWriter 2 ∷ lastWrite 1 2 ∷ acknowledgedBy 34 ∷ holding saved ∷ sends (valOf 1 2) ∷ [])
-    ∷ row (fresh (lays replaying (66 ∷ []) ∷ ack 1 5 1 0 ∷ [])) (ack 1 5 5 0) (answers 0 ∷ leaves state.Valid ∷ stamps 1 5 ∷ lastWriter 2 ∷ lastWrite 1 5 ∷ acknowledgedBy 34 ∷ holding (66 ∷ []) ∷ sends (valOf 1 5) ∷ [])
+    ∷ row (fresh (inv 1 5 5 0 ∷ turns 1 6 ∷ does Replay [] ∷ [])) (ack 1 5 1 1) (answers 0 ∷ leaves state.Valid ∷ stamps 1 5 ∷ lastWriter 2 ∷ lastWrite 1 5 ∷ acknowledgedBy 2 ∷ holding brought ∷ sends (valOf 1 5) ∷ [])
     ∷ row (fresh (save ∷ ack 1 2 5 0 ∷ ack 1 2 1 0 ∷ [])) (does Validate []) (answers 15 ∷ unchanged ∷ silent ∷ [])
     -- the same in invalid-write: counted, and nothing else
     ∷ row (fresh (save ∷ ack 1 2 1 0 ∷ inv 1 5 5 0 ∷ [])) (ack 1 2 5 0) (answers 0 ∷ leaves state.InvalidWrite ∷ stamps 1 5 ∷ lastWriter 5 ∷ lastWrite 1 2 ∷ acknowledgedBy 34 ∷ holding brought ∷ silent ∷ [])

@@ -1,5 +1,5 @@
 -- The premises of the second reading of demand 3 can be met: they forbid no event that document 01 allows, and a group of three with one record
--- each finishes one save by a Validate and one by the last ACK, after which both halves of the claim speak of something.
+-- each finishes saves by a Validate, by the last ACK in write and by the last ACK in replay, after which both halves of the claim speak of something.
 use Prim.Native.Nat.{ℕ}
 use mathlib.Core.Path.{_≡_}
 use mathlib.Core.List.{List, [], _∷_}
@@ -13,6 +13,7 @@ use Rattle.hermes.specs.SecondReading.{
   InView,
   Among,
   Mail,
+  Happening,
   read,
   write,
   replay,
@@ -44,81 +45,95 @@ pub record AnyEvent (issued : ℕ → ℕ) (earlier : List Entry) : Type 0 where
   pub resends : (i : ℕ) → Honest issued earlier (resend i)
   pub changes : (epoch : ℕ) → Honest issued earlier (change epoch (issued epoch))
 
--- ---- two saves that are finished
+-- ---- saves that are finished
 
 -- the group at its start, with `issued` and `fresh` of `Played`: 2 is struck off in epoch 1
 abbrev pub begun : List Node
 begun = fresh 0 ∷ fresh 1 ∷ fresh 2 ∷ []
 
--- the stamps of the saves
-abbrev pub stamp : Timestamp
-stamp = record { version = 1; tie = 0 }
-
-abbrev pub stampAgain : Timestamp
-stampAgain = record { version = 2; tie = 1 }
+-- a stamp
+abbrev pub stamp : ℕ → ℕ → Timestamp
+stamp version tie = record { version = version; tie = tie }
 
 -- a message about the record, from this laptop at this epoch
 abbrev pub mail : ℕ → ℕ → Message → List ℕ → Mail
 mail sender epoch kind bytes = record { sender = sender; epoch = epoch; number = 0; kind = kind; bytes = bytes }
 
--- 0 saves
+-- what is done at a laptop that another entry left
+abbrev pub thereafter : Entry → Happening → Entry
+thereafter e h = record { found = outcome e .node; event = h }
+
+-- 0 saves A1; 1 and 2 take it; 0 counts 1's ACK, and finishes by 2's, the last, in write
 abbrev pub saved : Entry
 saved = record { found = fresh 0; event = write 0 (65 ∷ 49 ∷ []) }
 
--- 1 takes the INV
-abbrev pub taken : Entry
-taken = record { found = fresh 1; event = delivery (mail 0 0 (Inv stamp) (65 ∷ 49 ∷ [])) }
+abbrev pub taken1 : Entry
+taken1 = record { found = fresh 1; event = delivery (mail 0 0 (Inv (stamp 1 0)) (65 ∷ 49 ∷ [])) }
 
--- 0 counts the ACK; 2's is missing
+abbrev pub taken2 : Entry
+taken2 = record { found = fresh 2; event = delivery (mail 0 0 (Inv (stamp 1 0)) (65 ∷ 49 ∷ [])) }
+
 abbrev pub counted : Entry
-counted = record { found = outcome saved .node; event = delivery (mail 1 0 (Ack stamp) []) }
+counted = thereafter saved (delivery (mail 1 0 (Ack (stamp 1 0)) []))
 
--- 2 is struck off
-abbrev pub struck : Entry
-struck = record { found = outcome counted .node; event = change 1 3 }
-
--- 0 finishes by a Validate
-abbrev pub finished : Entry
-finished = record { found = outcome struck .node; event = validation 0 }
-
--- 1 hears of the view
-abbrev pub heard : Entry
-heard = record { found = outcome taken .node; event = change 1 3 }
-
--- and takes the VAL
-abbrev pub shown : Entry
-shown = record { found = outcome heard .node; event = delivery (mail 0 1 (Val stamp) []) }
-
--- 1 saves
-abbrev pub savedAgain : Entry
-savedAgain = record { found = outcome shown .node; event = write 0 (66 ∷ []) }
-
--- 0 takes the INV
-abbrev pub takenAgain : Entry
-takenAgain = record { found = outcome finished .node; event = delivery (mail 1 1 (Inv stampAgain) (66 ∷ [])) }
-
--- 1 finishes by the last ACK
 abbrev pub settled : Entry
-settled = record { found = outcome savedAgain .node; event = delivery (mail 0 1 (Ack stampAgain) []) }
+settled = thereafter counted (delivery (mail 2 0 (Ack (stamp 1 0)) []))
 
--- 0 takes the VAL
-abbrev pub shownAgain : Entry
-shownAgain = record { found = outcome takenAgain .node; event = delivery (mail 1 1 (Val stampAgain) []) }
+-- 1 and 2 save together; 0 takes both, and 2's is the greater; 1 counts 0's ACK
+abbrev pub saved1 : Entry
+saved1 = thereafter taken1 (write 0 (66 ∷ []))
+
+abbrev pub saved2 : Entry
+saved2 = thereafter taken2 (write 0 (67 ∷ []))
+
+abbrev pub lower : Entry
+lower = thereafter settled (delivery (mail 1 0 (Inv (stamp 2 1)) (66 ∷ [])))
+
+abbrev pub higher : Entry
+higher = thereafter lower (delivery (mail 2 0 (Inv (stamp 2 2)) (67 ∷ [])))
+
+abbrev pub counted1 : Entry
+counted1 = thereafter saved1 (delivery (mail 0 0 (Ack (stamp 2 1)) []))
+
+-- 2 is struck off, and 1 finishes by a Validate
+abbrev pub struck : Entry
+struck = thereafter counted1 (change 1 3)
+
+abbrev pub finished : Entry
+finished = thereafter struck (validation 0)
+
+-- 0 hears of it and replays 2's save; 1 takes it, and 0 finishes by its ACK, the last, in replay
+abbrev pub heard : Entry
+heard = thereafter higher (change 1 3)
+
+abbrev pub replayed : Entry
+replayed = thereafter heard (replay 0)
+
+abbrev pub retaken : Entry
+retaken = thereafter finished (delivery (mail 0 1 (Inv (stamp 2 2)) (67 ∷ [])))
+
+abbrev pub resettled : Entry
+resettled = thereafter replayed (delivery (mail 1 1 (Ack (stamp 2 2)) []))
+
+-- 1 takes the VAL
+abbrev pub shown : Entry
+shown = thereafter retaken (delivery (mail 0 1 (Val (stamp 2 2)) []))
 
 -- the list, the latest entry first
 abbrev pub list : List Entry
 list =
-    shownAgain ∷ settled ∷ takenAgain ∷ savedAgain ∷ shown ∷ heard ∷ finished ∷ struck ∷ counted ∷ taken ∷ saved ∷ []
+    shown ∷ resettled ∷ retaken ∷ replayed ∷ heard ∷ finished ∷ struck ∷ counted1 ∷ higher ∷ lower ∷ saved2 ∷ saved1
+    ∷ settled ∷ counted ∷ taken2 ∷ taken1 ∷ saved ∷ []
 
 -- 0 and 1 after it, and the group
 abbrev pub laptop0 : Node
-laptop0 = outcome shownAgain .node
+laptop0 = outcome resettled .node
 
 abbrev pub laptop1 : Node
-laptop1 = outcome settled .node
+laptop1 = outcome shown .node
 
 abbrev pub now : List Node
-now = laptop0 ∷ laptop1 ∷ fresh 2 ∷ []
+now = laptop0 ∷ laptop1 ∷ outcome saved2 .node ∷ []
 
 -- the premises of `Kept`: an accepted validation is in the list, and a laptop of its finisher's view shows the record valid after it
 pub record Finished (e : Entry) (other : Node) : Type 0 where
@@ -141,6 +156,7 @@ pub record SecondWitness : Type 0 where
   pub seen : InView (laptop0 .me .number) (laptop1 .me .view)
   pub shows : ShowsValid 0 laptop0
   pub shown : ShowsValid 0 laptop1
-  -- the second, of a Validate and of a last ACK
-  pub byValidate : Finished finished laptop1
-  pub byAck : Finished settled laptop0
+  -- the second, of a last ACK in write, of a Validate and of a last ACK in replay
+  pub inWrite : Finished settled laptop1
+  pub byValidate : Finished finished laptop0
+  pub inReplay : Finished resettled laptop1

@@ -12,6 +12,7 @@ use Rattle.hermes_record.specs.Order.{higher}
 use Rattle.hermes.specs.Node.{Node, recordOf, valueOf}
 use Rattle.hermes.specs.Run.{Action, read, write, replay, deliver, validate, resend, view, run}
 use Rattle.hermes.specs.Agreement.{Started, Entries, Sees, Shows, Validation, after, Agreement}
+use Rattle.hermes.specs.LastAck.{AllReplied, NoView}
 use Rattle.hermes.specs.Played.{three, issued, group, by, answers, Line, numbersOf, struckOff, story}
 
 -- a number for each kind of entry, to tell them apart
@@ -99,5 +100,9 @@ pub record Witness : Type 0 where
   pub struck : FinishedSave 16 1 (validate 0) 0
   pub replay : FinishedSave 23 0 (deliver 8) 1
   pub save : FinishedSave 33 1 (deliver 12) 0
+  -- the premise of `NobodyWaits`: 0 and 1 get no view at first, and do all else; and after its view 1 waits in vain
+  pub quiet0 : NoView 0 (take 18 story)
+  pub quiet1 : NoView 1 (take 14 story)
+  pub vain : AllReplied 0 (after higher group (take 16 story) 1)
   pub first : Holds (end 0)
   pub second : Holds (end 1)
