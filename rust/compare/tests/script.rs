@@ -142,6 +142,7 @@ fn wrong_players() {
         change(script, out, "8 V", "7 V")
     }
     for (wrong, lines) in [
+        // 12 lines would do: the group, a write and ten resends. The shrinker stops at one more.
         (logs as fn(&[u8], &mut [u8]) -> Played, 13),
         (states, 8),
         (text, 2),
