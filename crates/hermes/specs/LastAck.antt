@@ -55,6 +55,7 @@ LastAckSettles = (wins : ℕ → ℕ → Bool) (n : Node) (i : ℕ) (m : Receive
 abbrev pub AllReplied : ℕ → Node → Type 0
 AllReplied i n = Waits (recordOf i n) × EveryOther (n .me) (λ m. has (recordOf i n .acks) m ≡ true)
 
+-- 01, "An entry is a .. view event": the one that may leave a record waiting so
 abbrev pub IsView : Action → Type 0
 IsView (read i) = ⊥
 IsView (write i v) = ⊥

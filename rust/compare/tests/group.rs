@@ -105,16 +105,21 @@ fn play(group: &mut Group, entries: &[(usize, What, usize)]) -> Result<(), Strin
     group.check_all()
 }
 
-/// The fault of the first station. 0 has written; 1 has acknowledged; the view
-/// {0,1} of epoch 1 has come to 0 alone, which validates; its VAL reaches 1.
-fn station() -> Group {
+/// Laptops 0, 1 and 2 with one record each, all in the view, as they start.
+fn three() -> Group {
     let run = Run {
         numbers: vec![0, 1, 2],
         view: 7,
         records: 1,
         entries: vec![],
     };
-    let mut group = Group::start(&run, by_hand, on_table).expect("a fresh start");
+    Group::start(&run, by_hand, on_table).expect("a fresh start")
+}
+
+/// The fault of the first station. 0 has written; 1 has acknowledged; the view
+/// {0,1} of epoch 1 has come to 0 alone, which validates; its VAL reaches 1.
+fn station() -> Group {
+    let mut group = three();
     let own = |event| What::Own { i: 0, event };
     let value = Bytes(b"old ring".to_vec());
     let entries = [
@@ -200,13 +205,7 @@ fn the_check_of_separate_validations_can_fail() {
 /// view, not for its sender alone.
 #[test]
 fn the_last_acknowledgement_sends_to_all() {
-    let run = Run {
-        numbers: vec![0, 1, 2],
-        view: 7,
-        records: 1,
-        entries: vec![],
-    };
-    let mut group = Group::start(&run, by_hand, on_table).expect("a fresh start");
+    let mut group = three();
     let value = Bytes(b"ring".to_vec());
     let event = Event::Write { value };
     let entries = [
