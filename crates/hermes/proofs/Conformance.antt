@@ -24,19 +24,19 @@ use Rattle.hermes_record.specs.Members.{has, lowest, othersIn}
 use Rattle.hermes_record.specs.Order.{higher, later, sameTimestamp}
 use Rattle.hermes_record.specs.Record.{oneOf, invalidatedState, acknowledged, freshRecord}
 use Rattle.hermes.specs.Store.{slot}
-use Rattle.hermes.specs.Guards.{Question, AllYes, ask, firstNo, question1, question3, question8, question12, question15}
+use Rattle.hermes.specs.Guards.{Question, AllYes, ask, firstNo, question1, question3, question8, question12, question15, question16}
 use Rattle.hermes.specs.Event.{Step, invStep, ackStep, completes, resent, numberOf, answerOf, sentBy}
 use Rattle.hermes.specs.Node.{Node, Outcome, recordOf, leaving, apply, newcomer, startQuestions, start, view, viewed, viewQuestions, admissionOf, admissionNumber}
 use Rattle.hermes.specs.Frame.{bytesAfter, Changed}
 use Rattle.hermes.specs.Locality.{body}
 use Rattle.hermes.specs.Source as source
-use Rattle.hermes.specs.Source.{Vars, Sending, In, HInit, HReadGuard, HWriteGuard, HReplayWriteGuard, HRcvInvGuard, HRcvInv, HRcvAckGuard, HRcvAckThenSendVals, HRcvValGuard, HSendValsGuard, NodeFailureGuard, ResendGuard, Resent, sendInv}
+use Rattle.hermes.specs.Source.{Vars, Sending, In, HInit, HReadGuard, HWriteGuard, HReplayWriteWidened, HRcvInvGuard, HRcvInv, HRcvAckGuard, HRcvAckThenSendVals, HRcvValGuard, HSendValsGuard, NodeFailureGuard, ResendGuard, Resent, sendInv}
 use Rattle.hermes.specs.Conformance.{varsOf, fiveAnd, delivered, message, Follows, ViewFollows, StartFollows, Demand2By, Demand2}
 use Rattle.hermes_record.proofs.Tests.{both, and-both, is-false, or-true}
 use Rattle.hermes.proofs.Members.{has-zero, within-members, members-within, every-other, others-every, adds-sender}
 use Rattle.hermes_record.proofs.Order.{later-greater, greater-later}
 use Rattle.hermes.proofs.Store.{value-slot, take-padded}
-use Rattle.hermes.proofs.Guards.{DeliverOwn, ResendOwn, read-own, write-own, deliver-own, replay-own, resend-own, view-later, view-inside, all-yes, none-says-no}
+use Rattle.hermes.proofs.Guards.{DeliverOwn, ReplayOwn, ResendOwn, read-own, write-own, deliver-own, replay-own, resend-own, view-later, view-inside, all-yes, none-says-no}
 use Rattle.hermes.proofs.Steps.{next-version, step-about}
 use Rattle.hermes.proofs.Apply.{passed-zero, questionsOf, ownOf, stepOf, done, Applied, refused, accepted, applied, first-five, its-own, sound-step}
 use Rattle.hermes.proofs.Words.{one-in, in-one, is-state, state-is, equal-ts, ts-same, Two, size-two, two-size}
@@ -141,6 +141,23 @@ module _ (me : Replica) (r : Record) (b : List ℕ) where
   sends-may : HSendValsGuard me (seen r b) → question15 me r .yes ≡ true
   sends-may g = and-both _ _ (in-one (r .state) (state.Write ∷ state.Replay ∷ []) (g .0)) (every-other (me .number) (me .view) (r .acks) (g .1))
 
+-- question 16 is the guard of HReplayWrite, widened
+module _ (me : Replica) (r : Record) (b : List ℕ) where
+  may-replay : ReplayOwn me r → HReplayWriteWidened me (seen r b)
+  may-replay o = go (one-in (r .state) (state.Invalid ∷ state.InvalidWrite ∷ []) (o .invalid))
+    where
+      dead : has (me .view) (r .writer) ≡ true → ⊥
+      dead h = false≢true (sym (o .gone) ∙ h)
+
+      go : In (r .state) (state.Invalid ∷ state.InvalidWrite ∷ []) → HReplayWriteWidened me (seen r b)
+      go (inl e) = inl (e, dead)
+      go (inr (inl e)) = inr (e, dead)
+      go (inr (inr e)) = absurd e
+
+  replays-may : HReplayWriteWidened me (seen r b) → question16 me r .yes ≡ true
+  replays-may (inl (e, dead)) = and-both _ _ (in-one (r .state) (state.Invalid ∷ state.InvalidWrite ∷ []) (inl e)) (ap not (is-false (has (me .view) (r .writer)) dead))
+  replays-may (inr (e, dead)) = and-both _ _ (in-one (r .state) (state.Invalid ∷ state.InvalidWrite ∷ []) (inr (inl e))) (ap not (is-false (has (me .view) (r .writer)) dead))
+
 module _ (wins : ℕ → ℕ → Bool) (n : Node) (i : ℕ) (v : List ℕ) where
   follows-read : Follows wins n i Read v (fiveAnd n i []) HReadGuard source.HRead
   follows-read = follows wins n i Read v (fiveAnd n i []) HReadGuard source.HRead
@@ -164,11 +181,10 @@ module _ (wins : ℕ → ℕ → Bool) (n : Node) (i : ℕ) (v : List ℕ) where
         send = refl;
       })
 
-  follows-replay : Follows wins n i Replay v (fiveAnd n i []) (HReplayWriteGuard (n .me)) (source.HReplayWrite (n .me) i)
-  follows-replay = follows wins n i Replay v (fiveAnd n i []) (HReplayWriteGuard (n .me)) (source.HReplayWrite (n .me) i)
-      (λ y. let o = replay-own (n .me) (recordOf i n) (length v) (its-own n i Replay v y) in
-      (five wins n i Replay v [] y tt, (is-state (recordOf i n .state) state.Invalid (o .invalid), λ h. false≢true (sym (o .gone) ∙ h))))
-      (λ g. back wins n i Replay v [] (g .0) (and-both _ _ (state-is (recordOf i n .state) state.Invalid (g .1 .0)) (ap not (is-false (has (n .me .view) (recordOf i n .writer)) (g .1 .1))), tt))
+  follows-replay : Follows wins n i Replay v (fiveAnd n i []) (HReplayWriteWidened (n .me)) (source.HReplayWrite (n .me) i)
+  follows-replay = follows wins n i Replay v (fiveAnd n i []) (HReplayWriteWidened (n .me)) (source.HReplayWrite (n .me) i)
+      (λ y. (five wins n i Replay v [] y tt, may-replay (n .me) (recordOf i n) [] (replay-own (n .me) (recordOf i n) (length v) (its-own n i Replay v y))))
+      (λ g. back wins n i Replay v [] (g .0) (replays-may (n .me) (recordOf i n) [] (g .1), tt))
       (λ y. record { nodeLastWriter = refl; nodeState = refl; nodeRcvdAcks = has-zero; nodeLastWriteTS = refl; nodeTS = refl; value = refl; send = refl })
 
   follows-validate : Follows wins n i Validate v (fiveAnd n i []) (HSendValsGuard (n .me)) (source.HSendVals (n .me) i)

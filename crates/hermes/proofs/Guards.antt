@@ -132,7 +132,7 @@ pub record ValidateOwn (me : Replica) (r : Record) : Type 0 where
   pub acknowledged : othersIn (me .number) (me .view) (r .acks) ≡ true
 
 pub record ReplayOwn (me : Replica) (r : Record) : Type 0 where
-  pub invalid : oneOf (r .state) (state.Invalid ∷ []) ≡ true
+  pub invalid : oneOf (r .state) (state.Invalid ∷ state.InvalidWrite ∷ []) ≡ true
   pub gone : has (me .view) (r .writer) ≡ false
 
 -- question 17: something is under way, or the replica wrote what the record shows
@@ -174,7 +174,7 @@ module _ (me : Replica) (r : Record) where
 
   pub replay-own : (n : ℕ) → AllYes (own me r Replay n) → ReplayOwn me r
   replay-own n y =
-      let (p, q) = both (oneOf (r .state) (state.Invalid ∷ [])) (not (has (me .view) (r .writer))) (y .0) in
+      let (p, q) = both (oneOf (r .state) (state.Invalid ∷ state.InvalidWrite ∷ [])) (not (has (me .view) (r .writer))) (y .0) in
       record { invalid = p; gone = not-true _ q }
 
   pub resend-own : (n : ℕ) → AllYes (own me r Resend n) → ResendOwn me r

@@ -110,9 +110,9 @@ question14 t r = ask 14 (not (oneOf (r .state) (Valid ∷ [])) && sameTimestamp 
 abbrev pub question15 : Replica → Record → Question
 question15 me r = ask 15 (oneOf (r .state) (Write ∷ Replay ∷ []) && othersIn (me .number) (me .view) (r .acks))
 
--- 16: state invalid, and last writer not in the view?
+-- 16: "invalid or invalid-write, and last writer not in the view" (02, Wish 2; invalid-write is the Wish's)
 abbrev pub question16 : Replica → Record → Question
-question16 me r = ask 16 (oneOf (r .state) (Invalid ∷ []) && not (has (me .view) (r .writer)))
+question16 me r = ask 16 (oneOf (r .state) (Invalid ∷ InvalidWrite ∷ []) && not (has (me .view) (r .writer)))
 
 -- 17: write or replay, or valid with self as last writer?
 abbrev pub question17 : Replica → Record → Question

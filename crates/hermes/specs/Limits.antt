@@ -281,14 +281,16 @@ limits =
     ∷ event Validate (countedBy (5 ∷ []) state.Replay) 0 15
     ∷ asks (laptop 2 (set (1 ∷ 2 ∷ []))) 1 192 0 (countedBy (1 ∷ []) state.Write) Validate 0 0
     ∷ asks (laptop 2 (set (1 ∷ 2 ∷ []))) 1 192 0 (countedBy (1 ∷ []) state.Replay) Validate 0 0
-    -- 16: state invalid, and last writer not in the view?
+    -- 16: invalid or invalid-write, and last writer not in the view? (02, Wish 2)
     ∷ event Replay (lastBy 3 state.Valid) 0 16
     ∷ event Replay (lastBy 3 state.Invalid) 0 0
-    ∷ event Replay (lastBy 3 state.InvalidWrite) 0 16
+    ∷ event Replay (lastBy 3 state.InvalidWrite) 0 0
     ∷ event Replay (lastBy 3 state.Write) 0 16
     ∷ event Replay (lastBy 3 state.Replay) 0 16
     ∷ event Replay (lastBy 5 state.Invalid) 0 16
     ∷ event Replay (lastBy 2 state.Invalid) 0 16
+    ∷ event Replay (lastBy 5 state.InvalidWrite) 0 16
+    ∷ event Replay (lastBy 2 state.InvalidWrite) 0 16
     -- 17: write or replay, or valid with self as last writer?
     ∷ event Resend (lastBy 2 state.Valid) 0 0
     ∷ event Resend (lastBy 2 state.Invalid) 0 17

@@ -86,6 +86,13 @@ ringing =
     -- no rows of the paper: how an event leads there, once a view is without 5; a replay empties the acknowledgements
     ∷ row (fresh (inv 1 5 5 0 ∷ turns 1 6 ∷ [])) (does Replay []) (answers 0 ∷ leaves state.Replay ∷ stamps 1 5 ∷ lastWriter 2 ∷ lastWrite 1 5 ∷ acknowledgedBy 0 ∷ holding brought ∷ sends (invOf 1 5) ∷ [])
     ∷ row (fresh (save ∷ ack 1 2 1 0 ∷ inv 1 5 5 0 ∷ val 1 5 5 0 ∷ inv 2 5 5 0 ∷ turns 1 6 ∷ [])) (does Replay []) (answers 0 ∷ leaves state.Replay ∷ stamps 2 5 ∷ lastWriter 2 ∷ lastWrite 2 5 ∷ acknowledgedBy 0 ∷ holding brought ∷ sends (invOf 2 5) ∷ [])
+    -- 02, Wish 2: the same in invalid-write, its own save (1,2) acknowledged by 1; with 5 in the view: 16
+    ∷ row (fresh (save ∷ ack 1 2 1 0 ∷ inv 1 5 5 0 ∷ turns 1 6 ∷ [])) (does Replay []) (answers 0 ∷ leaves state.Replay ∷ stamps 1 5 ∷ lastWriter 2 ∷ lastWrite 1 5 ∷ acknowledgedBy 0 ∷ holding brought ∷ sends (invOf 1 5) ∷ [])
+    ∷ row (fresh (save ∷ ack 1 2 1 0 ∷ inv 1 5 5 0 ∷ [])) (does Replay []) (answers 16 ∷ unchanged ∷ silent ∷ [])
+    -- "The laptop's own overtaken save is given up": an ACK of it, 13; that of (1,5) is the last; and a greater INV: invalid, not invalid-write
+    ∷ row (fresh (save ∷ inv 1 5 5 0 ∷ turns 1 6 ∷ does Replay [] ∷ [])) (ack 1 2 1 1) (answers 13 ∷ unchanged ∷ silent ∷ [])
+    ∷ row (fresh (save ∷ inv 1 5 5 0 ∷ turns 1 6 ∷ does Replay [] ∷ [])) (ack 1 5 1 1) (answers 0 ∷ leaves state.Valid ∷ stamps 1 5 ∷ lastWriter 2 ∷ lastWrite 1 5 ∷ acknowledgedBy 2 ∷ holding brought ∷ sends (valOf 1 5) ∷ [])
+    ∷ row (fresh (save ∷ inv 1 5 5 0 ∷ turns 1 6 ∷ does Replay [] ∷ [])) (inv 2 1 1 1) (answers 0 ∷ leaves state.Invalid ∷ stamps 2 1 ∷ lastWriter 1 ∷ lastWrite 1 5 ∷ acknowledgedBy 0 ∷ holding brought ∷ sends (ackOf 2 1) ∷ [])
     -- ACK (1,2) from 5: counted; a second time: 13
     ∷ row (fresh (save ∷ [])) (ack 1 2 5 0) (answers 0 ∷ leaves state.Write ∷ stamps 1 2 ∷ lastWriter 2 ∷ lastWrite 1 2 ∷ acknowledgedBy 32 ∷ holding saved ∷ silent ∷ [])
     ∷ row (fresh (save ∷ ack 1 2 5 0 ∷ [])) (ack 1 2 5 0) (answers 13 ∷ unchanged ∷ silent ∷ [])

@@ -99,9 +99,9 @@ pub fn question16(me: Replica, r: Record) -> Asked
     ensures { λ a. ⌜ a ≡ asked (question16 me r ∷ []) r ⌝ }
 {
     let s = r.state;
-    let invalid = states::is_invalid(s);
+    let invalidated = states::is_invalidated(s);
     let present = replica_members::has(me.view, r.writer);
-    question(16, invalid & !present, r)
+    question(16, invalidated & !present, r)
 }
 
 // Write and replay by themselves: the compiler then goes from here straight to the INV that leaves.

@@ -34,10 +34,12 @@ pub(crate) fn is_valid(s: State) -> bool
     code(s) == VALID
 }
 
-pub(crate) fn is_invalid(s: State) -> bool
-    ensures { λ r. ⌜ r ≡ oneOf s (Invalid ∷ []) ⌝ }
+// Invalid or invalid-write: another replica's save stands here, not yet validated.
+pub(crate) fn is_invalidated(s: State) -> bool
+    ensures { λ r. ⌜ r ≡ oneOf s (Invalid ∷ InvalidWrite ∷ []) ⌝ }
 {
-    code(s) == INVALID
+    let c = code(s);
+    (c == INVALID) | (c == INVALID_WRITE)
 }
 
 // Write or replay: this replica's own invalidation is out.
