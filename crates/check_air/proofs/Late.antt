@@ -19,7 +19,7 @@ use Rattle.hermes.specs.declared.event.Event.{Event}
 use Rattle.hermes.specs.declared.event.Event.the-variants.{Read, Write, Replay, Deliver, Validate, Resend}
 use Rattle.hermes_record.specs.Order.{higher, later, sameTimestamp, NotAfter, equal, rises}
 use Rattle.hermes_record.proofs.Tests.{both}
-use Rattle.hermes_record.proofs.Order.{higher-order, same-equal, later-greater, greater-later, notAfter-trans, notAfter-antisym}
+use Rattle.hermes_record.proofs.Order.{higher-order, same-equal, greater-later, later-apart, notAfter-trans, notAfter-antisym}
 use Rattle.hermes.specs.Guards.{AllYes}
 use Rattle.hermes.specs.Kind as kind
 use Rattle.hermes.specs.Store.{slot, valueAt}
@@ -71,14 +71,6 @@ module _ (i : ℕ) where
 
 -- ---- an event
 
--- a timestamp is not greater than itself
-not-itself : (s t : Timestamp) → later higher s t ≡ true → t ≡ s → ⊥
-not-itself s t g e = go (later-greater higher s t g)
-  where
-    go : (t .version < s .version) ⊎ ((s .version ≡ t .version) × (higher (s .tie) (t .tie) ≡ true)) → ⊥
-    go (inl h) = omega (arith, ap (λ (x : Timestamp). x .version) e)
-    go (inr (p, q)) = omega (arith, ltb-true (t .tie) (s .tie) q, ap (λ (x : Timestamp). x .tie) e)
-
 -- what a step does to timestamp, length and bytes: nothing, or the timestamp rises
 abbrev Keeps : Record → Step → Type 0
 Keeps r s = (s .after .timestamp ≡ r .timestamp) × (s .after .len ≡ r .len) × (s .stored ≡ kept)
@@ -122,7 +114,7 @@ event-since i n k e v = go (apply higher n k e v) (applied higher n k e v)
         stays k n (done n k s) (ap (λ (r : Record). r .timestamp) (c .here) ∙ t) (ap (λ (r : Record). r .len) (c .here) ∙ l) (c .bytes ∙ ap (λ (x : Stored). bytesAfter x (slot k (n .store))) b)
     here c (inr g) =
         let up : later higher (recordOf k (done n k s) .timestamp) (recordOf k n .timestamp) ≡ true = rw (c .here) g in
-        record { up = rises up; text = λ same. absurd (not-itself _ _ up same) }
+        record { up = rises up; text = λ same. absurd (later-apart higher higher-order _ _ up same) }
 
     go : (o : Outcome) → Applied higher n k e v o → Since i n (o .node)
     go o (refused z q p) = rw p (since-refl i n)

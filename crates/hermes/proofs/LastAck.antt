@@ -25,8 +25,7 @@ use Rattle.hermes_record.specs.Record.{oneOf, invalidatedState, acknowledged, f
 use Rattle.hermes.specs.Guards.{question1}
 use Rattle.hermes.specs.Event.{Step, invStep, ackStep, completes, deliverStep, step, send, numberOf}
 use Rattle.hermes.specs.Node.{Node, Outcome, recordOf, apply}
-use Rattle.hermes.specs.Run as run
-use Rattle.hermes.specs.Run.{Action, Entry, Group, Found, find, received, nodeAfter, perform, delivery, result, advance}
+use Rattle.hermes.specs.Run.{Entry, Group}
 use Rattle.hermes.specs.Agreement.{FreshStart, Started, after}
 use Rattle.hermes.specs.LastAck.{Waits, EveryOther, Completes, AckDone, LastAckSettles, AllReplied, IsView, NoView, NobodyWaits}
 use Rattle.hermes_record.proofs.Tests.{both, and-both}
@@ -35,7 +34,7 @@ use Rattle.hermes.proofs.Guards.{deliver-own}
 use Rattle.hermes.proofs.Words.{Two, size-two}
 use Rattle.hermes.proofs.Apply.{stepOf, done, Applied, refused, accepted, applied, its-own}
 use Rattle.hermes.proofs.Start.{Begun, begun}
-use Rattle.hermes.proofs.Agreement.{at-who, at-other}
+use Rattle.hermes.proofs.Along.{fresh-record, along}
 
 -- ---- question 15, in the words of the statements
 
@@ -149,56 +148,16 @@ module _ (wins : ℕ → ℕ → Bool) (me : Replica) (i : ℕ) (r : Record) (be
   step-keeps Validate v = idle me (step wins me i r Validate v .after) refl
   step-keeps Resend v = before
 
--- an event on record j, as record i sees it
-event-keeps : (wins : ℕ → ℕ → Bool) (n : Node) (j : ℕ) (e : Event) (v : List ℕ) (i : ℕ) → (AllReplied i n → ⊥) → AllReplied i (apply wins n j e v .node) → ⊥
-event-keeps wins n j e v i before = go (apply wins n j e v) (applied wins n j e v)
-  where
-    go : (o : Outcome) → Applied wins n j e v o → AllReplied i (o .node) → ⊥
-    go o (refused k z q) = rw q before
-    go o (accepted y c q) = rw q (side (ℕ-discrete i j))
-      where
-        s : Step
-        s = stepOf wins n j e v
-
-        side : Dec (i ≡ j) → AllReplied i (done n j s) → ⊥
-        side (yes d) = rw (d, c .here) (step-keeps wins (n .me) j (recordOf j n) (rw d at before) (y .0) e v)
-        side (no d) = rw (c .others i d) before
-
-module _ (wins : ℕ → ℕ → Bool) (i : ℕ) where
-  entry-keeps : (a : Action) (log : List run.Logged) (n : Node) → (IsView a → ⊥) → (AllReplied i n → ⊥) → AllReplied i (nodeAfter (perform wins a log n) n) → ⊥
-  entry-keeps (run.read j) log n f = event-keeps wins n j Read [] i
-  entry-keeps (run.write j v) log n f = event-keeps wins n j Write v i
-  entry-keeps (run.replay j) log n f = event-keeps wins n j Replay [] i
-  entry-keeps (run.deliver k) log n f = go (find log k)
-    where
-      go : (x : Found) → (AllReplied i n → ⊥) → AllReplied i (nodeAfter (delivery wins x n) n) → ⊥
-      go run.missing = λ before. before
-      go (run.found x) = event-keeps wins n (x .header .index) (Deliver (received x)) (x .body) i
-  entry-keeps (run.validate j) log n f = event-keeps wins n j Validate [] i
-  entry-keeps (run.resend j) log n f = event-keeps wins n j Resend [] i
-  entry-keeps (run.view epoch set) log n f = absurd (f tt)
-
-  later-none : (k : ℕ) (g : Group) → (AllReplied i (g .at k) → ⊥) → (entries : List Entry) → NoView k entries → AllReplied i (after wins g entries k) → ⊥
-  unfolding result
-  later-none k g before [] f = before
-  later-none k g before (a ∷ rest) (f, fs) = later-none k (advance wins g a) (side (ℕ-discrete k (a .who))) rest fs
-    where
-      side : Dec (k ≡ a .who) → AllReplied i (advance wins g a .at k) → ⊥
-      side (yes e) = rw (e, at-who wins g a) (entry-keeps (a .what) (g .log) (g .at (a .who)) (f (sym e)) (rw e at before))
-      side (no d) = rw (at-other wins g a k d) before
+later-none : (wins : ℕ → ℕ → Bool) (i k : ℕ) (g : Group) → (AllReplied i (g .at k) → ⊥) → (entries : List Entry) → NoView k entries → AllReplied i (after wins g entries k) → ⊥
+later-none wins i k g before entries f =
+    along wins i (λ me r. Replied me r → ⊥) (λ n e v y none. step-keeps wins (n .me) i (recordOf i n) none (y .0) e v)
+    (λ a. IsView a → ⊥) (λ n epoch set no-view none. absurd (no-view tt))
+    k (NoView k) (λ a rest fs. fs) g before entries f
 
 -- a fresh record is valid
 fresh-none : (member : ℕ → Bool) (count : ℕ) (issued : ℕ → ℕ) (g : Group) → Started member count issued g → (i k : ℕ) → i < count → member k ≡ true → AllReplied i (g .at k) → ⊥
-fresh-none member count issued g s i k l m h = idle (g .at k .me) (recordOf i (g .at k)) (ap (λ (r : Record). oneOf (r .state) (state.Write ∷ state.Replay ∷ [])) fresh) h
-  where
-    f : FreshStart count issued k (g .at k)
-    f = s .fresh k m
-
-    b : Begun k (issued 0) (f .table) (f .store) (g .at k .me)
-    b = begun k (issued 0) (f .table) (f .store) (g .at k .me) (f .accepted)
-
-    fresh : recordOf i (g .at k) ≡ freshRecord (lowest (issued 0))
-    fresh = rw (f .tableAfter, b .tableAfter) (getD-replicate (length (f .table)) i _ _ (omega (arith, f .records)))
+fresh-none member count issued g s i k l m h =
+    idle (g .at k .me) (recordOf i (g .at k)) (ap (λ (r : Record). oneOf (r .state) (state.Write ∷ state.Replay ∷ [])) (fresh-record member count issued g s i k l m)) h
 
 pub nobody-waits : NobodyWaits
 nobody-waits = record { fresh = fresh-none; later = λ wins g i k before entries f. later-none wins i k g before entries f }

@@ -12,7 +12,9 @@ pub mod Protocol
 pub mod Refine
 pub mod Agreement
 pub mod Sound
+pub mod Along
 pub mod LastAck
+pub mod Overtaken
 pub mod SecondReading
 pub mod SecondPremises
 pub mod Premises

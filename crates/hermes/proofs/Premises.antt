@@ -52,13 +52,13 @@ story-entries =
     (refl, tt, (refl, tt, (refl, tt, (refl, tt, (refl, tt, (refl, tt, (refl, tt, (refl, tt, (refl, tt, (refl, tt, second))))))))))
   where
     fourth : Entries three issued (drop 30 story)
-    fourth = (refl, tt, (refl, tt, (refl, tt, (refl, tt, (refl, tt, (refl, tt, tt))))))
+    fourth = (refl, tt, (refl, tt, (refl, tt, (refl, tt, (refl, tt, (refl, tt, (refl, tt, tt)))))))
 
     third : Entries three issued (drop 20 story)
-    third = (refl, tt, (refl, tt, (refl, tt, (refl, tt, (refl, tt, (refl, tt, (refl, tt, (refl, tt, (refl, refl, (refl, tt, fourth))))))))))
+    third = (refl, tt, (refl, tt, (refl, tt, (refl, tt, (refl, tt, (refl, tt, (refl, tt, (refl, tt, (refl, tt, (refl, refl, fourth))))))))))
 
     second : Entries three issued (drop 10 story)
-    second = (refl, tt, (refl, tt, (refl, tt, (refl, tt, (refl, refl, (refl, refl, (refl, tt, (refl, tt, (refl, refl, (refl, tt, third))))))))))
+    second = (refl, tt, (refl, tt, (refl, tt, (refl, tt, (refl, tt, (refl, refl, (refl, refl, (refl, tt, (refl, tt, (refl, refl, third))))))))))
 
 every-kind : (a : Action) → BothWays (kind a) struckOff
 every-kind (run.read i) = (refl, refl)
@@ -88,13 +88,14 @@ witness = record {
   gone = refl;
   screens = record { members = (refl, refl); apart = λ e. omega arith; sees = refl; seen = refl; shows = refl; shown = refl };
   struck = record { members = (refl, refl); apart = λ e. omega arith; split = refl; validation = validates refl refl; sees = refl; shown = refl };
-  replay = record { members = (refl, refl); apart = λ e. omega arith; split = refl; validation = acknowledges 8 _ _ refl refl refl refl refl refl; sees = refl; shown = refl };
-  save = record { members = (refl, refl); apart = λ e. omega arith; split = refl; validation = acknowledges 12 _ _ refl refl refl refl refl refl; sees = refl; shown = refl };
+  replay = record { members = (refl, refl); apart = λ e. omega arith; split = refl; validation = acknowledges 9 _ _ refl refl refl refl refl refl; sees = refl; shown = refl };
+  save = record { members = (refl, refl); apart = λ e. omega arith; split = refl; validation = acknowledges 13 _ _ refl refl refl refl refl refl; sees = refl; shown = refl };
   quiet0 =
-      (calm, (calm, (calm, (calm, (calm, (calm, (calm, (calm, (calm, (calm, (calm, (calm, (calm, (calm, (λ e v. omega arith, (λ e v. omega arith, (calm, (calm, tt))))))))))))))))));
+      (calm, (calm, (calm, (calm, (calm, (calm, (calm, (calm, (calm, (calm, (calm, (calm, (calm, (calm, (calm, (λ e v. omega arith, (λ e v. omega arith, (calm, (calm, tt)))))))))))))))))));
   quiet1 =
-      (calm, (calm, (calm, (calm, (calm, (calm, (calm, (calm, (calm, (calm, (calm, (calm, (calm, (calm, tt))))))))))))));
+      (calm, (calm, (calm, (calm, (calm, (calm, (calm, (calm, (calm, (calm, (calm, (calm, (calm, (calm, (calm, tt)))))))))))))));
   vain = (inl refl, others-every 1 3 1 refl);
+  overtaken = record { member = refl; split = refl; given = record { invalidWrite = refl; accepted = refl }; save = refl };
   first = record { timestamp = refl; text = refl };
   second = record { timestamp = refl; text = refl };
 }

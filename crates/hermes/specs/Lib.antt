@@ -13,6 +13,7 @@ pub mod Conformance
 pub mod Agreement
 pub mod SecondReading
 pub mod LastAck
+pub mod Overtaken
 pub mod Reads
 pub mod Played
 pub mod Witness

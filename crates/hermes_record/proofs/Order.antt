@@ -104,6 +104,24 @@ module _ (wins : ℕ → ℕ → Bool) (ord : TieOrder wins) where
   pub notAfter-antisym : {s t : Timestamp} → NotAfter wins s t → NotAfter wins t s → s ≡ t
   notAfter-antisym {s} {t} h k = before-antisym s t (facts wins s t h) (facts wins t s k)
 
+  -- `later` is strict
+  pub later-trans : (s t u : Timestamp) → later wins s t ≡ true → later wins t u ≡ true → later wins s u ≡ true
+  later-trans s t u h k = greater-later wins s u (go (later-greater wins s t h) (later-greater wins t u k))
+    where
+      go : (t .version < s .version) ⊎ ((s .version ≡ t .version) × (wins (s .tie) (t .tie) ≡ true)) → (u .version < t .version) ⊎ ((t .version ≡ u .version) × (wins (t .tie) (u .tie) ≡ true))
+          → (u .version < s .version) ⊎ ((s .version ≡ u .version) × (wins (s .tie) (u .tie) ≡ true))
+      go (inl a) (inl b) = inl (omega arith)
+      go (inl a) (inr (p, q)) = inl (omega arith)
+      go (inr (p, q)) (inl b) = inl (omega arith)
+      go (inr (p, q)) (inr (p′, q′)) = inr (p ∙ p′, ord .transitive _ _ _ q q′)
+
+  pub later-apart : (s t : Timestamp) → later wins s t ≡ true → t ≡ s → ⊥
+  later-apart s t h e = go (later-greater wins s t h)
+    where
+      go : (t .version < s .version) ⊎ ((s .version ≡ t .version) × (wins (s .tie) (t .tie) ≡ true)) → ⊥
+      go (inl l) = omega (arith, ap (λ (x : Timestamp). x .version) e)
+      go (inr (p, q)) = false≢true (sym (ord .irreflexive (s .tie)) ∙ subst (λ (x : Timestamp). wins (s .tie) (x .tie) ≡ true) e q)
+
   -- the order is total: what is not later is not after
   pub notAfter-total : (s t : Timestamp) → later wins s t ≡ false → NotAfter wins s t
   notAfter-total s t g = go (ltb (s .version) (t .version)) refl (eqb (s .tie) (t .tie)) refl

@@ -1,0 +1,99 @@
+-- What every accepted event on record i keeps, of a replica with that record, holds along every list of entries; and the record that a list begins with.
+use Prim.Native.Nat.{ℕ, zero, suc, _<_}
+use mathlib.Core.Path.{_≡_, refl, sym}
+use mathlib.Core.Bool.{Bool, true}
+use mathlib.Core.List.{List, [], _∷_}
+use native.Mathlib.Omega.{arith}
+use native.Mathlib.Decide.{ℕ-discrete}
+use lib.ListN.{length, getD-replicate}
+use Rattle.hermes_record.specs.declared.record.Record.{Record}
+use Rattle.hermes.specs.declared.event.Replica.{Replica}
+use Rattle.hermes.specs.declared.event.Event.{Event}
+use Rattle.hermes.specs.declared.event.Event.the-variants.{Read, Write, Replay, Deliver, Validate, Resend}
+use Rattle.hermes_record.specs.Members.{lowest}
+use Rattle.hermes_record.specs.Record.{freshRecord}
+use Rattle.hermes.specs.Guards.{AllYes, firstNo}
+use Rattle.hermes.specs.Event.{Step}
+use Rattle.hermes.specs.Node.{Node, Outcome, recordOf, apply, identity, admissionOf, viewQuestions, view, viewed}
+use Rattle.hermes.specs.Run as run
+use Rattle.hermes.specs.Run.{Action, Entry, Group, Found, find, received, nodeAfter, perform, delivery, result, advance}
+use Rattle.hermes.specs.Agreement.{FreshStart, Started, after}
+use Rattle.hermes.proofs.Apply.{questionsOf, stepOf, done, Applied, refused, accepted, applied}
+use Rattle.hermes.proofs.Start.{Begun, begun}
+use Rattle.hermes.proofs.Agreement.{at-who, at-other}
+
+pub fresh-record : (member : ℕ → Bool) (count : ℕ) (issued : ℕ → ℕ) (g : Group) → Started member count issued g
+    → (i k : ℕ) → i < count → member k ≡ true → recordOf i (g .at k) ≡ freshRecord (lowest (issued 0))
+fresh-record member count issued g s i k l m = rw (f .tableAfter, b .tableAfter) (getD-replicate (length (f .table)) i _ _ (omega (arith, f .records)))
+  where
+    f : FreshStart count issued k (g .at k)
+    f = s .fresh k m
+
+    b : Begun k (issued 0) (f .table) (f .store) (g .at k .me)
+    b = begun k (issued 0) (f .table) (f .store) (g .at k .me) (f .accepted)
+
+-- P is the property; a list passes `May` if its entries of replica k may be in it, and each such entry passes `Fine`
+module _ (wins : ℕ → ℕ → Bool) (i : ℕ) (P : Replica → Record → Type 0)
+    (steps : (n : Node) (e : Event) (v : List ℕ) → AllYes (questionsOf n i e v) → P (n .me) (recordOf i n) → P (n .me) (stepOf wins n i e v .after))
+    (Fine : Action → Type 0)
+    (views : (n : Node) (epoch set : ℕ) → Fine (run.view epoch set) → P (n .me) (recordOf i n) → P (viewed n epoch set .node .me) (recordOf i (viewed n epoch set .node))) where
+  abbrev Holds : Node → Type 0
+  Holds n = P (n .me) (recordOf i n)
+
+  -- an event on record j, as record i sees it
+  event-keeps : (n : Node) (j : ℕ) (e : Event) (v : List ℕ) → Holds n → Holds (apply wins n j e v .node)
+  event-keeps n j e v before = go (apply wins n j e v) (applied wins n j e v)
+    where
+      s : Step
+      s = stepOf wins n j e v
+
+      go : (o : Outcome) → Applied wins n j e v o → Holds (o .node)
+      go o (refused k z q) = rw q before
+      go o (accepted y c q) = rw q (side (ℕ-discrete i j))
+        where
+          side : Dec (i ≡ j) → Holds (done n j s)
+          side (yes d) = rw (d, c .here) (rw d at (steps n e v (rw d y) before))
+          side (no d) = rw (c .others i d) before
+
+  entry-keeps : (a : Action) (log : List run.Logged) (n : Node) → Fine a → Holds n → Holds (nodeAfter (perform wins a log n) n)
+  entry-keeps (run.read j) log n f = event-keeps n j Read []
+  entry-keeps (run.write j v) log n f = event-keeps n j Write v
+  entry-keeps (run.replay j) log n f = event-keeps n j Replay []
+  entry-keeps (run.deliver k) log n f = go (find log k)
+    where
+      go : (x : Found) → Holds n → Holds (nodeAfter (delivery wins x n) n)
+      go run.missing = λ before. before
+      go (run.found x) = event-keeps n (x .header .index) (Deliver (received x)) (x .body)
+  entry-keeps (run.validate j) log n f = event-keeps n j Validate []
+  entry-keeps (run.resend j) log n f = event-keeps n j Resend []
+  entry-keeps (run.view epoch set) log n f = views n epoch set f
+
+  pub along : (k : ℕ) (May : List Entry → Type 0) → ((a : Entry) (rest : List Entry) → May (a ∷ rest) → (a .who ≡ k → Fine (a .what)) × May rest)
+      → (g : Group) → Holds (g .at k) → (entries : List Entry) → May entries → Holds (after wins g entries k)
+  unfolding result
+  along k May split g before [] m = before
+  along k May split g before (a ∷ rest) m = along k May split (advance wins g a) (side (ℕ-discrete k (a .who))) rest (split a rest m .1)
+    where
+      side : Dec (k ≡ a .who) → Holds (advance wins g a .at k)
+      side (yes e) = rw (e, at-who wins g a) (entry-keeps (a .what) (g .log) (g .at (a .who)) (split a rest m .0 (sym e)) (rw e at before))
+      side (no d) = rw (at-other wins g a k d) before
+
+-- a change of view leaves the number
+viewed-number : (n : Node) (epoch set : ℕ) → viewed n epoch set .node .me .number ≡ n .me .number
+unfolding viewed view
+viewed-number n epoch set = go (firstNo (viewQuestions (n .me) epoch set))
+  where
+    go : (z : ℕ) → identity (admissionOf z (record { number = n .me .number; epoch = epoch; view = set })) (n .me) .number ≡ n .me .number
+    go zero = refl
+    go (suc z) = refl
+
+-- the same of a property that looks at no view: it holds after every list
+module _ (wins : ℕ → ℕ → Bool) (i : ℕ) (P : ℕ → Record → Type 0)
+    (steps : (n : Node) (e : Event) (v : List ℕ) → AllYes (questionsOf n i e v) → P (n .me .number) (recordOf i n) → P (n .me .number) (stepOf wins n i e v .after)) where
+  view-keeps : (n : Node) (epoch set : ℕ) → P (n .me .number) (recordOf i n) → P (viewed n epoch set .node .me .number) (recordOf i (viewed n epoch set .node))
+  unfolding viewed
+  view-keeps n epoch set h = rw (viewed-number n epoch set) h
+
+  pub always : (k : ℕ) (g : Group) → P (g .at k .me .number) (recordOf i (g .at k)) → (entries : List Entry) → P (after wins g entries k .me .number) (recordOf i (after wins g entries k))
+  always k g before entries =
+      along wins i (λ me r. P (me .number) r) steps (λ a. Unit) (λ n epoch set f. view-keeps n epoch set) k (λ l. Unit) (λ a rest m. (λ e. tt, tt)) g before entries tt
