@@ -77,7 +77,7 @@ module _ (wins : ℕ → ℕ → Bool) (me : Replica) (i : ℕ) (r : Record) (sm
     after = record { short = leb-true (length v) 192 (y .1 .0); tie = small; own-tie = small; writer = small; uncounted = search has-zero };
     fits = leb-true (length v) 192 (y .1 .0);
   }
-  step-sound Replay v y = record { after = record { short = ok .short; tie = ok .tie; own-tie = ok .tie; writer = small; uncounted = search has-zero }; fits = tt }
+  step-sound Replay v y = record { after = record { short = ok .short; tie = search ok; own-tie = search ok; writer = small; uncounted = search has-zero }; fits = tt }
   step-sound (Deliver m) v y =
       let (p, q) = both (has (me .view) (m .sender)) (not (eqb (m .sender) (me .number))) (y .1 .0) in
       deliver-sound (m .sender) (m .message) v p (not-true _ q) (y .1 .1 .0)
