@@ -1,24 +1,33 @@
--- What every accepted event on record i keeps, of a replica with that record, holds along every list of entries; and the record that a list begins with.
-use Prim.Native.Nat.{ℕ, zero, suc, _<_}
+-- What every accepted event keeps of its record holds along every list of entries. Here is what an event makes of its record, case by case, and the
+-- record that a list begins with; who has shown that the cases keep something needs not look at lists.
+use Prim.Native.Nat.{ℕ, zero, suc, _+_, _<_}
 use mathlib.Core.Path.{_≡_, refl, sym}
-use mathlib.Core.Bool.{Bool, true}
+use mathlib.Core.Bool.{Bool, true, false}
+use mathlib.Core.Logic.{_≢_}
 use mathlib.Core.List.{List, [], _∷_}
 use native.Mathlib.Omega.{arith}
 use native.Mathlib.Decide.{ℕ-discrete}
 use lib.ListN.{length, getD-replicate}
+use borrow.Author.Tests.{eqb-false}
+use Rattle.hermes_record.specs.declared.timestamp.Timestamp.{Timestamp}
 use Rattle.hermes_record.specs.declared.record.Record.{Record}
+use Rattle.hermes.specs.declared.message.Message.{Message}
+use Rattle.hermes.specs.declared.message.Message.the-variants.{Inv, Ack, Val}
 use Rattle.hermes.specs.declared.event.Replica.{Replica}
 use Rattle.hermes.specs.declared.event.Event.{Event}
 use Rattle.hermes.specs.declared.event.Event.the-variants.{Read, Write, Replay, Deliver, Validate, Resend}
 use Rattle.hermes_record.specs.Members.{lowest}
-use Rattle.hermes_record.specs.Record.{freshRecord}
-use Rattle.hermes.specs.Guards.{AllYes, firstNo}
-use Rattle.hermes.specs.Event.{Step}
+use Rattle.hermes_record.specs.Order.{later}
+use Rattle.hermes_record.specs.Record.{nextVersion, writtenBy, replayed, invalidated, acknowledged, validated, freshRecord}
+use Rattle.hermes.specs.Guards.{AllYes, firstNo, question1}
+use Rattle.hermes.specs.Event.{Step, own, invStep, ackStep, completes, deliverStep, step}
 use Rattle.hermes.specs.Node.{Node, Outcome, recordOf, apply, identity, admissionOf, viewQuestions, view, viewed}
 use Rattle.hermes.specs.Run as run
 use Rattle.hermes.specs.Run.{Action, Entry, Group, Found, find, received, nodeAfter, perform, delivery, result, advance}
 use Rattle.hermes.specs.Agreement.{FreshStart, Started, after}
-use Rattle.hermes.proofs.Apply.{questionsOf, stepOf, done, Applied, refused, accepted, applied}
+use Rattle.hermes.proofs.Guards.{deliver-own}
+use Rattle.hermes.proofs.Steps.{next-version}
+use Rattle.hermes.proofs.Apply.{stepOf, done, Applied, refused, accepted, applied, its-own}
 use Rattle.hermes.proofs.Start.{Begun, begun}
 use Rattle.hermes.proofs.Agreement.{at-who, at-other}
 
@@ -32,9 +41,45 @@ fresh-record member count issued g s i k l m = rw (f .tableAfter, b .tableAfter)
     b : Begun k (issued 0) (f .table) (f .store) (g .at k .me)
     b = begun k (issued 0) (f .table) (f .store) (g .at k .me) (f .accepted)
 
--- P is the property; a list passes `May` if its entries of replica k may be in it, and each such entry passes `Fine`
+-- ---- one event
+
+-- what an accepted event of replica me makes of its record r
+pub data Becomes (wins : ℕ → ℕ → Bool) (me : Replica) (r b : Record) : Type 0 where
+  same : b ≡ r → Becomes wins me r b
+  writes : (n : ℕ) → nextVersion (r .timestamp .version) ≡ r .timestamp .version + 1 → b ≡ writtenBy r (me .number) n → Becomes wins me r b
+  replays : b ≡ replayed r (me .number) → Becomes wins me r b
+  invalidates : (t : Timestamp) (sender n : ℕ) → later wins t (r .timestamp) ≡ true → sender ≢ me .number → b ≡ invalidated r t sender n → Becomes wins me r b
+  counts : (sender : ℕ) → completes me r sender ≡ false → b ≡ acknowledged r sender → Becomes wins me r b
+  settles : (sender : ℕ) → b ≡ validated (acknowledged r sender) → Becomes wins me r b
+  validates : b ≡ validated r → Becomes wins me r b
+
+module _ (wins : ℕ → ℕ → Bool) (me : Replica) (i : ℕ) (r : Record) (v : List ℕ) where
+  delivered : (sender : ℕ) (m : Message) → sender ≢ me .number → Becomes wins me r (deliverStep wins me i r sender m v .after)
+  delivered sender (Inv t) d = go (later wins t (r .timestamp)) refl
+    where
+      go : (l : Bool) → later wins t (r .timestamp) ≡ l → Becomes wins me r (invStep l me i r t sender v .after)
+      go true l = invalidates t sender (length v) l d refl
+      go false l = same refl
+  delivered sender (Ack t) d = go (completes me r sender) refl
+    where
+      go : (c : Bool) → completes me r sender ≡ c → Becomes wins me r (ackStep c me i r sender .after)
+      go true c = settles sender refl
+      go false c = counts sender c refl
+  delivered sender (Val t) d = validates refl
+
+  becomes : (e : Event) → AllYes (own me r e (length v)) → Becomes wins me r (step wins me i r e v .after)
+  becomes Read y = same refl
+  becomes Write y = writes (length v) (next-version (r .timestamp .version) (y .1 .1 .0)) refl
+  becomes Replay y = replays refl
+  becomes (Deliver m) y = delivered (m .sender) (m .message) (eqb-false _ _ (deliver-own me r m (length v) y .other))
+  becomes Validate y = validates refl
+  becomes Resend y = same refl
+
+-- ---- lists of entries
+
+-- P is the property; question 1 says yes at every accepted event. A list that passes `May` has only entries of replica k that pass `Fine`
 module _ (wins : ℕ → ℕ → Bool) (i : ℕ) (P : Replica → Record → Type 0)
-    (steps : (n : Node) (e : Event) (v : List ℕ) → AllYes (questionsOf n i e v) → P (n .me) (recordOf i n) → P (n .me) (stepOf wins n i e v .after))
+    (steps : (me : Replica) (r b : Record) → question1 me .yes ≡ true → Becomes wins me r b → P me r → P me b)
     (Fine : Action → Type 0)
     (views : (n : Node) (epoch set : ℕ) → Fine (run.view epoch set) → P (n .me) (recordOf i n) → P (viewed n epoch set .node .me) (recordOf i (viewed n epoch set .node))) where
   abbrev Holds : Node → Type 0
@@ -52,7 +97,7 @@ module _ (wins : ℕ → ℕ → Bool) (i : ℕ) (P : Replica → Record → Typ
       go o (accepted y c q) = rw q (side (ℕ-discrete i j))
         where
           side : Dec (i ≡ j) → Holds (done n j s)
-          side (yes d) = rw (d, c .here) (rw d at (steps n e v (rw d y) before))
+          side (yes d) = rw (d, c .here) (steps (n .me) (recordOf j n) (s .after) (y .0) (becomes wins (n .me) j (recordOf j n) v e (its-own n j e v y)) (rw d at before))
           side (no d) = rw (c .others i d) before
 
   entry-keeps : (a : Action) (log : List run.Logged) (n : Node) → Fine a → Holds n → Holds (nodeAfter (perform wins a log n) n)
@@ -88,12 +133,11 @@ viewed-number n epoch set = go (firstNo (viewQuestions (n .me) epoch set))
     go (suc z) = refl
 
 -- the same of a property that looks at no view: it holds after every list
-module _ (wins : ℕ → ℕ → Bool) (i : ℕ) (P : ℕ → Record → Type 0)
-    (steps : (n : Node) (e : Event) (v : List ℕ) → AllYes (questionsOf n i e v) → P (n .me .number) (recordOf i n) → P (n .me .number) (stepOf wins n i e v .after)) where
+module _ (wins : ℕ → ℕ → Bool) (i : ℕ) (P : ℕ → Record → Type 0) (steps : (me : Replica) (r b : Record) → Becomes wins me r b → P (me .number) r → P (me .number) b) where
   view-keeps : (n : Node) (epoch set : ℕ) → P (n .me .number) (recordOf i n) → P (viewed n epoch set .node .me .number) (recordOf i (viewed n epoch set .node))
   unfolding viewed
   view-keeps n epoch set h = rw (viewed-number n epoch set) h
 
   pub always : (k : ℕ) (g : Group) → P (g .at k .me .number) (recordOf i (g .at k)) → (entries : List Entry) → P (after wins g entries k .me .number) (recordOf i (after wins g entries k))
   always k g before entries =
-      along wins i (λ me r. P (me .number) r) steps (λ a. Unit) (λ n epoch set f. view-keeps n epoch set) k (λ l. Unit) (λ a rest m. (λ e. tt, tt)) g before entries tt
+      along wins i (λ me r. P (me .number) r) (λ me r b y. steps me r b) (λ a. Unit) (λ n epoch set f. view-keeps n epoch set) k (λ l. Unit) (λ a rest m. (λ e. tt, tt)) g before entries tt

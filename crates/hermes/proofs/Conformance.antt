@@ -30,7 +30,7 @@ use Rattle.hermes.specs.Node.{Node, Outcome, recordOf, leaving, apply, n
 use Rattle.hermes.specs.Frame.{bytesAfter, Changed}
 use Rattle.hermes.specs.Locality.{body}
 use Rattle.hermes.specs.Source as source
-use Rattle.hermes.specs.Source.{Vars, Sending, In, HInit, HReadGuard, HWriteGuard, HReplayWriteWidened, HRcvInvGuard, HRcvInv, HRcvAckGuard, HRcvAckThenSendVals, HRcvValGuard, HSendValsGuard, NodeFailureGuard, ResendGuard, Resent, sendInv}
+use Rattle.hermes.specs.Source.{Vars, Sending, In, HInit, HReadGuard, HWriteGuard, HReplayWriteWidenedGuard, HRcvInvGuard, HRcvInv, HRcvAckGuard, HRcvAckThenSendVals, HRcvValGuard, HSendValsGuard, NodeFailureGuard, ResendGuard, Resent, sendInv}
 use Rattle.hermes.specs.Conformance.{varsOf, fiveAnd, delivered, message, Follows, ViewFollows, StartFollows, Demand2By, Demand2}
 use Rattle.hermes_record.proofs.Tests.{both, and-both, is-false, or-true}
 use Rattle.hermes.proofs.Members.{has-zero, within-members, members-within, every-other, others-every, adds-sender}
@@ -143,18 +143,18 @@ module _ (me : Replica) (r : Record) (b : List ℕ) where
 
 -- question 16 is the guard of HReplayWrite, widened
 module _ (me : Replica) (r : Record) (b : List ℕ) where
-  may-replay : ReplayOwn me r → HReplayWriteWidened me (seen r b)
+  may-replay : ReplayOwn me r → HReplayWriteWidenedGuard me (seen r b)
   may-replay o = go (one-in (r .state) (state.Invalid ∷ state.InvalidWrite ∷ []) (o .invalid))
     where
       dead : has (me .view) (r .writer) ≡ true → ⊥
       dead h = false≢true (sym (o .gone) ∙ h)
 
-      go : In (r .state) (state.Invalid ∷ state.InvalidWrite ∷ []) → HReplayWriteWidened me (seen r b)
+      go : In (r .state) (state.Invalid ∷ state.InvalidWrite ∷ []) → HReplayWriteWidenedGuard me (seen r b)
       go (inl e) = inl (e, dead)
       go (inr (inl e)) = inr (e, dead)
       go (inr (inr e)) = absurd e
 
-  replays-may : HReplayWriteWidened me (seen r b) → question16 me r .yes ≡ true
+  replays-may : HReplayWriteWidenedGuard me (seen r b) → question16 me r .yes ≡ true
   replays-may (inl (e, dead)) = and-both _ _ (in-one (r .state) (state.Invalid ∷ state.InvalidWrite ∷ []) (inl e)) (ap not (is-false (has (me .view) (r .writer)) dead))
   replays-may (inr (e, dead)) = and-both _ _ (in-one (r .state) (state.Invalid ∷ state.InvalidWrite ∷ []) (inr (inl e))) (ap not (is-false (has (me .view) (r .writer)) dead))
 
@@ -181,8 +181,8 @@ module _ (wins : ℕ → ℕ → Bool) (n : Node) (i : ℕ) (v : List ℕ) where
         send = refl;
       })
 
-  follows-replay : Follows wins n i Replay v (fiveAnd n i []) (HReplayWriteWidened (n .me)) (source.HReplayWrite (n .me) i)
-  follows-replay = follows wins n i Replay v (fiveAnd n i []) (HReplayWriteWidened (n .me)) (source.HReplayWrite (n .me) i)
+  follows-replay : Follows wins n i Replay v (fiveAnd n i []) (HReplayWriteWidenedGuard (n .me)) (source.HReplayWrite (n .me) i)
+  follows-replay = follows wins n i Replay v (fiveAnd n i []) (HReplayWriteWidenedGuard (n .me)) (source.HReplayWrite (n .me) i)
       (λ y. (five wins n i Replay v [] y tt, may-replay (n .me) (recordOf i n) [] (replay-own (n .me) (recordOf i n) (length v) (its-own n i Replay v y))))
       (λ g. back wins n i Replay v [] (g .0) (replays-may (n .me) (recordOf i n) [] (g .1), tt))
       (λ y. record { nodeLastWriter = refl; nodeState = refl; nodeRcvdAcks = has-zero; nodeLastWriteTS = refl; nodeTS = refl; value = refl; send = refl })

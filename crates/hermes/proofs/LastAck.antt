@@ -8,33 +8,29 @@ use mathlib.Core.List.{List, [], _∷_}
 use native.Mathlib.Omega.{arith}
 use native.Mathlib.Decide.{ℕ-discrete}
 use lib.Dec.{leb}
-use lib.ListN.{length, getD-replicate}
-use Rattle.hermes_record.specs.declared.timestamp.Timestamp.{Timestamp}
+use lib.ListN.{length}
 use Rattle.hermes_record.specs.declared.record.Record.{Record}
 use Rattle.hermes_record.specs.declared.record.State.{State}
 use Rattle.hermes_record.specs.declared.record.State.the-variants as state
-use Rattle.hermes.specs.declared.message.Message.{Message}
-use Rattle.hermes.specs.declared.message.Message.the-variants.{Inv, Ack, Val}
+use Rattle.hermes.specs.declared.message.Message.the-variants.{Val}
 use Rattle.hermes.specs.declared.message.Outgoing.the-variants.{None}
 use Rattle.hermes.specs.declared.event.Replica.{Replica}
-use Rattle.hermes.specs.declared.event.Event.{Event}
-use Rattle.hermes.specs.declared.event.Event.the-variants.{Read, Write, Replay, Deliver, Validate, Resend}
-use Rattle.hermes_record.specs.Members.{has, size, lowest, with}
+use Rattle.hermes.specs.declared.event.Event.the-variants.{Write, Replay, Deliver}
+use Rattle.hermes_record.specs.Members.{has, size, with}
 use Rattle.hermes_record.specs.Order.{later}
-use Rattle.hermes_record.specs.Record.{oneOf, invalidatedState, acknowledged, freshRecord}
+use Rattle.hermes_record.specs.Record.{oneOf, invalidatedState, writtenBy, replayed, invalidated, acknowledged, validated}
 use Rattle.hermes.specs.Guards.{question1}
-use Rattle.hermes.specs.Event.{Step, invStep, ackStep, completes, deliverStep, step, send, numberOf}
-use Rattle.hermes.specs.Node.{Node, Outcome, recordOf, apply}
+use Rattle.hermes.specs.Event.{Step, ackStep, completes, send, numberOf}
+use Rattle.hermes.specs.Node.{Outcome, recordOf, apply}
 use Rattle.hermes.specs.Run.{Entry, Group}
-use Rattle.hermes.specs.Agreement.{FreshStart, Started, after}
+use Rattle.hermes.specs.Agreement.{Started, after}
 use Rattle.hermes.specs.LastAck.{Waits, EveryOther, Completes, AckDone, LastAckSettles, AllReplied, IsView, NoView, NobodyWaits}
 use Rattle.hermes_record.proofs.Tests.{both, and-both}
 use Rattle.hermes.proofs.Members.{has-small, has-zero, has-with, with-members, members-with, every-other, others-every}
 use Rattle.hermes.proofs.Guards.{deliver-own}
 use Rattle.hermes.proofs.Words.{Two, size-two}
-use Rattle.hermes.proofs.Apply.{stepOf, done, Applied, refused, accepted, applied, its-own}
-use Rattle.hermes.proofs.Start.{Begun, begun}
-use Rattle.hermes.proofs.Along.{fresh-record, along}
+use Rattle.hermes.proofs.Apply.{stepOf, Applied, refused, accepted, applied, its-own}
+use Rattle.hermes.proofs.Along.{fresh-record, Becomes, same, writes, replays, invalidates, counts, settles, validates, along}
 
 -- ---- question 15, in the words of the statements
 
@@ -119,38 +115,27 @@ begun-waits me r y z h = go (size-two (me .view) (both (leb (me .number) 15) (le
         side (no d) = uncounted (t .one) (t .onePasses) d
         side (yes e) = uncounted (t .two) (t .twoPasses) (λ d. t .apart (e ∙ sym d))
 
-module _ (wins : ℕ → ℕ → Bool) (me : Replica) (i : ℕ) (r : Record) (before : Replied me r → ⊥) (two : question1 me .yes ≡ true) where
-  taken-idle : (s : State) → oneOf (invalidatedState s) (state.Write ∷ state.Replay ∷ []) ≡ false
-  taken-idle state.Valid = refl
-  taken-idle state.Invalid = refl
-  taken-idle state.InvalidWrite = refl
-  taken-idle state.Write = refl
-  taken-idle state.Replay = refl
+taken-idle : (s : State) → oneOf (invalidatedState s) (state.Write ∷ state.Replay ∷ []) ≡ false
+taken-idle state.Valid = refl
+taken-idle state.Invalid = refl
+taken-idle state.InvalidWrite = refl
+taken-idle state.Write = refl
+taken-idle state.Replay = refl
 
-  inv-keeps : (t : Timestamp) (sender : ℕ) (v : List ℕ) (b : Bool) → Replied me (invStep b me i r t sender v .after) → ⊥
-  inv-keeps t sender v true = idle me (invStep true me i r t sender v .after) (taken-idle (r .state))
-  inv-keeps t sender v false = before
-
-  ack-keeps : (sender : ℕ) (c : Bool) → completes me r sender ≡ c → Replied me (ackStep c me i r sender .after) → ⊥
-  ack-keeps sender true e = idle me (ackStep true me i r sender .after) refl
-  ack-keeps sender false e = λ h. false≢true (sym e ∙ and-both _ _ (pending (acknowledged r sender) (h .0)) (every-other (me .number) (me .view) (with (r .acks) sender) (h .1)))
-
-  deliver-keeps : (sender : ℕ) (m : Message) (v : List ℕ) → Replied me (deliverStep wins me i r sender m v .after) → ⊥
-  deliver-keeps sender (Inv t) v = inv-keeps t sender v (later wins t (r .timestamp))
-  deliver-keeps sender (Ack t) v = ack-keeps sender (completes me r sender) refl
-  deliver-keeps sender (Val t) v = idle me (deliverStep wins me i r sender (Val t) v .after) refl
-
-  step-keeps : (e : Event) (v : List ℕ) → Replied me (step wins me i r e v .after) → ⊥
-  step-keeps Read v = before
-  step-keeps Write v = begun-waits me (step wins me i r Write v .after) two refl
-  step-keeps Replay v = begun-waits me (step wins me i r Replay v .after) two refl
-  step-keeps (Deliver m) v = deliver-keeps (m .sender) (m .message) v
-  step-keeps Validate v = idle me (step wins me i r Validate v .after) refl
-  step-keeps Resend v = before
+-- every accepted event but a view keeps it so
+keeps : (wins : ℕ → ℕ → Bool) (me : Replica) (r b : Record) → question1 me .yes ≡ true → Becomes wins me r b → (Replied me r → ⊥) → Replied me b → ⊥
+keeps wins me r b y (same e) before = rw e before
+keeps wins me r b y (writes n more e) before = rw e (begun-waits me (writtenBy r (me .number) n) y refl)
+keeps wins me r b y (replays e) before = rw e (begun-waits me (replayed r (me .number)) y refl)
+keeps wins me r b y (invalidates t sender n l d e) before = rw e (idle me (invalidated r t sender n) (taken-idle (r .state)))
+keeps wins me r b y (counts sender c e) before =
+    rw e (λ h. false≢true (sym c ∙ and-both _ _ (pending (acknowledged r sender) (h .0)) (every-other (me .number) (me .view) (with (r .acks) sender) (h .1))))
+keeps wins me r b y (settles sender e) before = rw e (idle me (validated (acknowledged r sender)) refl)
+keeps wins me r b y (validates e) before = rw e (idle me (validated r) refl)
 
 later-none : (wins : ℕ → ℕ → Bool) (i k : ℕ) (g : Group) → (AllReplied i (g .at k) → ⊥) → (entries : List Entry) → NoView k entries → AllReplied i (after wins g entries k) → ⊥
 later-none wins i k g before entries f =
-    along wins i (λ me r. Replied me r → ⊥) (λ n e v y none. step-keeps wins (n .me) i (recordOf i n) none (y .0) e v)
+    along wins i (λ me r. Replied me r → ⊥) (keeps wins)
     (λ a. IsView a → ⊥) (λ n epoch set no-view none. absurd (no-view tt))
     k (NoView k) (λ a rest fs. fs) g before entries f
 

@@ -1,52 +1,50 @@
 -- 02, Wish 2: an overtaken save is given up by the replay, and no record hangs. The idea: in invalid-write the record's timestamp is later than the
 -- laptop's own save, and timestamps and last-write timestamps only rise from there; and who is invalid took an INV of another laptop.
-use Prim.Native.Nat.{ℕ, _+_, _<_}
-use mathlib.Core.Path.{_≡_, refl, sym, ap, subst, _∙_}
-use mathlib.Core.Bool.{Bool, true, false, not, false≢true}
-use mathlib.Core.Logic.{_⊎_, inl, inr, _≢_}
+use Prim.Native.Nat.{ℕ}
+use mathlib.Core.Path.{_≡_, refl, ap, subst, _∙_}
+use mathlib.Core.Bool.{Bool, true, false}
+use mathlib.Core.Logic.{inl, _≢_}
 use mathlib.Core.List.{List, [], _∷_}
 use native.Mathlib.Omega.{arith}
-use lib.Dec.{eqb}
-use lib.ListN.{length, getD-replicate}
-use borrow.Author.Tests.{eqb-false, lt-ltb}
+use lib.ListN.{length}
+use borrow.Author.Tests.{lt-ltb}
 use Rattle.hermes_record.specs.declared.timestamp.Timestamp.{Timestamp}
 use Rattle.hermes_record.specs.declared.record.Record.{Record}
 use Rattle.hermes_record.specs.declared.record.State.{State}
 use Rattle.hermes_record.specs.declared.record.State.the-variants as state
 use Rattle.hermes.specs.declared.message.Message.{Message}
-use Rattle.hermes.specs.declared.message.Message.the-variants.{Inv, Ack, Val}
+use Rattle.hermes.specs.declared.message.Message.the-variants.{Inv, Ack}
 use Rattle.hermes.specs.declared.message.Received.{Received}
 use Rattle.hermes.specs.declared.event.Replica.{Replica}
 use Rattle.hermes.specs.declared.event.Event.{Event}
-use Rattle.hermes.specs.declared.event.Event.the-variants.{Read, Write, Replay, Deliver, Validate, Resend}
-use Rattle.hermes_record.specs.Members.{has, lowest}
+use Rattle.hermes.specs.declared.event.Event.the-variants.{Replay, Deliver, Resend}
+use Rattle.hermes_record.specs.Members.{has}
 use Rattle.hermes_record.specs.Order.{TieOrder, later}
 use Rattle.hermes_record.specs.Record.{oneOf, invalidatedState, nextTimestamp}
 use Rattle.hermes.specs.Guards.{AllYes}
-use Rattle.hermes.specs.Event.{Step, invStep, ackStep, completes, deliverStep, own, step, resent, send, numberOf, sentBy}
-use Rattle.hermes.specs.Node.{Node, Outcome, recordOf, apply, viewed, view}
+use Rattle.hermes.specs.Event.{resent, send, numberOf, sentBy}
+use Rattle.hermes.specs.Node.{Node, Outcome, recordOf, apply}
 use Rattle.hermes.specs.Run as run
-use Rattle.hermes.specs.Run.{Action, Entry, Group, result, advance}
-use Rattle.hermes.specs.Agreement.{FreshStart, Started, Entries, Sees, IsAccepted, after}
+use Rattle.hermes.specs.Run.{Group, result, advance}
+use Rattle.hermes.specs.Agreement.{after}
 use Rattle.hermes.specs.Reads.{Sound}
-use Rattle.hermes.specs.Overtaken.{replays, Past, GivenUpBy, GivenUp, Turn, shown, resends, takesOver, awaits, NobodyHangsBy, NobodyHangs}
+use Rattle.hermes.specs.Overtaken.{replays as replay-of, GivenUp, Turn, shown, resends, takesOver, awaits, NobodyHangs}
 use Rattle.hermes_record.proofs.Order.{greater-later, later-trans, later-apart}
 use Rattle.hermes.proofs.Guards.{KindOwn, deliver-own}
-use Rattle.hermes.proofs.Steps.{next-version}
-use Rattle.hermes.proofs.Apply.{questionsOf, ownOf, stepOf, done, Applied, refused, accepted, applied, its-own, passed-zero}
+use Rattle.hermes.proofs.Apply.{questionsOf, ownOf, stepOf, Applied, refused, accepted, applied, its-own, passed-zero}
 use Rattle.hermes.proofs.Agreement.{at-who}
 use Rattle.hermes.proofs.Sound.{stay-sound, reads-tell}
-use Rattle.hermes.proofs.Along.{fresh-record, always}
+use Rattle.hermes.proofs.Along.{fresh-record, Becomes, same, writes, replays, invalidates, counts, settles, validates, always}
 
--- ---- what holds of one record, whatever its laptop does
+-- ---- what every accepted event keeps of its record
 
 -- a write has the record's timestamp, and in invalid-write that is later than the laptop's own
-abbrev Stands : (ℕ → ℕ → Bool) → State → Timestamp → Timestamp → Type 0
-Stands wins state.Valid t w = Unit
-Stands wins state.Invalid t w = Unit
-Stands wins state.InvalidWrite t w = later wins t w ≡ true
-Stands wins state.Write t w = t ≡ w
-Stands wins state.Replay t w = Unit
+abbrev Ahead : (ℕ → ℕ → Bool) → State → Timestamp → Timestamp → Type 0
+Ahead wins state.Valid t w = Unit
+Ahead wins state.Invalid t w = Unit
+Ahead wins state.InvalidWrite t w = later wins t w ≡ true
+Ahead wins state.Write t w = t ≡ w
+Ahead wins state.Replay t w = Unit
 
 -- in invalid and invalid-write another laptop is the last writer
 abbrev Foreign : State → ℕ → ℕ → Type 0
@@ -56,100 +54,55 @@ Foreign state.InvalidWrite writer k = writer ≢ k
 Foreign state.Write writer k = Unit
 Foreign state.Replay writer k = Unit
 
+-- both of the record's timestamps are later than t
+record Passed (wins : ℕ → ℕ → Bool) (t : Timestamp) (r : Record) : Type 0 where
+  held : later wins (r .timestamp) t ≡ true
+  own : later wins (r .written) t ≡ true
+
+taken-foreign : (s : State) (sender k : ℕ) → sender ≢ k → Foreign (invalidatedState s) sender k
+taken-foreign state.Valid sender k d = d
+taken-foreign state.Invalid sender k d = d
+taken-foreign state.InvalidWrite sender k d = d
+taken-foreign state.Write sender k d = d
+taken-foreign state.Replay sender k d = d
+
+foreign-keeps : (wins : ℕ → ℕ → Bool) (me : Replica) (r b : Record) → Becomes wins me r b → Foreign (r .state) (r .writer) (me .number) → Foreign (b .state) (b .writer) (me .number)
+foreign-keeps wins me r b (same e) h = rw e h
+foreign-keeps wins me r b (writes n more e) h = rw e tt
+foreign-keeps wins me r b (replays e) h = rw e tt
+foreign-keeps wins me r b (invalidates t sender n l d e) h = rw e (taken-foreign (r .state) sender (me .number) d)
+foreign-keeps wins me r b (counts sender c e) h = rw e h
+foreign-keeps wins me r b (settles sender e) h = rw e tt
+foreign-keeps wins me r b (validates e) h = rw e tt
+
 module _ (wins : ℕ → ℕ → Bool) (ord : TieOrder wins) where
-  taken-stands : (s : State) (t w new : Timestamp) → later wins new t ≡ true → Stands wins s t w → Stands wins (invalidatedState s) new w
-  taken-stands state.Valid t w new l h = tt
-  taken-stands state.Invalid t w new l h = tt
-  taken-stands state.InvalidWrite t w new l h = later-trans wins ord new t w l h
-  taken-stands state.Write t w new l h = subst (λ (x : Timestamp). later wins new x ≡ true) h l
-  taken-stands state.Replay t w new l h = tt
+  taken-ahead : (s : State) (t w new : Timestamp) → later wins new t ≡ true → Ahead wins s t w → Ahead wins (invalidatedState s) new w
+  taken-ahead state.Valid t w new l h = tt
+  taken-ahead state.Invalid t w new l h = tt
+  taken-ahead state.InvalidWrite t w new l h = later-trans wins ord new t w l h
+  taken-ahead state.Write t w new l h = subst (λ (x : Timestamp). later wins new x ≡ true) h l
+  taken-ahead state.Replay t w new l h = tt
 
-  module _ (me : Replica) (i : ℕ) (r : Record) (v : List ℕ) (before : Stands wins (r .state) (r .timestamp) (r .written)) where
-    abbrev After : Step → Type 0
-    After s = Stands wins (s .after .state) (s .after .timestamp) (s .after .written)
+  ahead-keeps : (me : Replica) (r b : Record) → Becomes wins me r b → Ahead wins (r .state) (r .timestamp) (r .written) → Ahead wins (b .state) (b .timestamp) (b .written)
+  ahead-keeps me r b (same e) h = rw e h
+  ahead-keeps me r b (writes n more e) h = rw e refl
+  ahead-keeps me r b (replays e) h = rw e tt
+  ahead-keeps me r b (invalidates t sender n l d e) h = rw e (taken-ahead (r .state) (r .timestamp) (r .written) t l h)
+  ahead-keeps me r b (counts sender c e) h = rw e h
+  ahead-keeps me r b (settles sender e) h = rw e tt
+  ahead-keeps me r b (validates e) h = rw e tt
 
-    deliver-stands : (sender : ℕ) (m : Message) → After (deliverStep wins me i r sender m v)
-    deliver-stands sender (Inv t) = go (later wins t (r .timestamp)) refl
-      where
-        go : (b : Bool) → later wins t (r .timestamp) ≡ b → After (invStep b me i r t sender v)
-        go true l = taken-stands (r .state) (r .timestamp) (r .written) t l before
-        go false l = before
-    deliver-stands sender (Ack t) = go (completes me r sender)
-      where
-        go : (c : Bool) → After (ackStep c me i r sender)
-        go true = tt
-        go false = before
-    deliver-stands sender (Val t) = tt
-
-    step-stands : (e : Event) → After (step wins me i r e v)
-    step-stands Read = before
-    step-stands Write = refl
-    step-stands Replay = tt
-    step-stands (Deliver m) = deliver-stands (m .sender) (m .message)
-    step-stands Validate = tt
-    step-stands Resend = before
-
-  -- a timestamp that both of the record's have passed
-  record Passed (t : Timestamp) (r : Record) : Type 0 where
-    held : later wins (r .timestamp) t ≡ true
-    own : later wins (r .written) t ≡ true
-
-  module _ (t : Timestamp) (me : Replica) (i : ℕ) (r : Record) (v : List ℕ) (before : Passed t r) where
-    deliver-passed : (sender : ℕ) (m : Message) → Passed t (deliverStep wins me i r sender m v .after)
-    deliver-passed sender (Inv new) = go (later wins new (r .timestamp)) refl
-      where
-        go : (b : Bool) → later wins new (r .timestamp) ≡ b → Passed t (invStep b me i r new sender v .after)
-        go true l = record { held = later-trans wins ord new (r .timestamp) t l (before .held); own = before .own }
-        go false l = before
-    deliver-passed sender (Ack s) = go (completes me r sender)
-      where
-        go : (c : Bool) → Passed t (ackStep c me i r sender .after)
-        go true = record { held = before .held; own = before .own }
-        go false = record { held = before .held; own = before .own }
-    deliver-passed sender (Val s) = record { held = before .held; own = before .own }
-
-    step-passed : (e : Event) → AllYes (own me r e (length v)) → Passed t (step wins me i r e v .after)
-    step-passed Read y = before
-    step-passed Write y =
-        let more = next-version (r .timestamp .version) (y .1 .1 .0) in
-        let new : later wins (nextTimestamp (r .timestamp) (me .number)) t ≡ true = later-trans wins ord (nextTimestamp (r .timestamp) (me .number)) (r .timestamp) t (greater-later wins (nextTimestamp (r .timestamp) (me .number)) (r .timestamp) (inl (omega (arith, more)))) (before .held) in
-        record { held = new; own = new }
-    step-passed Replay y = record { held = before .held; own = before .held }
-    step-passed (Deliver m) y = deliver-passed (m .sender) (m .message)
-    step-passed Validate y = record { held = before .held; own = before .own }
-    step-passed Resend y = before
-
-module _ (wins : ℕ → ℕ → Bool) (me : Replica) (i : ℕ) (r : Record) (v : List ℕ) (before : Foreign (r .state) (r .writer) (me .number)) where
-  abbrev Stays : Step → Type 0
-  Stays s = Foreign (s .after .state) (s .after .writer) (me .number)
-
-  taken-foreign : (s : State) (sender : ℕ) → sender ≢ me .number → Foreign (invalidatedState s) sender (me .number)
-  taken-foreign state.Valid sender d = d
-  taken-foreign state.Invalid sender d = d
-  taken-foreign state.InvalidWrite sender d = d
-  taken-foreign state.Write sender d = d
-  taken-foreign state.Replay sender d = d
-
-  deliver-foreign : (sender : ℕ) (m : Message) → sender ≢ me .number → Stays (deliverStep wins me i r sender m v)
-  deliver-foreign sender (Inv t) d = go (later wins t (r .timestamp))
+  passed-keeps : (t : Timestamp) (me : Replica) (r b : Record) → Becomes wins me r b → Passed wins t r → Passed wins t b
+  passed-keeps t me r b (same e) h = rw e h
+  passed-keeps t me r b (writes n more e) h = rw e (record { held = new; own = new })
     where
-      go : (b : Bool) → Stays (invStep b me i r t sender v)
-      go true = taken-foreign (r .state) sender d
-      go false = before
-  deliver-foreign sender (Ack t) d = go (completes me r sender)
-    where
-      go : (c : Bool) → Stays (ackStep c me i r sender)
-      go true = tt
-      go false = before
-  deliver-foreign sender (Val t) d = tt
-
-  step-foreign : (e : Event) → AllYes (own me r e (length v)) → Stays (step wins me i r e v)
-  step-foreign Read y = before
-  step-foreign Write y = tt
-  step-foreign Replay y = tt
-  step-foreign (Deliver m) y = deliver-foreign (m .sender) (m .message) (eqb-false _ _ (deliver-own me r m (length v) y .other))
-  step-foreign Validate y = tt
-  step-foreign Resend y = before
+      new : later wins (nextTimestamp (r .timestamp) (me .number)) t ≡ true
+      new = later-trans wins ord (nextTimestamp (r .timestamp) (me .number)) (r .timestamp) t (greater-later wins (nextTimestamp (r .timestamp) (me .number)) (r .timestamp) (inl (omega (arith, more)))) (h .held)
+  passed-keeps t me r b (replays e) h = rw e (record { held = h .held; own = h .held })
+  passed-keeps t me r b (invalidates new sender n l d e) h = rw e (record { held = later-trans wins ord new (r .timestamp) t l (h .held); own = h .own })
+  passed-keeps t me r b (counts sender c e) h = rw e (record { held = h .held; own = h .own })
+  passed-keeps t me r b (settles sender e) h = rw e (record { held = h .held; own = h .own })
+  passed-keeps t me r b (validates e) h = rw e (record { held = h .held; own = h .own })
 
 -- ---- the overtaken save is given up
 
@@ -163,25 +116,24 @@ given-up wins ord member count issued g s before i k l m x rest = record { overt
     t : Timestamp
     t = recordOf i n .written
 
-    stands : Stands wins (recordOf i n .state) (recordOf i n .timestamp) t
-    stands = always wins i (λ number r. Stands wins (r .state) (r .timestamp) (r .written)) (λ z e v y h. step-stands wins ord (z .me) i (recordOf i z) v h e)
-        k g (rw (fresh-record member count issued g s i k l m) tt) before
+    ahead : Ahead wins (recordOf i n .state) (recordOf i n .timestamp) t
+    ahead = always wins i (λ number r. Ahead wins (r .state) (r .timestamp) (r .written)) (ahead-keeps wins ord) k g (rw (fresh-record member count issued g s i k l m) tt) before
 
     behind : later wins (recordOf i n .timestamp) t ≡ true
-    behind = subst (λ (z : State). Stands wins z (recordOf i n .timestamp) t) (x .invalidWrite) stands
+    behind = subst (λ (z : State). Ahead wins z (recordOf i n .timestamp) t) (x .invalidWrite) ahead
 
-    done-passed : (o : Outcome) → Applied wins n i Replay [] o → numberOf (o .answer) ≡ 0 → Passed wins ord t (recordOf i (o .node))
+    done-passed : (o : Outcome) → Applied wins n i Replay [] o → numberOf (o .answer) ≡ 0 → Passed wins t (recordOf i (o .node))
     done-passed o (refused z y q) e = absurd (omega (arith, ap (λ (w : Outcome). numberOf (w .answer)) q))
     done-passed o (accepted y c q) e = rw (q, c .here) (record { held = behind; own = behind })
 
     now : Group
-    now = advance wins (run.run wins g before) (replays k i)
+    now = advance wins (run.run wins g before) (replay-of k i)
 
-    begun : Passed wins ord t (recordOf i (now .at k))
-    begun = rw (at-who wins (run.run wins g before) (replays k i)) (done-passed (apply wins n i Replay []) (applied wins n i Replay []) (x .accepted))
+    begun : Passed wins t (recordOf i (now .at k))
+    begun = rw (at-who wins (run.run wins g before) (replay-of k i)) (done-passed (apply wins n i Replay []) (applied wins n i Replay []) (x .accepted))
 
-    past : Passed wins ord t (recordOf i (after wins now rest k))
-    past = always wins i (λ number r. Passed wins ord t r) (λ z e v y h. step-passed wins ord t (z .me) i (recordOf i z) v h e (its-own z i e v y)) k now begun rest
+    past : Passed wins t (recordOf i (after wins now rest k))
+    past = always wins i (λ number r. Passed wins t r) (passed-keeps wins ord t) k now begun rest
 
     refuses : (msg : Received) (v : List ℕ) → msg .message ≡ Ack t → numberOf (apply wins (after wins now rest k) i (Deliver msg) v .answer) ≡ 0 → ⊥
     refuses msg v is = go (apply wins (after wins now rest k) i (Deliver msg) v) (applied wins (after wins now rest k) i (Deliver msg) v)
@@ -218,8 +170,7 @@ nobody-hangs wins member count issued g s entries c i k l m v = go (recordOf i n
     five e y = (ok .first, (ok .second, (rw (ok .number) v, (lt-ltb i (length (n .table)) (omega (arith, ok .records)), (ok .fifth i l, y)))))
 
     foreign : Foreign (recordOf i n .state) (recordOf i n .writer) (n .me .number)
-    foreign = always wins i (λ number r. Foreign (r .state) (r .writer) number) (λ z e w y h. step-foreign wins (z .me) i (recordOf i z) w h e (its-own z i e w y))
-        k g (rw (fresh-record member count issued g s i k l m) tt) entries
+    foreign = always wins i (λ number r. Foreign (r .state) (r .writer) number) (foreign-keeps wins) k g (rw (fresh-record member count issued g s i k l m) tt) entries
 
     invalidated : oneOf (recordOf i n .state) (state.Invalid ∷ state.InvalidWrite ∷ []) ≡ true → recordOf i n .writer ≢ n .me .number
         → (b : Bool) → has (n .me .view) (recordOf i n .writer) ≡ b → Turn wins n i

@@ -22,7 +22,7 @@ use Rattle.hermes.specs.Guards.{Question, AllYes, ask, question1, questi
 use Rattle.hermes.specs.Event.{numberOf, sentBy}
 use Rattle.hermes.specs.Node.{Node, recordOf, valueOf, apply, viewed, newcomer, start}
 use Rattle.hermes.specs.Locality.{body}
-use Rattle.hermes.specs.Source.{Vars, Sending, HInit, HReadGuard, HRead, HWriteGuard, HWrite, HReplayWriteWidened, HReplayWrite, HRcvInvGuard, HRcvInv, HRcvAckGuard, HRcvAckThenSendVals, HRcvValGuard, HRcvVal, HSendValsGuard, HSendVals, NodeFailureGuard, NodeFailure, ResendGuard, Resent}
+use Rattle.hermes.specs.Source.{Vars, Sending, HInit, HReadGuard, HRead, HWriteGuard, HWrite, HReplayWriteWidenedGuard, HReplayWrite, HRcvInvGuard, HRcvInv, HRcvAckGuard, HRcvAckThenSendVals, HRcvValGuard, HRcvVal, HSendValsGuard, HSendVals, NodeFailureGuard, NodeFailure, ResendGuard, Resent}
 
 -- the source's variables of record i
 abbrev pub varsOf : ℕ → Node → Vars
@@ -82,7 +82,7 @@ module _ (wins : ℕ → ℕ → Bool) where
     pub start : (k view : ℕ) (table : List Record) (store : List ℕ) → StartFollows k view table store
     pub read : (n : Node) (i : ℕ) (v : List ℕ) → Follows n i Read v (fiveAnd n i []) HReadGuard HRead
     pub write : (n : Node) (i : ℕ) (v : List ℕ) → Follows n i Write v (fiveAnd n i (question8 (length v) ∷ [])) HWriteGuard (HWrite (n .me) i v)
-    pub replay : (n : Node) (i : ℕ) (v : List ℕ) → Follows n i Replay v (fiveAnd n i []) (HReplayWriteWidened (n .me)) (HReplayWrite (n .me) i)
+    pub replay : (n : Node) (i : ℕ) (v : List ℕ) → Follows n i Replay v (fiveAnd n i []) (HReplayWriteWidenedGuard (n .me)) (HReplayWrite (n .me) i)
     pub inv : (n : Node) (i sender epoch : ℕ) (t : Timestamp) (v : List ℕ)
         → Follows n i (Deliver (message sender epoch (Inv t))) v (delivered n i (message sender epoch (Inv t)) v) (λ s. HRcvInvGuard (n .me) sender epoch) (HRcvInv wins (n .me) i sender t v)
     pub ack : (n : Node) (i sender epoch : ℕ) (t : Timestamp) (v : List ℕ)

@@ -41,7 +41,8 @@ module _ (wins : ℕ → ℕ → Bool) where
 
   -- ---- "neither could finish"
 
-  -- whose turn it is with record i of n: nobody's, it is shown; its own, to send its INV again; its own, to replay; another's of its view, the last writer's
+  -- whose turn it is with record i of n: nobody's, as a read shows it; its own, to send the INV again; its own, to replay; or another's, the last
+  -- writer's, which is in its view
   pub data Turn (n : Node) (i : ℕ) : Type 0 where
     shown : numberOf (apply wins n i Read [] .answer) ≡ 0 → Turn n i
     resends : numberOf (apply wins n i Resend [] .answer) ≡ 0 → sentBy (apply wins n i Resend [] .answer) ≡ send (n .me) i (Inv (recordOf i n .timestamp)) → Turn n i

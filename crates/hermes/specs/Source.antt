@@ -131,8 +131,8 @@ abbrev pub HReplayWriteGuard : Replica → Vars → Type 0
 HReplayWriteGuard n s = (s .nodeState ≡ Invalid) × (isAlive n (s .nodeLastWriter) → ⊥)
 
 -- 02, Wish 2, "source document 000's replay widened by that state": the source's own guard, or the same in invalid_write
-abbrev pub HReplayWriteWidened : Replica → Vars → Type 0
-HReplayWriteWidened n s = HReplayWriteGuard n s ⊎ ((s .nodeState ≡ InvalidWrite) × (isAlive n (s .nodeLastWriter) → ⊥))
+abbrev pub HReplayWriteWidenedGuard : Replica → Vars → Type 0
+HReplayWriteWidenedGuard n s = HReplayWriteGuard n s ⊎ ((s .nodeState ≡ InvalidWrite) × (isAlive n (s .nodeLastWriter) → ⊥))
 
 pub record HReplayWrite (n : Replica) (i : ℕ) (s s′ : Vars) (m : Sending) : Type 0 where
   pub nodeLastWriter : s′ .nodeLastWriter ≡ n .number
