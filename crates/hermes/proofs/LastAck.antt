@@ -15,7 +15,7 @@ use Rattle.hermes_record.specs.declared.record.State.the-variants as state
 use Rattle.hermes.specs.declared.message.Message.the-variants.{Val}
 use Rattle.hermes.specs.declared.message.Outgoing.the-variants.{None}
 use Rattle.hermes.specs.declared.event.Replica.{Replica}
-use Rattle.hermes.specs.declared.event.Event.the-variants.{Write, Replay, Deliver}
+use Rattle.hermes.specs.declared.event.Event.the-variants.{Deliver}
 use Rattle.hermes_record.specs.Members.{has, size, with}
 use Rattle.hermes_record.specs.Order.{later}
 use Rattle.hermes_record.specs.Record.{oneOf, invalidatedState, writtenBy, replayed, invalidated, acknowledged, validated}
