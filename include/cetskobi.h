@@ -28,9 +28,9 @@
 #include <stddef.h>
 #include <stdint.h>
 
-#define CETSKOBI_VERSION "0.3.0"
+#define CETSKOBI_VERSION "0.4.0"
 #define CETSKOBI_VERSION_MAJOR 0
-#define CETSKOBI_VERSION_MINOR 3
+#define CETSKOBI_VERSION_MINOR 4
 #define CETSKOBI_VERSION_PATCH 0
 
 /* Bytes of stack that are enough for a call. */
@@ -105,7 +105,7 @@ enum {
     CETSKOBI_REFUSED_STRAY_ACK = 13,       /* no such acknowledgement is awaited, or it is counted already */
     CETSKOBI_REFUSED_STRAY_VAL = 14,       /* the record is valid already, or the validation is for another timestamp */
     CETSKOBI_REFUSED_NOT_FINISHED = 15,    /* nothing waits to be validated, or an acknowledgement is still missing */
-    CETSKOBI_REFUSED_NOT_REPLAYABLE = 16,  /* the record is not invalid, or its last writer is still in the view */
+    CETSKOBI_REFUSED_NOT_REPLAYABLE = 16,  /* the record is neither invalid nor invalid-write, or its last writer is still in the view */
     CETSKOBI_REFUSED_NOT_RESENDABLE = 17,  /* this laptop has nothing of its own to send again for the record */
     CETSKOBI_REFUSED_OLD_EPOCH = 18,       /* the new epoch is not greater than this laptop's */
     CETSKOBI_REFUSED_VIEW_NOT_WITHIN = 19, /* the new view is not within the old one, or has fewer than two laptops */
@@ -198,6 +198,10 @@ struct cetskobi_answer cetskobi_write(struct cetskobi_replica me, uint8_t *table
 CETSKOBI_MUST_USE
 struct cetskobi_answer cetskobi_deliver(struct cetskobi_replica me, uint8_t *table, size_t table_len, uint8_t *store, size_t store_len,
                                         size_t i, struct cetskobi_message message, const uint8_t *value, size_t value_len);
+/* For a record in state invalid or invalid-write whose last writer was struck off before its VAL came here: to be tried after a view. This
+ * laptop takes that write over, with its timestamp and value: all others in the view are to acknowledge it anew, and the last ACK settles
+ * it. From invalid-write too, where it had overtaken a write of this laptop's own: that one is given up, its value is no longer in the
+ * record, and its acknowledgements no longer count. */
 CETSKOBI_MUST_USE
 struct cetskobi_answer cetskobi_replay(struct cetskobi_replica me, uint8_t *table, size_t table_len, const uint8_t *store, size_t store_len,
                                        size_t i);

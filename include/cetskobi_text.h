@@ -23,7 +23,7 @@ static inline const char *cetskobi_meaning(uint8_t number) {
     case CETSKOBI_REFUSED_STRAY_ACK: return "no such acknowledgement is awaited, or it is counted already";
     case CETSKOBI_REFUSED_STRAY_VAL: return "the record is valid already, or the validation is for another timestamp";
     case CETSKOBI_REFUSED_NOT_FINISHED: return "nothing waits to be validated, or an acknowledgement is still missing";
-    case CETSKOBI_REFUSED_NOT_REPLAYABLE: return "the record is not invalid, or its last writer is still in the view";
+    case CETSKOBI_REFUSED_NOT_REPLAYABLE: return "the record is neither invalid nor invalid-write, or its last writer is still in the view";
     case CETSKOBI_REFUSED_NOT_RESENDABLE: return "this laptop has nothing of its own to send again for the record";
     case CETSKOBI_REFUSED_OLD_EPOCH: return "the new epoch is not greater than this laptop's";
     case CETSKOBI_REFUSED_VIEW_NOT_WITHIN: return "the new view is not within the old one, or has fewer than two laptops";

@@ -52,7 +52,8 @@ static struct cetskobi_record table[COUNT];
 static uint8_t store[STORE];
 
 #define TABLE (uint8_t *)table, sizeof table
-#define LENT me, TABLE, store, STORE
+#define MEMORY TABLE, store, STORE
+#define LENT me, MEMORY
 
 /* Record 1 as given, record 0 fresh, the store all sevens. */
 static void lay(struct cetskobi_record record) {
@@ -228,6 +229,49 @@ static void acknowledged(uint8_t state) {
     CHECK(answers(cetskobi_resend(LENT, 1), 0, CETSKOBI_VAL, 4, VERSION));
 }
 
+/* 5's text stands in record 1, not validated. In invalid-write it had overtaken this laptop's own write, (6,2), which 1 has acknowledged.
+ * While 5 is in the view nothing is replayed. Once it is struck off, its write is taken over, from both states alike; the own one is
+ * given up (02, Wish 2). */
+static void taken_over(uint8_t state) {
+    struct cetskobi_record record = RECORD(.state = state, .tie = 5, .writer = 5, .written_tie = 2, .version = VERSION,
+                                           .written_version = 6, .acks = 2, .len = 62);
+    lay(record);
+    CHECK(answers(cetskobi_replay(LENT, 1), CETSKOBI_REFUSED_NOT_REPLAYABLE, CETSKOBI_NONE, 0, 0));
+    CHECK(is(record));
+    struct cetskobi_admission a = cetskobi_view(me, 10, 6);
+    CHECK(a.number == 0);
+    struct cetskobi_answer inv = cetskobi_replay(a.replica, MEMORY, 1);
+    CHECK(answers(inv, 0, CETSKOBI_INV, 5, VERSION));
+    CHECK(along(1, inv) == 62 && cetskobi_recipients(a.replica, inv.kind, 0) == 2);
+    record = RECORD(.state = CETSKOBI_REPLAY, .tie = 5, .writer = 2, .written_tie = 5, .version = VERSION, .written_version = VERSION,
+                    .len = 62);
+    CHECK(is(record));
+    CHECK(answers(cetskobi_replay(a.replica, MEMORY, 1), CETSKOBI_REFUSED_NOT_REPLAYABLE, CETSKOBI_NONE, 0, 0));
+
+    /* An ACK of the own write, and then the last one of 5's. */
+    struct cetskobi_message ack = {.kind = CETSKOBI_ACK, .sender = 1, .tie = 2, .epoch = 10, .version = 6};
+    CHECK(answers(cetskobi_deliver(a.replica, MEMORY, 1, ack, NULL, 0), CETSKOBI_REFUSED_STRAY_ACK, CETSKOBI_NONE, 0, 0));
+    CHECK(is(record));
+    ack.tie = 5;
+    ack.version = VERSION;
+    CHECK(answers(cetskobi_deliver(a.replica, MEMORY, 1, ack, NULL, 0), 0, CETSKOBI_VAL, 5, VERSION));
+    record.state = CETSKOBI_VALID;
+    record.acks = 2;
+    CHECK(is(record));
+    struct cetskobi_reading r = cetskobi_read(a.replica, MEMORY, 1);
+    CHECK(r.number == 0 && r.len == 62);
+    for (size_t n = 0; n < STORE; n++) CHECK(store[n] == 7);
+}
+
+/* In these states there is nothing to take over, though the last writer, 4, is not in the view. */
+static void not_taken_over(uint8_t state) {
+    struct cetskobi_record record = RECORD(.state = state, .tie = 4, .writer = 4, .written_tie = 2, .version = VERSION,
+                                           .written_version = 6, .acks = 2, .len = 62);
+    lay(record);
+    CHECK(answers(cetskobi_replay(LENT, 1), CETSKOBI_REFUSED_NOT_REPLAYABLE, CETSKOBI_NONE, 0, 0));
+    CHECK(is(record));
+}
+
 static void ending(void) {
     struct cetskobi_record replayed = RECORD(.state = CETSKOBI_REPLAY, .tie = 4, .writer = 2, .written_tie = 4, .version = VERSION,
                                              .written_version = VERSION, .len = 62);
@@ -245,7 +289,7 @@ static void ending(void) {
     CHECK(answers(cetskobi_validate(LENT, 1), 15, CETSKOBI_NONE, 0, 0));
     struct cetskobi_admission a = cetskobi_view(me, 10, 6);
     CHECK(a.number == 0);
-    struct cetskobi_answer val = cetskobi_validate(a.replica, TABLE, store, STORE, 1);
+    struct cetskobi_answer val = cetskobi_validate(a.replica, MEMORY, 1);
     CHECK(answers(val, 0, CETSKOBI_VAL, 4, VERSION) && cetskobi_recipients(a.replica, val.kind, 0) == 2);
     struct cetskobi_record valid = replayed;
     valid.state = CETSKOBI_VALID;
@@ -345,6 +389,11 @@ int main(void) {
     delivery();
     acknowledged(CETSKOBI_WRITE);
     acknowledged(CETSKOBI_REPLAY);
+    taken_over(CETSKOBI_INVALID);
+    taken_over(CETSKOBI_INVALID_WRITE);
+    not_taken_over(CETSKOBI_VALID);
+    not_taken_over(CETSKOBI_WRITE);
+    not_taken_over(CETSKOBI_REPLAY);
     ending();
     bytes();
     packets();

@@ -186,6 +186,75 @@ static void two_saves_at_once(void) {
     CHECK(memcmp(two.store + CETSKOBI_VALUE_MAX * RING, "five's", 7) == 0);
 }
 
+/* 2 and 5 saved together, and 2 was overtaken; then 5 died. What 2 sent. */
+static struct packet the_winner_dies(void) {
+    fresh();
+    struct stamp lesser = saves(&two, "two's");
+    struct packet of_two = sent(SET_1 | SET_5);
+    saves(&five, "five's");
+    came(&two, sent(SET_1 | SET_2));
+    sent(SET_5);
+    CHECK(is(&two, CETSKOBI_INVALID_WRITE, 1, 5, 0) && fate_of(&two, RING, lesser) == REPLACED);
+    return of_two;
+}
+
+/* 2's replay comes to 1, and its ACK back. Both show the winner's text, and 2's ringer is told that hers was replaced. */
+static void replayed(struct packet inv) {
+    CHECK(carries(inv, CETSKOBI_INV, 1, 5) && is(&two, CETSKOBI_REPLAY, 1, 5, 0));
+    came(&one, inv);
+    struct packet ack = sent(SET_2);
+    CHECK(carries(ack, CETSKOBI_ACK, 1, 5) && is(&one, CETSKOBI_INVALID, 1, 5, 0));
+    came(&two, ack);
+    struct packet val = sent(SET_1);
+    CHECK(carries(val, CETSKOBI_VAL, 1, 5) && is(&two, CETSKOBI_VALID, 1, 5, SET_1));
+    came(&one, val);
+    silent();
+    CHECK(shows(&one, "five's") && shows(&two, "five's") && fate_of(&two, RING, (struct stamp){1, 2}) == REPLACED);
+}
+
+/* Only 2 has the winner's text. As long as 5 is in the view it waits; once 5 is struck off it replays that text (02, Wish 2). */
+static void an_overtaken_laptop_replays(void) {
+    the_winner_dies();
+    ticks(&two, 3000);
+    go_over(&two);
+    silent();
+    CHECK(cetskobi_read(two.me, LENT(&two), RING).number == 6 && cetskobi_write(two.me, LENT(&two), RING, NULL, 0).number == 7);
+    CHECK(cetskobi_validate(two.me, LENT(&two), RING).number == 15 && cetskobi_replay(two.me, LENT(&two), RING).number == 16);
+    CHECK(cetskobi_resend(two.me, LENT(&two), RING).number == 17 && is(&two, CETSKOBI_INVALID_WRITE, 1, 5, 0));
+    CHECK(view_came(&two, 1, SET_1 | SET_2) == 0);
+    CHECK(carries(sent(SET_1), CETSKOBI_INV, 1, 5) && is(&two, CETSKOBI_REPLAY, 1, 5, 0));
+    CHECK(fate_of(&two, RING, (struct stamp){1, 2}) == REPLACED);
+    /* That was lost. 1, which had heard nothing, has the view when it comes again. */
+    CHECK(view_came(&one, 1, SET_1 | SET_2) == 0 && is(&one, CETSKOBI_VALID, 0, 1, 0));
+    ticks(&two, 7);
+    silent();
+    tick(&two);
+    replayed(sent(SET_1));
+
+    /* 1 has the text that was overtaken, and cannot help as 2 lives. What it acknowledged is late. */
+    struct packet of_two = the_winner_dies();
+    came(&one, of_two);
+    struct packet late = sent(SET_2);
+    CHECK(view_came(&one, 1, SET_1 | SET_2) == 0);
+    silent();
+    CHECK(is(&one, CETSKOBI_INVALID, 1, 2, 0) && view_came(&two, 1, SET_1 | SET_2) == 0);
+    struct packet inv = sent(SET_1);
+    CHECK(carries(late, CETSKOBI_ACK, 1, 2));
+    CHECK(cetskobi_deliver_packet(two.me, LENT(&two), late.bytes, late.len, 0).number == 10);
+    replayed(inv);
+
+    /* 2 took the view and replayed nothing, as with an engine without Wish 2. Its clock is gone; going over once finds the record. */
+    the_winner_dies();
+    CHECK(view_came(&one, 1, SET_1 | SET_2) == 0);
+    two.me = cetskobi_view(two.me, 1, SET_1 | SET_2).replica;
+    memset(two.ticks, 0, sizeof two.ticks);
+    ticks(&two, 3000);
+    silent();
+    CHECK(is(&two, CETSKOBI_INVALID_WRITE, 1, 5, 0));
+    go_over(&two);
+    replayed(sent(SET_1));
+}
+
 static void a_save_since_the_ring_was_opened(void) {
     fresh();
     struct stamp seen, saved;
@@ -315,19 +384,29 @@ static void poor_link(size_t awake) {
             if (now[n].to >> huts[k]->me.number & 1 && copies++ % 3 != 0) came(huts[k], now[n]);
 }
 
+/* How many records are in invalid-write, 5 being the last writer. */
+static size_t overtaken_by_five(const struct hut *h) {
+    size_t count = 0;
+    for (size_t i = 0; i < COUNT; i++) count += h->table[i].state == CETSKOBI_INVALID_WRITE && h->table[i].writer == 5;
+    return count;
+}
+
+/* 5 dies amid saves of the same rings by all three. */
 static void ticks_alone_settle_every_record(void) {
     fresh();
     struct hut *huts[] = {&one, &two, &five};
     for (int now = 0; now < 6000; now++) {
-        if (now == 2000) CHECK(view_came(&one, 1, SET_1 | SET_2) == 0);
-        if (now == 2100) CHECK(view_came(&two, 1, SET_1 | SET_2) == 0);
-        size_t awake = now < 1900 ? 3 : 2; /* 5 dies */
+        if (now == 2000) CHECK(overtaken_by_five(&one) > 0 && view_came(&one, 1, SET_1 | SET_2) == 0);
+        if (now == 2100) CHECK(overtaken_by_five(&two) > 0 && view_came(&two, 1, SET_1 | SET_2) == 0);
+        size_t awake = now < 1900 ? 3 : 2;
         poor_link(awake);
         for (size_t k = 0; k < awake; k++) {
-            size_t i = ((size_t)now / 12 + 5 * k) % 30, len;
+            int together = now >= 1890;
+            size_t i = (together ? (size_t)now : (size_t)now / 12 + 5 * k) % 30, len;
             struct stamp seen, saved;
-            if (now < 1890 && (size_t)now % 12 == 4 * k && open_ring(huts[k], i, &len, &seen) == 0)
-                CHECK(save(huts[k], i, seen, (const uint8_t *)&now, sizeof now, &saved) == 0);
+            const int text[] = {now, huts[k]->me.number};
+            if (now < 1900 && (together || (size_t)now % 12 == 4 * k) && open_ring(huts[k], i, &len, &seen) == 0)
+                CHECK(save(huts[k], i, seen, (const uint8_t *)text, sizeof text, &saved) == 0);
             tick(huts[k]);
         }
     }
@@ -341,6 +420,7 @@ static void ticks_alone_settle_every_record(void) {
 int main(void) {
     a_worked_morning();
     two_saves_at_once();
+    an_overtaken_laptop_replays();
     a_save_since_the_ring_was_opened();
     a_save_that_waits_for_a_struck_off_laptop();
     a_save_that_waits_at_a_struck_off_laptop();

@@ -82,8 +82,42 @@ impl<T: AsMut<[u8]>, S: AsMut<[u8]>> Laptop<T, S> {
         lent.left(i, answer)
     }
 
-    /// Takes over record `i` from a last writer that was struck off. An INV
-    /// leaves, with the value.
+    /// Takes over record `i`, invalid or invalid-write, from a last writer that was
+    /// struck off. Timestamp and value stay, and an INV leaves with them, to all
+    /// others in the view; the last acknowledgement ends it, as it ends a write.
+    ///
+    /// In invalid-write that writer had overtaken a write of this laptop's own.
+    /// That one is given up: its value is no longer in the record, and its
+    /// acknowledgements no longer count.
+    ///
+    /// ```
+    /// use cetskobi::{Laptop, Refusal};
+    ///
+    /// # fn main() -> Result<(), Refusal> {
+    /// # let mut net = Laptop::start(0, 0b111, 1)?;
+    /// # let mut hut = Laptop::start(1, 0b111, 1)?;
+    /// # let mut tent = Laptop::start(2, 0b111, 1)?;
+    /// // 0 and 2 of {0,1,2} save together. 2 has the greater timestamp, and dies.
+    /// let _lesser = net.write(0, b"Wren")?;
+    /// let greater = tent.write(0, b"Robin")?;
+    /// let _ack = net.deliver(greater.arriving())?;
+    /// assert_eq!(net.replay(0), Err(Refusal::NotReplayable));
+    ///
+    /// // It is struck off, and 0 hands its text on.
+    /// net.change_view(1, 0b011)?;
+    /// # hut.change_view(1, 0b011)?;
+    /// let inv = net.replay(0)?;
+    /// assert_eq!(inv.body(), b"Robin");
+    /// let ack = hut.deliver(inv.arriving())?.leaving();
+    /// # let ack = ack.expect("an INV is acknowledged").into_owned();
+    /// let val = net.deliver(ack.arriving())?.leaving();
+    /// # let val = val.expect("1 was the last").into_owned();
+    /// # assert_eq!(hut.deliver(val.arriving())?.leaving(), None);
+    /// assert_eq!(net.read(0)?, b"Robin");
+    /// assert_eq!(hut.read(0)?, b"Robin");
+    /// # Ok(())
+    /// # }
+    /// ```
     ///
     /// # Errors
     ///

@@ -43,7 +43,8 @@ pub enum Refusal {
     /// last acknowledgement, or before every other laptop of the view has
     /// acknowledged.
     NotFinished = 15,
-    /// 16: a replay of a record that is not invalid, or whose last writer is in the view.
+    /// 16: a replay of a record that is neither invalid nor invalid-write, or whose
+    /// last writer is in the view.
     NotReplayable = 16,
     /// 17: a resend where the laptop has nothing of its own to send again.
     NotResendable = 17,
@@ -152,7 +153,8 @@ impl Refusal {
                 "nothing waits to be validated, or an acknowledgement is still missing"
             }
             Refusal::NotReplayable => {
-                "the record is not invalid, or its last writer is still in the view"
+                "the record is neither invalid nor invalid-write, \
+                 or its last writer is still in the view"
             }
             Refusal::NotResendable => {
                 "this laptop has nothing of its own to send again for the record"

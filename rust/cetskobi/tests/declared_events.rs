@@ -208,15 +208,37 @@ fn on_table(f: OnTable, i: usize, record: Bytes) -> (Answer, Vec<u8>) {
     (answer, table[RECORD_BYTES..].to_vec())
 }
 
+/// Another's text in this state, by this last writer; 1 has acknowledged what the
+/// laptop itself wrote before, of version 6.
+const fn taken(state: u8, writer: u8) -> Bytes {
+    [state, 4, writer, 2, 4, 3, 2, 1, 6, 0, 0, 0, 0b10, 0, 62, 9]
+}
+
+/// Invalid, and by Wish 2 of document 02 invalid-write: what the laptop itself
+/// wrote is given up, with the acknowledgement of it.
 #[test]
 fn replay() {
-    let orphan = [1, 4, 4, 2, 4, 3, 2, 1, 6, 0, 0, 0, 0b10, 0, 62, 9];
-    let (replayed, record) = on_table(cetskobi_replay, 1, orphan);
-    assert_eq!(replayed, answer(0, 1, 4, VERSION));
-    assert_eq!(record, [4, 4, 2, 4, 4, 3, 2, 1, 4, 3, 2, 1, 0, 0, 62, 9]);
-    let (refused, record) = on_table(cetskobi_replay, 0, orphan);
+    for state in [1, 2] {
+        let (replayed, record) = on_table(cetskobi_replay, 1, taken(state, 4));
+        assert_eq!(replayed, answer(0, 1, 4, VERSION));
+        assert_eq!(record, [4, 4, 2, 4, 4, 3, 2, 1, 4, 3, 2, 1, 0, 0, 62, 9]);
+    }
+    let (refused, record) = on_table(cetskobi_replay, 0, taken(2, 4));
     assert_eq!(refused, answer(16, 0, 0, 0));
-    assert_eq!(record, orphan);
+    assert_eq!(record, taken(2, 4));
+}
+
+/// Valid, write and replay; and a last writer that is in the view: 1, 5, the
+/// laptop itself.
+#[test]
+fn a_refused_replay_changes_nothing() {
+    let settled = [0, 3, 4].map(|state| taken(state, 4));
+    let present = [1, 2].map(|state| [1, 2, 5].map(|writer| taken(state, writer)));
+    for before in settled.iter().chain(present.as_flattened()) {
+        let (refused, record) = on_table(cetskobi_replay, 1, *before);
+        assert_eq!(refused, answer(16, 0, 0, 0), "{before:?}");
+        assert_eq!(record, before);
+    }
 }
 
 #[test]

@@ -2,7 +2,7 @@
 //! worked morning, and does what the guide says of saves and of the clock.
 //! tests/c/guide.c does the same in C.
 
-use cetskobi::Reply;
+use cetskobi::{Record, Reply};
 use std::fs;
 
 // The guide's block to the letter, as wide as it is there: the first test
@@ -111,6 +111,15 @@ impl Hut {
         for _ in 0..count {
             self.tick();
         }
+    }
+
+    /// At which of so many ticks something is sent.
+    fn sends_at(&mut self, ticks: u32) -> Vec<u32> {
+        let at = (1..=ticks).filter(|_| {
+            self.tick();
+            !self.all_sent().is_empty()
+        });
+        at.collect()
     }
 
     /// The packets that were sent since.
@@ -430,91 +439,137 @@ fn the_guide_says_what_the_ringer_sees_of_each_fate() {
     assert!(rows.iter().all(|r| !r[1].is_empty() && !r[2].is_empty()));
 }
 
-/// Laptops 2 and 5 saved together, and 2 was overtaken; then 5 died.
+/// The stamps of two saves at once, by 2 and by 5.
+const LESSER: Timestamp = Timestamp { version: 1, tie: 2 };
+const GREATER: Timestamp = Timestamp { version: 1, tie: 5 };
+
+/// 2 and 5 saved together, and 2 was overtaken; then 5 died. Laptops 1 and 2, and
+/// the two INVs, of which 1 has heard neither.
 fn overtaken() -> (Hut, Hut, [Vec<u8>; 2]) {
     let [one, mut two, mut five] = three();
-    two.saves(b"two's");
-    five.saves(b"five's");
+    assert_eq!(two.saves(b"two's"), LESSER);
+    assert_eq!(five.saves(b"five's"), GREATER);
     let (of_two, of_five) = (two.sent([1, 5]), five.sent([1, 2]));
     two.came(&of_five);
     two.sent([5]);
-    two.is(State::InvalidWrite, stamp(1, 5), 0);
+    two.is(State::InvalidWrite, GREATER, 0);
     (one, two, [of_two, of_five])
 }
 
-/// 1 and 2 hand each other their packets until none is sent.
-fn exchange(one: &mut Hut, two: &mut Hut) {
+/// 1 and 2 hand each other their packets until none is sent. Both show the
+/// winner's text then, and 2's ringer is told that hers was replaced.
+fn both_show_the_winners_text(mut one: Hut, mut two: Hut) {
     loop {
         let (from_one, from_two) = (one.all_sent(), two.all_sent());
         if from_one.is_empty() && from_two.is_empty() {
-            return;
+            break;
         }
         from_one.iter().for_each(|(p, _)| two.came(p));
         from_two.iter().for_each(|(p, _)| one.came(p));
     }
+    for hut in [&one, &two] {
+        assert_eq!(hut.open(RING), Ok((&b"five's"[..], GREATER)));
+    }
+    assert_eq!(two.fate(RING, LESSER), Fate::Replaced);
 }
 
+/// Only 2 has the winner's text. As long as 5 is in the view it waits; once 5 is
+/// struck off it replays that text, at once and then by its clock.
 #[test]
-fn an_overtaken_laptop_is_freed_by_a_replay_elsewhere() {
+fn an_overtaken_laptop_replays_the_winners_text() {
+    let (mut one, mut two, _) = overtaken();
+    assert_eq!(two.sends_at(3000), []);
+    two.go_over();
+    two.is(State::InvalidWrite, GREATER, 0);
+    assert_eq!(two.open(RING), Err(Refusal::NotReadable));
+    assert_eq!(two.fate(RING, LESSER), Fate::Replaced);
+
+    two.view_came(1, 6).expect("accepted");
+    let inv = two.sent([1]);
+    assert_eq!(messages(&inv), [Message::Inv(GREATER)]);
+    two.is(State::Replay, GREATER, 0);
+    assert_eq!(two.fate(RING, LESSER), Fate::Replaced);
+    assert_eq!(two.sends_at(130), [8, 24, 56, 88, 120]);
+
+    // 1 had heard nothing, and hears of the view late.
+    one.came(&inv);
+    one.is(State::Valid, stamp(0, 1), 0);
+    one.view_came(1, 6).expect("accepted");
+    one.is(State::Valid, stamp(0, 1), 0);
+    two.ticks(152 - 130); // the next of these
+    both_show_the_winners_text(one, two);
+}
+
+/// 1 holds the text that was overtaken. It cannot help, as 2 lives; and what it
+/// acknowledged is late.
+#[test]
+fn an_overtaken_laptop_gives_its_own_save_up() {
+    let (mut one, mut two, [of_two, _]) = overtaken();
+    one.came(&of_two);
+    let late = one.sent([2]);
+    one.view_came(1, 6).expect("accepted");
+    one.is(State::Invalid, LESSER, 0);
+    two.view_came(1, 6).expect("accepted");
+    assert_eq!(messages(&late), [Message::Ack(LESSER)]);
+    let ack = packet::fetch(&late, 0).expect("a message");
+    assert_eq!(two.laptop.deliver(ack), Err(Refusal::OtherEpoch));
+    both_show_the_winners_text(one, two);
+}
+
+/// 1 holds the winner's text too: both replay it.
+#[test]
+fn an_overtaken_laptop_and_another_replay_together() {
     let (mut one, mut two, [_, of_five]) = overtaken();
     one.came(&of_five);
     one.sent([5]);
-    for hut in [&mut two, &mut one] {
-        hut.view_came(1, 6).expect("accepted");
-    }
-    exchange(&mut one, &mut two);
-    one.shows(b"five's");
-    two.shows(b"five's");
-}
-
-#[test]
-fn an_overtaken_laptop_is_freed_by_a_save_elsewhere() {
-    let (mut one, mut two, [of_two, _]) = overtaken();
-    one.came(&of_two);
-    one.sent([2]);
     for hut in [&mut one, &mut two] {
         hut.view_came(1, 6).expect("accepted");
-        hut.ticks(3000);
-        assert!(hut.all_sent().is_empty());
+        let r = hut.laptop.record(RING).expect("the ring");
+        assert_eq!((r.state, r.timestamp), (State::Replay, GREATER));
     }
-    // 1 waits for 2, and 2 cannot help itself.
-    one.is(State::Invalid, stamp(1, 2), 0);
-    two.is(State::InvalidWrite, stamp(1, 5), 0);
-    assert_eq!(one.open(RING), Err(Refusal::NotReadable));
-    let left = one.laptop.write(RING, b"one's").expect("accepted");
-    let left = left.into_owned();
-    one.put_again(left, WAIT_FIRST);
-    one.send();
-    exchange(&mut one, &mut two);
-    one.shows(b"one's");
-    two.shows(b"one's");
+    both_show_the_winners_text(one, two);
+}
+
+/// 2 took the view and replayed nothing, as with an engine without Wish 2; then it
+/// starts again on the memory that it kept. Its clocks are gone, so ticks do not
+/// find the record; going over once does.
+#[test]
+fn a_record_that_hung_is_freed_by_going_over() {
+    let (mut one, mut two, _) = overtaken();
+    one.view_came(1, 6).expect("accepted");
+    two.laptop.change_view(1, 6).expect("accepted");
+    let (me, table, store) = two.laptop.into_parts();
+    let mut two = Hut {
+        laptop: Laptop::from_parts(me, table, store),
+        radio: Radio::default(),
+        clocks: vec![(0, 0); 8],
+        messages: Vec::new(),
+        to: 0,
+    };
+    assert_eq!(two.sends_at(3000), []);
+    two.is(State::InvalidWrite, GREATER, 0);
+    two.go_over();
+    both_show_the_winners_text(one, two);
 }
 
 #[test]
 fn waits_are_as_the_guide_has_them() {
     let [mut one, mut two, mut five] = three();
     two.saves(b"robin");
-    let sent_at = |hut: &mut Hut, ticks: u32| -> Vec<u32> {
-        let at = (1..=ticks).filter(|_| {
-            hut.tick();
-            !hut.all_sent().is_empty()
-        });
-        at.collect()
-    };
     let inv = two.sent([1, 5]);
-    assert_eq!(sent_at(&mut two, 130), [8, 24, 56, 88, 120]);
+    assert_eq!(two.sends_at(130), [8, 24, 56, 88, 120]);
     for hut in [&mut one, &mut five] {
         hut.came(&inv);
         two.came(&hut.sent([2]));
     }
     two.sent([1, 5]);
     let waits = [8, 24, 56, 120, 248, 504, 1016, 2040, 3064, 4088];
-    assert_eq!(sent_at(&mut two, 5000), waits);
+    assert_eq!(two.sends_at(5000), waits);
     // 1 has the text, and nothing of its own to send again.
-    assert_eq!(sent_at(&mut one, 5000), []);
+    assert_eq!(one.sends_at(5000), []);
     // Struck off, it is silent.
     two.view_came(1, 34).expect("accepted");
-    assert_eq!(sent_at(&mut two, 5000), []);
+    assert_eq!(two.sends_at(5000), []);
 }
 
 #[test]
@@ -563,29 +618,34 @@ impl Dice {
     }
 }
 
-/// Five laptops over a link that loses 30 of 100 packets to the end. One dies;
-/// one hears of that late. Nothing but packets, views and ticks reaches a hut,
-/// and every record settles.
+/// Five laptops over a link that loses 30 of 100 packets to the end. One dies
+/// amid saves that others make of the same rings; one hears of that late. Nothing
+/// but packets, views and ticks reaches a hut, and every record settles, also
+/// where the dead laptop had overtaken a save.
 #[test]
 fn ticks_alone_settle_every_record() {
-    for seed in 1..=20 {
-        settles(Dice(seed));
-    }
+    let overtaken: usize = (1..=20).map(|seed| settles(Dice(seed))).sum();
+    assert!(overtaken > 20, "{overtaken}");
 }
 
-fn settles(mut dice: Dice) {
+/// How many records were in invalid-write when their last writer was struck off.
+fn settles(mut dice: Dice) -> usize {
     const RINGS: usize = 60;
     const DYING: usize = 4;
     let hut = |n| Hut::begin(n, 0b1_1111, RINGS, Radio::default()).expect("a laptop");
     let mut huts: Vec<Hut> = (0..5).map(hut).collect();
     let mut air: Vec<(u32, usize, Vec<u8>)> = Vec::new();
     let mut saves: Vec<(usize, usize, Timestamp, Vec<u8>)> = Vec::new();
+    let mut overtaken = 0;
     for now in 0..20_000 {
         let awake = if now < 600 { 5 } else { 4 };
         // The warden strikes the dead laptop off; laptop 0 hears it late.
         if now == 700 || now == 900 {
             let told = if now == 700 { 1..4 } else { 0..1 };
             for hut in &mut huts[told] {
+                let records = (0..RINGS).filter_map(|ring| hut.laptop.record(ring));
+                let waits = |r: &Record| r.state == State::InvalidWrite && r.writer == DYING as u8;
+                overtaken += records.filter(waits).count();
                 hut.view_came(1, 0b0_1111).expect("accepted");
             }
         }
@@ -597,14 +657,14 @@ fn settles(mut dice: Dice) {
                 huts[to].came(&packet);
             }
         }
-        // The dying laptop has rings of its own: see the guide on a record hung in invalid-write.
+        // Any hut saves any ring. In its last ticks the dying one saves what another saves.
         if now < 1200 && now % 3 == 0 {
-            let n = dice.below(awake);
-            let ring = match n {
-                DYING => dice.below(10),
-                _ => 10 + dice.below(RINGS - 10),
-            };
-            if let Ok((_, seen)) = huts[n].open(ring) {
+            let (n, ring) = (dice.below(awake), dice.below(RINGS));
+            let with = (570..600).contains(&now).then_some(DYING);
+            for n in [n].into_iter().chain(with) {
+                let Ok((_, seen)) = huts[n].open(ring) else {
+                    continue;
+                };
                 let text = format!("{n} at {now}").into_bytes();
                 let saved = huts[n].save(ring, seen, &text).expect("accepted");
                 saves.push((n, ring, saved.expect("opened just now"), text));
@@ -629,12 +689,15 @@ fn settles(mut dice: Dice) {
             assert_eq!(hut.open(ring), Ok((text, timestamp)));
         }
         // It is the text that was saved with that timestamp, and every fate is told.
-        for (n, _, saved, kept) in saves.iter().filter(|s| s.1 == ring && s.0 != DYING) {
+        for (n, _, saved, kept) in saves.iter().filter(|s| s.1 == ring) {
             let stands = *saved == timestamp;
-            let fate = huts[*n].fate(ring, *saved);
-            assert_eq!(fate == Fate::Finished, stands);
-            assert_eq!(fate == Fate::Replaced, !stands);
             assert!(!stands || kept == text);
+            if *n != DYING {
+                let fate = huts[*n].fate(ring, *saved);
+                assert_eq!(fate == Fate::Finished, stands);
+                assert_eq!(fate == Fate::Replaced, !stands);
+            }
         }
     }
+    overtaken
 }

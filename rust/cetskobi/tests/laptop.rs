@@ -21,6 +21,14 @@ fn from(sender: u8, message: Message) -> Envelope {
     }
 }
 
+/// The same in epoch 1.
+fn later(sender: u8, message: Message) -> Envelope {
+    Envelope {
+        epoch: 1,
+        ..from(sender, message)
+    }
+}
+
 /// The message of what a delivery answers, or its refusal.
 fn replied(reply: Result<Reply, Refusal>) -> Result<Option<Envelope>, Refusal> {
     reply.map(|reply| reply.leaving().map(|left| left.envelope()))
@@ -129,16 +137,12 @@ fn a_replay_from_view_to_screen() {
     assert!(l.deliver(Arriving::new(inv, b"wren")).is_ok());
     l.change_view(1, 0b10_0110).unwrap();
     assert_eq!(l.replay(1).unwrap().recipients().bits(), 0b10_0010);
-    let next = |sender, message| Envelope {
-        epoch: 1,
-        ..from(sender, message)
-    };
-    let ack = |sender| next(sender, Message::Ack(stamp(1, 7)));
+    let ack = |sender| later(sender, Message::Ack(stamp(1, 7)));
     assert_eq!(replied(l.deliver(Arriving::new(ack(1), b""))), Ok(None));
     assert_eq!(l.record(1).unwrap().state, State::Replay);
     let val = l.deliver(Arriving::new(ack(5), b"")).unwrap().leaving();
     let val = val.expect("5 was the last");
-    assert_eq!(val.envelope(), next(2, Message::Val(stamp(1, 7))));
+    assert_eq!(val.envelope(), later(2, Message::Val(stamp(1, 7))));
     assert_eq!((val.body(), val.recipients().bits()), (&b""[..], 0b10_0010));
     assert_eq!(l.record(1).unwrap().acks, Members::from_iter([1, 5]));
     assert_eq!(l.read(1), Ok(b"wren".as_slice()));
@@ -164,6 +168,102 @@ fn acknowledgements_of_an_overtaken_write_are_only_counted() {
     assert_eq!(l.read(1), Err(Refusal::NotReadable));
 }
 
+/// Laptop 2's write, acknowledged by 1, was overtaken by 5, which is struck off
+/// before its VAL came.
+fn overtaken() -> Laptop {
+    let mut l = laptop();
+    assert!(l.write(1, b"wren").is_ok());
+    assert_eq!(acked(&mut l, 1), Ok(None));
+    assert!(invalidated(&mut l, stamp(1, 5), b"robin").is_ok());
+    l.change_view(1, 0b110).unwrap();
+    assert_eq!(l.record(1).unwrap().state, State::InvalidWrite);
+    l
+}
+
+/// Document 02, Wish 2: every byte of the replay from invalid-write, and what
+/// leaves. Only laptop 2 had 5's text; then 1 has it too, and both show it.
+#[test]
+fn an_overtaken_write_is_given_up_for_a_replay() {
+    let mut l = overtaken();
+    let inv = l.replay(1).unwrap().into_owned();
+    assert_eq!(inv.envelope(), later(2, Message::Inv(stamp(1, 5))));
+    assert_eq!((inv.body(), inv.recipients().bits()), (&b"robin"[..], 0b10));
+    let replayed = [4, 5, 2, 5, 1, 0, 0, 0, 1, 0, 0, 0, 0, 0, 5, 0];
+    assert_eq!(l.table()[16..32], replayed);
+    assert_eq!(l.table()[..16], laptop().table()[..16]);
+    assert_eq!(l.table()[32..], laptop().table()[32..]);
+    let store = [&[0; 192][..], b"robin", &[0; 187 + 192]].concat();
+    assert_eq!(l.store(), store);
+
+    // It waits as every replay: it cannot be shown, replayed or validated, and is sent again.
+    let waiting = l.clone();
+    assert_eq!(l.read(1), Err(Refusal::NotReadable));
+    assert_eq!(l.replay(1), Err(Refusal::NotReplayable));
+    assert_eq!(l.validate(1), Err(Refusal::NotFinished));
+    assert_eq!(l.resend(1), Ok(inv.clone()));
+    // An ACK of its own write is late; it would not count in the new epoch either.
+    let own = Message::Ack(stamp(1, 2));
+    let mut came = |ack| replied(l.deliver(Arriving::new(ack, b"")));
+    assert_eq!(came(from(1, own)), Err(Refusal::OtherEpoch));
+    assert_eq!(came(later(1, own)), Err(Refusal::StrayAck));
+    assert_eq!(l, waiting);
+
+    let mut one = Laptop::start(1, 0b10_0110, 3).unwrap();
+    one.change_view(1, 0b110).unwrap();
+    let ack = one.deliver(inv.arriving()).unwrap().leaving();
+    let ack = ack.expect("an INV is acknowledged").into_owned();
+    assert_eq!(ack.envelope(), later(1, Message::Ack(stamp(1, 5))));
+    let val = l.deliver(ack.arriving()).unwrap().leaving();
+    let val = val.expect("1 was the last").into_owned();
+    assert_eq!(val.envelope(), later(2, Message::Val(stamp(1, 5))));
+    assert_eq!((val.body(), val.recipients().bits()), (&b""[..], 0b10));
+    let valid = [0, 5, 2, 5, 1, 0, 0, 0, 1, 0, 0, 0, 0b10, 0, 5, 0];
+    assert_eq!(l.table()[16..32], valid);
+    assert_eq!(replied(one.deliver(val.arriving())), Ok(None));
+    for laptop in [&l, &one] {
+        assert_eq!(laptop.read(1), Ok(b"robin".as_slice()));
+    }
+}
+
+/// While 5 is in the view it may still send its VAL; and its VAL of the old epoch
+/// is late.
+#[test]
+fn an_overtaken_write_waits_while_the_winner_is_in_the_view() {
+    let mut l = laptop();
+    assert!(l.write(1, b"wren").is_ok());
+    assert_eq!(l.replay(1), Err(Refusal::NotReplayable));
+    assert!(invalidated(&mut l, stamp(1, 5), b"robin").is_ok());
+    let before = l.clone();
+    assert_eq!(l.replay(1), Err(Refusal::NotReplayable));
+    // Without 1 it is another view, but 5 is in it.
+    l.change_view(1, 0b10_0100).unwrap();
+    assert_eq!(l.replay(1), Err(Refusal::NotReplayable));
+    assert_eq!((l.table(), l.store()), (before.table(), before.store()));
+
+    let mut l = overtaken();
+    let val = Message::Val(stamp(1, 5));
+    let late = replied(l.deliver(Arriving::new(from(5, val), b"")));
+    assert_eq!(late, Err(Refusal::OtherEpoch));
+    assert!(l.replay(1).is_ok());
+}
+
+/// The own write is forgotten: a greater INV leaves the replay invalid, where a
+/// write is accepted, and not invalid-write.
+#[test]
+fn a_replay_of_an_overtaken_write_is_overtaken_itself() {
+    let mut l = overtaken();
+    assert!(l.replay(1).is_ok());
+    assert_eq!(l.write(1, b"dunnock"), Err(Refusal::NotWritable));
+    let inv = later(1, Message::Inv(stamp(2, 1)));
+    assert!(l.deliver(Arriving::new(inv, b"siskin")).is_ok());
+    let record = l.record(1).unwrap();
+    assert_eq!((record.state, record.writer), (State::Invalid, 1));
+    assert_eq!(record.written, stamp(1, 5));
+    assert_eq!(l.replay(1), Err(Refusal::NotReplayable));
+    let inv = l.write(1, b"dunnock").unwrap();
+    assert_eq!(inv.envelope(), later(2, Message::Inv(stamp(3, 2))));
+}
+
 /// 5 is missing, and is struck off: no acknowledgement comes any more that could
 /// settle the record, so it is validated.
 #[test]
@@ -175,11 +275,7 @@ fn a_write_whose_last_missing_laptop_is_struck_off() {
     l.change_view(1, 0b110).unwrap();
     assert_eq!(l.record(1).unwrap().state, State::Write);
     let val = l.validate(1).unwrap();
-    let right = Envelope {
-        epoch: 1,
-        ..from(2, Message::Val(stamp(1, 2)))
-    };
-    assert_eq!(val.envelope(), right);
+    assert_eq!(val.envelope(), later(2, Message::Val(stamp(1, 2))));
     assert_eq!((val.body(), val.recipients().bits()), (&b""[..], 0b10));
     assert_eq!(l.read(1), Ok(b"wren".as_slice()));
     assert_eq!(l.validate(1), Err(Refusal::NotFinished));
@@ -194,10 +290,7 @@ fn the_last_acknowledgement_after_a_view() {
     assert_eq!(acked(&mut l, 5), Ok(None));
     l.change_view(1, 0b110).unwrap();
     assert_eq!(l.validate(1), Err(Refusal::NotFinished));
-    let ack = Envelope {
-        epoch: 1,
-        ..from(1, Message::Ack(stamp(1, 2)))
-    };
+    let ack = later(1, Message::Ack(stamp(1, 2)));
     let val = l.deliver(Arriving::new(ack, b"")).unwrap().leaving();
     let val = val.expect("1 was the last");
     assert_eq!((val.envelope().epoch, val.recipients().bits()), (1, 0b10));
@@ -229,12 +322,8 @@ fn an_overtaken_write_and_a_replay() {
     assert_eq!(l.change_view(1, 0b111), Err(Refusal::ViewNotWithin));
     assert_eq!(l.change_view(1, 0b110), Ok(()));
     assert_eq!((l.epoch(), l.view()), (1, Members::from_iter([1, 2])));
-    let again = Envelope {
-        epoch: 1,
-        ..from(2, Message::Inv(stamp(2, 5)))
-    };
     let replayed = l.replay(1).unwrap();
-    assert_eq!(replayed.envelope(), again);
+    assert_eq!(replayed.envelope(), later(2, Message::Inv(stamp(2, 5))));
     assert_eq!(replayed.body(), b"dunnock");
     assert_eq!(replayed.recipients().bits(), 0b010);
     assert_eq!(acked(&mut l, 1), Err(Refusal::OtherEpoch));
