@@ -1,5 +1,5 @@
 -- What every accepted event keeps of its record holds along every list of entries. Here is what an event makes of its record, case by case, and the
--- record that a list begins with; who has shown that the cases keep something needs not look at lists.
+-- record that a list begins with; who has shown that the cases keep something need not look at lists.
 use Prim.Native.Nat.{ℕ, zero, suc, _+_, _<_}
 use mathlib.Core.Path.{_≡_, refl, sym}
 use mathlib.Core.Bool.{Bool, true, false}
@@ -31,6 +31,7 @@ use Rattle.hermes.proofs.Apply.{stepOf, done, Applied, refused, accepte
 use Rattle.hermes.proofs.Start.{Begun, begun}
 use Rattle.hermes.proofs.Agreement.{at-who, at-other}
 
+-- the record that a list begins with
 pub fresh-record : (member : ℕ → Bool) (count : ℕ) (issued : ℕ → ℕ) (g : Group) → Started member count issued g
     → (i k : ℕ) → i < count → member k ≡ true → recordOf i (g .at k) ≡ freshRecord (lowest (issued 0))
 fresh-record member count issued g s i k l m = rw (f .tableAfter, b .tableAfter) (getD-replicate (length (f .table)) i _ _ (omega (arith, f .records)))

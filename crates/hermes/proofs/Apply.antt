@@ -3,6 +3,7 @@ use Prim.Native.Nat.{ℕ, zero, suc, _+_, _*_, _≤_}
 use mathlib.Core.Path.{_≡_, refl, ap}
 use mathlib.Core.Bool.{Bool}
 use mathlib.Core.List.{List}
+use native.Mathlib.Omega.{arith}
 use lib.ListN.{length, set, take, drop, length-set}
 use lib.Seq.{set-getD, getD-set-same, getD-set-other}
 use Rattle.hermes.specs.declared.event.Event.{Event}
@@ -10,7 +11,7 @@ use Rattle.hermes.specs.declared.event.Answer.the-variants.{Accepted, Re
 use Rattle.hermes_record.specs.declared.record.Record.{Record}
 use Rattle.hermes.specs.Guards.{Question, AllYes}
 use Rattle.hermes_record.specs.Record.{freshRecord}
-use Rattle.hermes.specs.Event.{Stored, kept, placed, Step, common, own, refusal, step, storing, effect}
+use Rattle.hermes.specs.Event.{Stored, kept, placed, Step, common, own, refusal, step, storing, effect, numberOf, sentBy}
 use Rattle.hermes.specs.Node.{Node, Outcome, recordOf, apply}
 use Rattle.hermes.specs.Store.{slot}
 use Rattle.hermes.specs.Frame.{bytesAfter, Changed}
@@ -111,3 +112,12 @@ applied wins n i e v = go (refusalOf n i e v) refl
     go zero z = let y : AllYes (questionsOf n i e v) = passed (n .me) (length (n .table)) (length (n .store)) i (recordOf i n) e (length v) z in
         accepted y (changed wins n i e v y) (rw z)
     go (suc k) z = refused k z (rw z (ap (λ (t : List Record). record { answer = Refused (suc k); node = record { me = n .me; table = t; store = n .store } }) (set-getD (n .table) i (freshRecord 0))))
+
+-- an event whose questions all say yes is accepted, and sends what its step does
+pub answered : (wins : ℕ → ℕ → Bool) (n : Node) (i : ℕ) (e : Event) (v : List ℕ) → AllYes (questionsOf n i e v)
+    → (numberOf (apply wins n i e v .answer) ≡ 0) × (sentBy (apply wins n i e v .answer) ≡ stepOf wins n i e v .sent)
+answered wins n i e v y = go (apply wins n i e v) (applied wins n i e v)
+  where
+    go : (o : Outcome) → Applied wins n i e v o → (numberOf (o .answer) ≡ 0) × (sentBy (o .answer) ≡ stepOf wins n i e v .sent)
+    go o (refused k z q) = absurd (omega (arith, z, passed-zero n i e v y))
+    go o (accepted y c q) = rw q (refl, refl)

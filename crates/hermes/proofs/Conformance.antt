@@ -144,7 +144,7 @@ module _ (me : Replica) (r : Record) (b : List ℕ) where
 -- question 16 is the guard of HReplayWrite, widened
 module _ (me : Replica) (r : Record) (b : List ℕ) where
   may-replay : ReplayOwn me r → HReplayWriteWidenedGuard me (seen r b)
-  may-replay o = go (one-in (r .state) (state.Invalid ∷ state.InvalidWrite ∷ []) (o .invalid))
+  may-replay o = go (one-in (r .state) (state.Invalid ∷ state.InvalidWrite ∷ []) (o .invalidated))
     where
       dead : has (me .view) (r .writer) ≡ true → ⊥
       dead h = false≢true (sym (o .gone) ∙ h)

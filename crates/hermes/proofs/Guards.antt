@@ -131,8 +131,9 @@ pub record ValidateOwn (me : Replica) (r : Record) : Type 0 where
   pub pending : oneOf (r .state) (state.Write ∷ state.Replay ∷ []) ≡ true
   pub acknowledged : othersIn (me .number) (me .view) (r .acks) ≡ true
 
+-- question 16
 pub record ReplayOwn (me : Replica) (r : Record) : Type 0 where
-  pub invalid : oneOf (r .state) (state.Invalid ∷ state.InvalidWrite ∷ []) ≡ true
+  pub invalidated : oneOf (r .state) (state.Invalid ∷ state.InvalidWrite ∷ []) ≡ true
   pub gone : has (me .view) (r .writer) ≡ false
 
 -- question 17: something is under way, or the replica wrote what the record shows
@@ -175,7 +176,7 @@ module _ (me : Replica) (r : Record) where
   pub replay-own : (n : ℕ) → AllYes (own me r Replay n) → ReplayOwn me r
   replay-own n y =
       let (p, q) = both (oneOf (r .state) (state.Invalid ∷ state.InvalidWrite ∷ [])) (not (has (me .view) (r .writer))) (y .0) in
-      record { invalid = p; gone = not-true _ q }
+      record { invalidated = p; gone = not-true _ q }
 
   pub resend-own : (n : ℕ) → AllYes (own me r Resend n) → ResendOwn me r
   resend-own n y = go (either (oneOf (r .state) (state.Write ∷ state.Replay ∷ [])) (oneOf (r .state) (state.Valid ∷ []) && eqb (r .writer) (me .number)) (y .0))

@@ -1,13 +1,12 @@
 -- 02, Wish 2: an overtaken save is given up by the replay, and no record hangs. The idea: in invalid-write the record's timestamp is later than the
 -- laptop's own save, and timestamps and last-write timestamps only rise from there; and who is invalid took an INV of another laptop.
 use Prim.Native.Nat.{ℕ}
-use mathlib.Core.Path.{_≡_, refl, ap, subst, _∙_}
-use mathlib.Core.Bool.{Bool, true, false}
+use mathlib.Core.Path.{_≡_, refl, sym, ap, subst, _∙_}
+use mathlib.Core.Bool.{Bool, true, false, false≢true}
 use mathlib.Core.Logic.{inl, _≢_}
 use mathlib.Core.List.{List, [], _∷_}
 use native.Mathlib.Omega.{arith}
 use lib.ListN.{length}
-use borrow.Author.Tests.{lt-ltb}
 use Rattle.hermes_record.specs.declared.timestamp.Timestamp.{Timestamp}
 use Rattle.hermes_record.specs.declared.record.Record.{Record}
 use Rattle.hermes_record.specs.declared.record.State.{State}
@@ -17,23 +16,25 @@ use Rattle.hermes.specs.declared.message.Message.the-variants.{Inv, Ack}
 use Rattle.hermes.specs.declared.message.Received.{Received}
 use Rattle.hermes.specs.declared.event.Replica.{Replica}
 use Rattle.hermes.specs.declared.event.Event.{Event}
-use Rattle.hermes.specs.declared.event.Event.the-variants.{Replay, Deliver, Resend}
-use Rattle.hermes_record.specs.Members.{has}
+use Rattle.hermes.specs.declared.event.Event.the-variants.{Replay, Deliver, Validate, Resend}
+use Rattle.hermes_record.specs.Members.{has, othersIn}
 use Rattle.hermes_record.specs.Order.{TieOrder, later}
 use Rattle.hermes_record.specs.Record.{oneOf, invalidatedState, nextTimestamp}
 use Rattle.hermes.specs.Guards.{AllYes}
-use Rattle.hermes.specs.Event.{resent, send, numberOf, sentBy}
+use Rattle.hermes.specs.Event.{resent, send, numberOf}
 use Rattle.hermes.specs.Node.{Node, Outcome, recordOf, apply}
 use Rattle.hermes.specs.Run as run
 use Rattle.hermes.specs.Run.{Group, result, advance}
 use Rattle.hermes.specs.Agreement.{after}
 use Rattle.hermes.specs.Reads.{Sound}
-use Rattle.hermes.specs.Overtaken.{replays as replay-of, GivenUp, Turn, shown, resends, takesOver, awaits, NobodyHangs}
+use Rattle.hermes.specs.Overtaken.{replayOf, GivenUp, Turn, shown, finishes, resends, takesOver, awaits, NobodyHangs}
+use Rattle.hermes_record.proofs.Tests.{and-both}
+use Rattle.hermes.proofs.Members.{every-other}
 use Rattle.hermes_record.proofs.Order.{greater-later, later-trans, later-apart}
 use Rattle.hermes.proofs.Guards.{KindOwn, deliver-own}
-use Rattle.hermes.proofs.Apply.{questionsOf, ownOf, stepOf, Applied, refused, accepted, applied, its-own, passed-zero}
+use Rattle.hermes.proofs.Apply.{questionsOf, ownOf, Applied, refused, accepted, applied, its-own, answered}
 use Rattle.hermes.proofs.Agreement.{at-who}
-use Rattle.hermes.proofs.Sound.{stay-sound, reads-tell}
+use Rattle.hermes.proofs.Sound.{stay-sound, five-say-yes, reads-tell}
 use Rattle.hermes.proofs.Along.{fresh-record, Becomes, same, writes, replays, invalidates, counts, settles, validates, always}
 
 -- ---- what every accepted event keeps of its record
@@ -55,7 +56,7 @@ Foreign state.Write writer k = Unit
 Foreign state.Replay writer k = Unit
 
 -- both of the record's timestamps are later than t
-record Passed (wins : ℕ → ℕ → Bool) (t : Timestamp) (r : Record) : Type 0 where
+record Risen (wins : ℕ → ℕ → Bool) (t : Timestamp) (r : Record) : Type 0 where
   held : later wins (r .timestamp) t ≡ true
   own : later wins (r .written) t ≡ true
 
@@ -92,17 +93,17 @@ module _ (wins : ℕ → ℕ → Bool) (ord : TieOrder wins) where
   ahead-keeps me r b (settles sender e) h = rw e tt
   ahead-keeps me r b (validates e) h = rw e tt
 
-  passed-keeps : (t : Timestamp) (me : Replica) (r b : Record) → Becomes wins me r b → Passed wins t r → Passed wins t b
-  passed-keeps t me r b (same e) h = rw e h
-  passed-keeps t me r b (writes n more e) h = rw e (record { held = new; own = new })
+  risen-keeps : (t : Timestamp) (me : Replica) (r b : Record) → Becomes wins me r b → Risen wins t r → Risen wins t b
+  risen-keeps t me r b (same e) h = rw e h
+  risen-keeps t me r b (writes n more e) h = rw e (record { held = new; own = new })
     where
       new : later wins (nextTimestamp (r .timestamp) (me .number)) t ≡ true
       new = later-trans wins ord (nextTimestamp (r .timestamp) (me .number)) (r .timestamp) t (greater-later wins (nextTimestamp (r .timestamp) (me .number)) (r .timestamp) (inl (omega (arith, more)))) (h .held)
-  passed-keeps t me r b (replays e) h = rw e (record { held = h .held; own = h .held })
-  passed-keeps t me r b (invalidates new sender n l d e) h = rw e (record { held = later-trans wins ord new (r .timestamp) t l (h .held); own = h .own })
-  passed-keeps t me r b (counts sender c e) h = rw e (record { held = h .held; own = h .own })
-  passed-keeps t me r b (settles sender e) h = rw e (record { held = h .held; own = h .own })
-  passed-keeps t me r b (validates e) h = rw e (record { held = h .held; own = h .own })
+  risen-keeps t me r b (replays e) h = rw e (record { held = h .held; own = h .held })
+  risen-keeps t me r b (invalidates new sender n l d e) h = rw e (record { held = later-trans wins ord new (r .timestamp) t l (h .held); own = h .own })
+  risen-keeps t me r b (counts sender c e) h = rw e (record { held = h .held; own = h .own })
+  risen-keeps t me r b (settles sender e) h = rw e (record { held = h .held; own = h .own })
+  risen-keeps t me r b (validates e) h = rw e (record { held = h .held; own = h .own })
 
 -- ---- the overtaken save is given up
 
@@ -122,18 +123,18 @@ given-up wins ord member count issued g s before i k l m x rest = record { overt
     behind : later wins (recordOf i n .timestamp) t ≡ true
     behind = subst (λ (z : State). Ahead wins z (recordOf i n .timestamp) t) (x .invalidWrite) ahead
 
-    done-passed : (o : Outcome) → Applied wins n i Replay [] o → numberOf (o .answer) ≡ 0 → Passed wins t (recordOf i (o .node))
-    done-passed o (refused z y q) e = absurd (omega (arith, ap (λ (w : Outcome). numberOf (w .answer)) q))
-    done-passed o (accepted y c q) e = rw (q, c .here) (record { held = behind; own = behind })
+    done-risen : (o : Outcome) → Applied wins n i Replay [] o → numberOf (o .answer) ≡ 0 → Risen wins t (recordOf i (o .node))
+    done-risen o (refused z y q) e = absurd (omega (arith, ap (λ (w : Outcome). numberOf (w .answer)) q))
+    done-risen o (accepted y c q) e = rw (q, c .here) (record { held = behind; own = behind })
 
     now : Group
-    now = advance wins (run.run wins g before) (replay-of k i)
+    now = advance wins (run.run wins g before) (replayOf k i)
 
-    begun : Passed wins t (recordOf i (now .at k))
-    begun = rw (at-who wins (run.run wins g before) (replay-of k i)) (done-passed (apply wins n i Replay []) (applied wins n i Replay []) (x .accepted))
+    begun : Risen wins t (recordOf i (now .at k))
+    begun = rw (at-who wins (run.run wins g before) (replayOf k i)) (done-risen (apply wins n i Replay []) (applied wins n i Replay []) (x .accepted))
 
-    past : Passed wins t (recordOf i (after wins now rest k))
-    past = always wins i (λ number r. Passed wins t r) (passed-keeps wins ord t) k now begun rest
+    past : Risen wins t (recordOf i (after wins now rest k))
+    past = always wins i (λ number r. Risen wins t r) (risen-keeps wins ord t) k now begun rest
 
     refuses : (msg : Received) (v : List ℕ) → msg .message ≡ Ack t → numberOf (apply wins (after wins now rest k) i (Deliver msg) v .answer) ≡ 0 → ⊥
     refuses msg v is = go (apply wins (after wins now rest k) i (Deliver msg) v) (applied wins (after wins now rest k) i (Deliver msg) v)
@@ -147,15 +148,6 @@ given-up wins ord member count issued g s before i k l m x rest = record { overt
 
 -- ---- nobody hangs
 
--- an event whose questions all say yes is accepted, and sends what its step does
-answered : (wins : ℕ → ℕ → Bool) (n : Node) (i : ℕ) (e : Event) (v : List ℕ) → AllYes (questionsOf n i e v)
-    → (numberOf (apply wins n i e v .answer) ≡ 0) × (sentBy (apply wins n i e v .answer) ≡ stepOf wins n i e v .sent)
-answered wins n i e v y = go (apply wins n i e v) (applied wins n i e v)
-  where
-    go : (o : Outcome) → Applied wins n i e v o → (numberOf (o .answer) ≡ 0) × (sentBy (o .answer) ≡ stepOf wins n i e v .sent)
-    go o (refused k z q) = absurd (omega (arith, z, passed-zero n i e v y))
-    go o (accepted y c q) = rw q (refl, refl)
-
 pub nobody-hangs : NobodyHangs
 nobody-hangs wins member count issued g s entries c i k l m v = go (recordOf i n .state) refl
   where
@@ -165,9 +157,8 @@ nobody-hangs wins member count issued g s entries c i k l m v = go (recordOf i n
     ok : Sound count k n
     ok = stay-sound wins member count issued g s entries c k m
 
-    -- questions 1 to 5 say yes
     five : (e : Event) → AllYes (ownOf n i e []) → AllYes (questionsOf n i e [])
-    five e y = (ok .first, (ok .second, (rw (ok .number) v, (lt-ltb i (length (n .table)) (omega (arith, ok .records)), (ok .fifth i l, y)))))
+    five e y = five-say-yes count k n ok i l v e [] y
 
     foreign : Foreign (recordOf i n .state) (recordOf i n .writer) (n .me .number)
     foreign = always wins i (λ number r. Foreign (r .state) (r .writer) number) (foreign-keeps wins) k g (rw (fresh-record member count issued g s i k l m) tt) entries
@@ -177,12 +168,16 @@ nobody-hangs wins member count issued g s entries c i k l m v = go (recordOf i n
     invalidated e d true h = awaits h d
     invalidated e d false h = let (p, q) = answered wins n i Replay [] (five Replay (rw (e, h), tt)) in takesOver p q
 
-    working : (oneOf (recordOf i n .state) (state.Write ∷ state.Replay ∷ []) ≡ true) → resent (n .me) i (recordOf i n .state) (recordOf i n .timestamp) ≡ send (n .me) i (Inv (recordOf i n .timestamp)) → Turn wins n i
-    working e f = let (p, q) = answered wins n i Resend [] (five Resend (rw e, tt)) in resends p (q ∙ f)
+    working : (oneOf (recordOf i n .state) (state.Write ∷ state.Replay ∷ []) ≡ true) → resent (n .me) i (recordOf i n .state) (recordOf i n .timestamp) ≡ send (n .me) i (Inv (recordOf i n .timestamp))
+        → (b : Bool) → othersIn (n .me .number) (n .me .view) (recordOf i n .acks) ≡ b → Turn wins n i
+    working e f true a = let (p, q) = answered wins n i Validate [] (five Validate (and-both _ _ e a, tt)) in finishes p q
+    working e f false a =
+        let (p, q) = answered wins n i Resend [] (five Resend (rw e, tt)) in
+        resends (λ h. false≢true (sym a ∙ every-other (n .me .number) (n .me .view) (recordOf i n .acks) (h .1))) p (q ∙ f)
 
     go : (x : State) → recordOf i n .state ≡ x → Turn wins n i
     go state.Valid e = shown (reads-tell wins member count issued g s entries c i k l m v .0 e)
     go state.Invalid e = invalidated (rw e) (subst (λ (z : State). Foreign z (recordOf i n .writer) (n .me .number)) e foreign) (has (n .me .view) (recordOf i n .writer)) refl
     go state.InvalidWrite e = invalidated (rw e) (subst (λ (z : State). Foreign z (recordOf i n .writer) (n .me .number)) e foreign) (has (n .me .view) (recordOf i n .writer)) refl
-    go state.Write e = working (rw e) (rw e)
-    go state.Replay e = working (rw e) (rw e)
+    go state.Write e = working (rw e) (rw e) (othersIn (n .me .number) (n .me .view) (recordOf i n .acks)) refl
+    go state.Replay e = working (rw e) (rw e) (othersIn (n .me .number) (n .me .view) (recordOf i n .acks)) refl

@@ -6,7 +6,7 @@ use mathlib.Core.Bool.{true}
 use mathlib.Core.Logic.{inl}
 use mathlib.Core.List.{[], _∷_}
 use native.Mathlib.Omega.{arith}
-use lib.ListN.{replicate, drop}
+use lib.ListN.{replicate, take, drop}
 use borrow.Author.Tests.{ltb-true}
 use Rattle.hermes.specs.declared.event.Admission.the-variants.{Admitted}
 use Rattle.hermes_record.specs.Members.{has, size, lowest, within, othersIn, with}
@@ -18,9 +18,12 @@ use Rattle.hermes.specs.Run as run
 use Rattle.hermes.specs.Run.{Action, result, advance}
 use Rattle.hermes.specs.Agreement.{Started, Entries, Agreement, validates, acknowledges}
 use Rattle.hermes.specs.Played.{three, issued, lentTable, group, played, answers, struckOff, story}
-use Rattle.hermes.specs.Witness.{kind, BothWays, Witness}
+use Rattle.hermes.specs.Witness.{kind, BothWays, end, Witness}
+use Rattle.hermes.specs.Overtaken.{Turn, shown, finishes, resends, takesOver, awaits}
+use Rattle.hermes_record.proofs.Order.{higher-order}
 use Rattle.hermes.proofs.Members.{others-every}
 use Rattle.hermes.proofs.Agreement.{agreement}
+use Rattle.hermes.proofs.Overtaken.{given-up, nobody-hangs}
 
 admitted : (k : ℕ) → three k ≡ true → start k 7 lentTable (replicate 192 0) .admission ≡ Admitted (newcomer k 7)
 unfolding start has size
@@ -52,13 +55,13 @@ story-entries =
     (refl, tt, (refl, tt, (refl, tt, (refl, tt, (refl, tt, (refl, tt, (refl, tt, (refl, tt, (refl, tt, (refl, tt, second))))))))))
   where
     fourth : Entries three issued (drop 30 story)
-    fourth = (refl, tt, (refl, tt, (refl, tt, (refl, tt, (refl, tt, (refl, tt, (refl, tt, tt)))))))
+    fourth = (refl, tt, (refl, tt, (refl, refl, (refl, tt, (refl, tt, (refl, tt, (refl, tt, (refl, tt, (refl, tt, (refl, tt, tt))))))))))
 
     third : Entries three issued (drop 20 story)
-    third = (refl, tt, (refl, tt, (refl, tt, (refl, tt, (refl, tt, (refl, tt, (refl, tt, (refl, tt, (refl, tt, (refl, refl, fourth))))))))))
+    third = (refl, tt, (refl, refl, (refl, tt, (refl, tt, (refl, tt, (refl, tt, (refl, tt, (refl, tt, (refl, tt, (refl, tt, fourth))))))))))
 
     second : Entries three issued (drop 10 story)
-    second = (refl, tt, (refl, tt, (refl, tt, (refl, tt, (refl, tt, (refl, refl, (refl, refl, (refl, tt, (refl, tt, (refl, refl, third))))))))))
+    second = (refl, tt, (refl, tt, (refl, tt, (refl, tt, (refl, tt, (refl, tt, (refl, tt, (refl, refl, (refl, refl, (refl, tt, third))))))))))
 
 every-kind : (a : Action) → BothWays (kind a) struckOff
 every-kind (run.read i) = (refl, refl)
@@ -68,6 +71,15 @@ every-kind (run.deliver k) = (refl, refl)
 every-kind (run.validate i) = (refl, refl)
 every-kind (run.resend i) = (refl, refl)
 every-kind (run.view epoch set) = (refl, refl)
+
+-- 2 is not in its own view, and is itself the last writer
+no-turn : Turn higher (end 2) 0 → ⊥
+unfolding result advance apply effect refusal start has size lowest within othersIn with padded place later sameTimestamp view viewed
+no-turn (shown e) = omega (arith, e)
+no-turn (finishes e m) = omega (arith, e)
+no-turn (resends r e m) = omega (arith, e)
+no-turn (takesOver e m) = omega (arith, e)
+no-turn (awaits h d) = d refl
 
 -- an entry that is no view
 calm : {A : Type 0} → A → ⊥ → ⊥
@@ -88,14 +100,17 @@ witness = record {
   gone = refl;
   screens = record { members = (refl, refl); apart = λ e. omega arith; sees = refl; seen = refl; shows = refl; shown = refl };
   struck = record { members = (refl, refl); apart = λ e. omega arith; split = refl; validation = validates refl refl; sees = refl; shown = refl };
-  replay = record { members = (refl, refl); apart = λ e. omega arith; split = refl; validation = acknowledges 9 _ _ refl refl refl refl refl refl; sees = refl; shown = refl };
-  save = record { members = (refl, refl); apart = λ e. omega arith; split = refl; validation = acknowledges 13 _ _ refl refl refl refl refl refl; sees = refl; shown = refl };
+  replay = record { members = (refl, refl); apart = λ e. omega arith; split = refl; validation = acknowledges 10 _ _ refl refl refl refl refl refl; sees = refl; shown = refl };
+  save = record { members = (refl, refl); apart = λ e. omega arith; split = refl; validation = acknowledges 14 _ _ refl refl refl refl refl refl; sees = refl; shown = refl };
   quiet0 =
-      (calm, (calm, (calm, (calm, (calm, (calm, (calm, (calm, (calm, (calm, (calm, (calm, (calm, (calm, (calm, (λ e v. omega arith, (λ e v. omega arith, (calm, (calm, tt)))))))))))))))))));
+      (calm, (calm, (calm, (calm, (calm, (calm, (calm, (calm, (calm, (calm, (calm, (calm, (calm, (calm, (calm, (calm, (calm, (λ e v. omega arith, (λ e v. omega arith, (calm, (calm, tt)))))))))))))))))))));
   quiet1 =
-      (calm, (calm, (calm, (calm, (calm, (calm, (calm, (calm, (calm, (calm, (calm, (calm, (calm, (calm, (calm, tt)))))))))))))));
+      (calm, (calm, (calm, (calm, (calm, (calm, (calm, (calm, (calm, (calm, (calm, (calm, (calm, (calm, (calm, (calm, (calm, tt)))))))))))))))));
   vain = (inl refl, others-every 1 3 1 refl);
   overtaken = record { member = refl; split = refl; given = record { invalidWrite = refl; accepted = refl }; save = refl };
+  past = given-up higher higher-order three 1 issued group started (take 24 story) 0 0 (omega arith) refl (record { invalidWrite = refl; accepted = refl }) (drop 25 story);
+  turns = λ k m v. nobody-hangs higher three 1 issued group started story story-entries 0 k (omega arith) m v;
+  stuck = no-turn;
   first = record { timestamp = refl; text = refl };
   second = record { timestamp = refl; text = refl };
 }

@@ -16,7 +16,7 @@ use Rattle.hermes.specs.declared.event.Event.{Event}
 use Rattle.hermes.specs.declared.event.Event.the-variants.{Read, Write, Replay, Deliver, Validate, Resend}
 use Rattle.hermes_record.specs.Members.{size, lowest}
 use Rattle.hermes_record.specs.Record.{freshRecord}
-use Rattle.hermes.specs.Guards.{firstNo, question5}
+use Rattle.hermes.specs.Guards.{AllYes, firstNo, question5}
 use Rattle.hermes.specs.Event.{Step, numberOf, readPart}
 use Rattle.hermes.specs.Node.{Node, Outcome, recordOf, valueOf, apply, read, view, viewed, viewQuestions, admissionOf, identity}
 use Rattle.hermes.specs.Run as run
@@ -27,7 +27,7 @@ use Rattle.hermes_record.proofs.Tests.{both}
 use Rattle.hermes.proofs.Members.{has-zero}
 use Rattle.hermes.proofs.Guards.{view-inside, all-yes}
 use Rattle.hermes.proofs.Steps.{sound-yes}
-use Rattle.hermes.proofs.Apply.{passed-zero, refusalOf, stepOf, done, Applied, refused, accepted, applied, its-own, sound-step}
+use Rattle.hermes.proofs.Apply.{passed-zero, refusalOf, ownOf, questionsOf, stepOf, done, Applied, refused, accepted, applied, its-own, sound-step}
 use Rattle.hermes.proofs.Words.{is-state}
 use Rattle.hermes.proofs.Start.{Begun, begun, lowest-small}
 use Rattle.hermes.proofs.Agreement.{at-who, at-other}
@@ -121,6 +121,10 @@ stay-sound wins member count issued g s entries c k e = run-sound wins count k g
 
 -- ---- reads
 
+-- of a sound replica in its own view questions 1 to 5 say yes
+pub five-say-yes : (count k : ℕ) (n : Node) → Sound count k n → (i : ℕ) → i < count → Sees n k → (e : Event) (v : List ℕ) → AllYes (ownOf n i e v) → AllYes (questionsOf n i e v)
+five-say-yes count k n ok i h s e v y = (ok .first, (ok .second, (rw (ok .number) s, (lt-ltb i (length (n .table)) (omega (arith, ok .records)), (ok .fifth i h, y)))))
+
 -- a sound replica in its own view answers a read with 0 exactly where the record is valid
 read-tells : (wins : ℕ → ℕ → Bool) (count k : ℕ) (n : Node) → Sound count k n → (i : ℕ) → i < count → Sees n k → Shows n i ↔ (numberOf (apply wins n i Read [] .answer) ≡ 0)
 read-tells wins count k n ok i h v = go (apply wins n i Read []) (applied wins n i Read [])
@@ -129,7 +133,7 @@ read-tells wins count k n ok i h v = go (apply wins n i Read []) (applied wins n
     go o (refused z y q) = (λ e. absurd (omega (arith, y, answers e)), λ e. absurd (omega (arith, ap (λ (x : Outcome). numberOf (x .answer)) q)))
       where
         answers : Shows n i → refusalOf n i Read [] ≡ 0
-        answers e = passed-zero n i Read [] (ok .first, (ok .second, (rw (ok .number) v, (lt-ltb i (length (n .table)) (omega (arith, ok .records)), (ok .fifth i h, (rw e, tt))))))
+        answers e = passed-zero n i Read [] (five-say-yes count k n ok i h v Read [] (rw e, tt))
     go o (accepted y c q) = (λ e. ap (λ (x : Outcome). numberOf (x .answer)) q, λ e. is-state (recordOf i n .state) state.Valid (its-own n i Read [] y .0))
 
 pub reads-tell : (wins : ℕ → ℕ → Bool) → ReadsTell wins

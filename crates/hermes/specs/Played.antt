@@ -77,47 +77,50 @@ abbrev pub numbersOf : List Line → List ℕ
 numbersOf [] = []
 numbersOf (x ∷ rest) = x .number ∷ numbersOf rest
 
--- All three save together. 0's save is overtaken; it holds 2's, the greatest, and has acknowledged 1's too, when 2 is struck off: so 1 may validate
--- its own, and 0 gives its own up and replays 2's (02, Wish 2). Then 1 saves once more. Messages are numbered as they leave.
+-- All three save together. 0's save is overtaken, though 1 has acknowledged it; 0 holds 2's, the greatest, and has acknowledged 1's, when 2 is struck
+-- off: so 1 may validate its own, and 0 gives its own up and replays 2's (02, Wish 2). Then 1 saves once more. Messages are numbered as they leave.
 abbrev pub struckOff : List Line
 struckOff =
     accepts 0 (read 0)  -- the fresh record
-    ∷ accepts 0 (write 0 (90 ∷ 48 ∷ []))  -- Z0: INV, message 0, which is lost
+    ∷ accepts 0 (write 0 (90 ∷ 48 ∷ []))  -- Z0: INV, message 0
     ∷ accepts 1 (write 0 (65 ∷ 49 ∷ []))  -- A1: INV, message 1
     ∷ refuses 1 (write 0 (66 ∷ [])) 7  -- its write is under way
-    ∷ accepts 2 (write 0 (66 ∷ 50 ∷ []))  -- B2: INV, message 2
-    ∷ accepts 0 (deliver 1)  -- Z0 is overtaken: ACK, message 3, which is lost
+    ∷ accepts 1 (deliver 0)  -- Z0's timestamp is not greater: ACK, message 2
+    ∷ accepts 0 (deliver 2)  -- 1 is counted, for Z0
+    ∷ accepts 2 (write 0 (66 ∷ 50 ∷ []))  -- B2: INV, message 3
+    ∷ accepts 0 (deliver 1)  -- Z0 is overtaken: ACK, message 4, which is lost
     ∷ refuses 0 (read 0) 6  -- invalid-write
     ∷ refuses 0 (replay 0) 16  -- the last writer is in the view
     ∷ refuses 0 (resend 0) 17  -- it has nothing under way
-    ∷ accepts 0 (deliver 2)  -- the greater timestamp: ACK, message 4
-    ∷ accepts 1 (resend 0)  -- INV, message 5
-    ∷ accepts 0 (deliver 5)  -- a timestamp that is not greater: ACK, message 6
-    ∷ accepts 1 (deliver 6)  -- 0 is counted
-    ∷ refuses 1 (deliver 6) 13  -- a repeated ACK
+    ∷ accepts 0 (deliver 3)  -- the greater timestamp: ACK, message 5
+    ∷ accepts 1 (resend 0)  -- INV, message 6
+    ∷ accepts 0 (deliver 6)  -- a timestamp that is not greater: ACK, message 7
+    ∷ accepts 1 (deliver 7)  -- 0 is counted
+    ∷ refuses 1 (deliver 7) 13  -- a repeated ACK
     ∷ refuses 1 (validate 0) 15  -- 2 is not counted
     ∷ accepts 1 (view 1 3)  -- 2 is struck off
     ∷ refuses 1 (view 1 3) 18  -- a repeated view
-    ∷ accepts 1 (validate 0)  -- it was the last that was missing: VAL, message 7
-    ∷ refuses 0 (deliver 7) 10  -- an early VAL: 0 is in epoch 0
+    ∷ accepts 1 (validate 0)  -- it was the last that was missing: VAL, message 8
+    ∷ refuses 0 (deliver 8) 10  -- an early VAL: 0 is in epoch 0
     ∷ accepts 0 (view 1 3)
-    ∷ refuses 0 (deliver 7) 14  -- 0 holds the greater timestamp
-    ∷ refuses 1 (deliver 2) 10  -- a late INV: it left in epoch 0
-    ∷ accepts 0 (replay 0)  -- in invalid-write: INV, message 8
-    ∷ accepts 1 (deliver 8)  -- ACK, message 9
-    ∷ accepts 0 (deliver 9)  -- the last ACK, in replay: VAL, message 10
-    ∷ refuses 2 (deliver 10) 10  -- 2 has missed the change of view, and takes no validation meant for the new group
-    ∷ accepts 1 (deliver 10)  -- valid
-    ∷ refuses 1 (deliver 10) 14  -- a repeated VAL
-    ∷ accepts 1 (deliver 8)  -- a repeated INV: an ACK leaves once more, message 11, and nothing moves
+    ∷ refuses 0 (deliver 8) 14  -- 0 holds the greater timestamp
+    ∷ refuses 1 (deliver 3) 10  -- a late INV: it left in epoch 0
+    ∷ accepts 0 (replay 0)  -- in invalid-write: INV, message 9
+    ∷ refuses 0 (validate 0) 15  -- 1 was counted for Z0, and is no longer
+    ∷ accepts 1 (deliver 9)  -- ACK, message 10
+    ∷ accepts 0 (deliver 10)  -- the last ACK, in replay: VAL, message 11
+    ∷ refuses 2 (deliver 11) 10  -- 2 has missed the change of view, and takes no validation meant for the new group
+    ∷ accepts 1 (deliver 11)  -- valid
+    ∷ refuses 1 (deliver 11) 14  -- a repeated VAL
+    ∷ accepts 1 (deliver 9)  -- a repeated INV: an ACK leaves once more, message 12, and nothing moves
     ∷ accepts 2 (view 1 3)  -- 2 hears of it
     ∷ refuses 2 (read 0) 3  -- and is not in its own view
     ∷ accepts 1 (read 0)  -- B2
-    ∷ accepts 1 (write 0 (67 ∷ 51 ∷ []))  -- C3: INV, message 12
-    ∷ accepts 0 (deliver 12)  -- ACK, message 13
-    ∷ accepts 1 (deliver 13)  -- the last ACK, in write: VAL, message 14
+    ∷ accepts 1 (write 0 (67 ∷ 51 ∷ []))  -- C3: INV, message 13
+    ∷ accepts 0 (deliver 13)  -- ACK, message 14
+    ∷ accepts 1 (deliver 14)  -- the last ACK, in write: VAL, message 15
     ∷ refuses 1 (validate 0) 15  -- the ACK has settled it
-    ∷ accepts 0 (deliver 14)  -- valid
+    ∷ accepts 0 (deliver 15)  -- valid
     ∷ []
 
 -- its entries

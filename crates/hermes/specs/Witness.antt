@@ -13,7 +13,7 @@ use Rattle.hermes.specs.Node.{Node, recordOf, valueOf}
 use Rattle.hermes.specs.Run.{Action, read, write, replay, deliver, validate, resend, view, run}
 use Rattle.hermes.specs.Agreement.{Started, Entries, Sees, Shows, Validation, after, Agreement}
 use Rattle.hermes.specs.LastAck.{AllReplied, NoView}
-use Rattle.hermes.specs.Overtaken.{replays, GivesUp}
+use Rattle.hermes.specs.Overtaken.{replayOf, Past, GivesUp, Turn}
 use Rattle.hermes.specs.Played.{three, issued, group, by, answers, Line, numbersOf, struckOff, story}
 
 -- a number for each kind of entry, to tell them apart
@@ -77,7 +77,7 @@ pub record FinishedSave (j k : ℕ) (action : Action) (m : ℕ) : Type 0 where
 -- the premises of `GivenUp`: entry j, counted from 0, is k's accepted replay in invalid-write, and its own save is that of version 1
 pub record GivenUpSave (j k : ℕ) : Type 0 where
   pub member : three k ≡ true
-  pub split : story ≡ take j story ++ replays k 0 ∷ drop (suc j) story
+  pub split : story ≡ take j story ++ replayOf k 0 ∷ drop (suc j) story
   pub given : GivesUp higher group (take j story) 0 k
   pub save : recordOf 0 (after higher group (take j story) k) .written ≡ record { version = 1; tie = k }
 
@@ -95,24 +95,28 @@ pub record Witness : Type 0 where
   -- each entry answers the number beside it, and every kind of entry is there
   pub numbers : answers group story ≡ numbersOf struckOff
   pub kinds : (a : Action) → BothWays (kind a) struckOff
-  -- message 3 left, and is lost
-  pub left : 3 < length (run higher group story .log)
-  pub lost : some (λ x. delivers 3 (x .entry .what)) struckOff ≡ false
-  -- message 8 is repeated: 1 takes it twice; message 2 is late: its epoch is over
-  pub repeated : many (λ x. delivers 8 (x .entry .what) && (eqb (x .entry .who) 1 && eqb (x .number) 0)) struckOff ≡ 2
-  pub late : some (λ x. delivers 2 (x .entry .what) && eqb (x .number) 10) struckOff ≡ true
+  -- message 4 left, and is lost
+  pub left : 4 < length (run higher group story .log)
+  pub lost : some (λ x. delivers 4 (x .entry .what)) struckOff ≡ false
+  -- message 9 is repeated: 1 takes it twice; message 3 is late: its epoch is over
+  pub repeated : many (λ x. delivers 9 (x .entry .what) && (eqb (x .entry .who) 1 && eqb (x .number) 0)) struckOff ≡ 2
+  pub late : some (λ x. delivers 3 (x .entry .what) && eqb (x .number) 10) struckOff ≡ true
   -- 2 is struck off
   pub gone : has (end 2 .me .view) 2 ≡ false
   -- 0 and 1 show one text; a validation of each kind lasts: by Validate, by the last ACK in replay and by the last ACK in write
   pub screens : TwoScreens 0 1
-  pub struck : FinishedSave 17 1 (validate 0) 0
-  pub replay : FinishedSave 24 0 (deliver 9) 1
-  pub save : FinishedSave 34 1 (deliver 13) 0
+  pub struck : FinishedSave 19 1 (validate 0) 0
+  pub replay : FinishedSave 27 0 (deliver 10) 1
+  pub save : FinishedSave 37 1 (deliver 14) 0
   -- the premise of `NobodyWaits`: 0 and 1 get no view at first, and do all else; and after its view 1 waits in vain
-  pub quiet0 : NoView 0 (take 19 story)
-  pub quiet1 : NoView 1 (take 15 story)
-  pub vain : AllReplied 0 (after higher group (take 17 story) 1)
-  -- those of `GivenUp`: 0 gives Z0 up
-  pub overtaken : GivenUpSave 22 0
+  pub quiet0 : NoView 0 (take 21 story)
+  pub quiet1 : NoView 1 (take 17 story)
+  pub vain : AllReplied 0 (after higher group (take 19 story) 1)
+  -- those of `GivenUp`: 0 gives Z0 up; and so its claim
+  pub overtaken : GivenUpSave 24 0
+  pub past : Past higher 0 (record { version = 1; tie = 0 }) (end 0)
+  -- the claim of `NobodyHangs`; and for 2, struck off amid its save, nothing can be done: so it claims something
+  pub turns : (k : ℕ) → three k ≡ true → Sees (end k) k → Turn higher (end k) 0
+  pub stuck : Turn higher (end 2) 0 → ⊥
   pub first : Holds (end 0)
   pub second : Holds (end 1)
