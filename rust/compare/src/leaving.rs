@@ -76,6 +76,8 @@ pub struct Tally {
     pub gone: [u64; 2],
     /// VALs that an ACK sent, being the last.
     pub last: u64,
+    /// INVs that a replay sent: from invalid, and from invalid-write.
+    pub replayed: [u64; 2],
 }
 
 /// Random events of the usual count.
@@ -97,6 +99,10 @@ pub fn compare(settings: &Settings, other: Leaving) -> Result<Tally, Box<Found<C
                 tally.gone[usize::from(!seen.sound)] += u64::from(seen.len == GONE);
                 let delivered = matches!(case.event.event, Event::Deliver { .. });
                 tally.last += u64::from(case.kind == 3 && delivered && seen.was_sent);
+                let state = case.event.record.state;
+                if case.event.event == Event::Replay && case.kind == 1 && seen.was_sent {
+                    tally.replayed[usize::from(state == 2)] += 1;
+                }
             }
             Err(what) => return Err(Box::new(shrink(case, what, |case| difference(case).err()))),
         }

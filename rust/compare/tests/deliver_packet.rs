@@ -26,8 +26,20 @@ fn random_deliveries() {
 #[test]
 fn groups_by_packet() {
     let settings = Settings::from_env();
-    if let Err(found) = group::compare(&settings, by_packet, on_table) {
-        panic!("{settings}\n{found}");
+    match group::compare(&settings, by_packet, on_table) {
+        Ok(tally) => {
+            // 02, Wish 2: replays from invalid-write, whose INVs come in packets, and what
+            // comes back. 1,179, 278 and 109 were counted.
+            for (name, floor) in [
+                ("Replay at InvalidWrite", 800),
+                ("given up: the last Ack, Valid", 120),
+                ("given up: a greater Inv, Invalid", 60),
+            ] {
+                let times = tally.get(name).copied().unwrap_or(0);
+                assert!(times >= floor, "{name}: only {times} times");
+            }
+        }
+        Err(found) => panic!("{settings}\n{found}"),
     }
 }
 

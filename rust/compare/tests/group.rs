@@ -4,7 +4,7 @@ use compare::bytes::Bytes;
 use compare::group::{by_hand, compare, Entry, Group, Run, Tally, What};
 use compare::settings::Settings;
 use compare::single::{on_table, Case, Event, Outcome};
-use model::engine::Record;
+use model::engine::{Record, State};
 
 /// What must have come about, each at least so many times.
 const OFTEN: u64 = 40;
@@ -55,13 +55,36 @@ const NAMES: [&str; 44] = [
     "valid pairs",
 ];
 
+/// Document 02, Wish 2, more often: 1,179 replays from invalid-write, and what
+/// became of them and of the saves that they gave up, were counted.
+const MANY: [(&str, u64); 7] = [
+    ("Replay at Invalid answers 16", 8000),
+    ("Replay at InvalidWrite answers 16", 2500),
+    ("Replay at InvalidWrite", 800),
+    ("given up: its Ack answers 10", 500),
+    ("given up: the last Ack, Valid", 120),
+    ("given up: a greater Inv, Invalid", 60),
+    ("given up: a Val, Valid", 20),
+];
+
+/// What must not come about: an ACK of the save that was given up is of the epoch
+/// before, and a greater INV finds no own save any more.
+const NEVER: [&str; 3] = [
+    "given up: its Ack answers 0",
+    "given up: its Ack answers 13",
+    "given up: a greater Inv, InvalidWrite",
+];
+
 fn often(tally: &Tally) {
     for (name, times) in tally {
         println!("{times:8} {name}");
     }
-    for name in NAMES {
+    for (name, floor) in NAMES.map(|name| (name, OFTEN)).into_iter().chain(MANY) {
         let times = tally.get(name).copied().unwrap_or(0);
-        assert!(times >= OFTEN, "{name}: only {times} times");
+        assert!(times >= floor, "{name}: only {times} times");
+    }
+    for name in NEVER {
+        assert_eq!(tally.get(name), None, "{name}");
     }
 }
 
@@ -89,6 +112,27 @@ fn a_wrong_model_is_found() {
     let found = compare(&Settings::USUAL, by_hand, wrong).expect_err("a difference");
     println!("{found}");
     assert!(found.shrunk.entries.len() <= 16);
+    assert_eq!(found.shrunk.records, 1);
+}
+
+/// The same of a replay from invalid-write: the save that it gives up is not
+/// forgotten.
+#[test]
+fn a_save_that_is_not_given_up_is_found() {
+    fn wrong(case: &Case, table: &mut [Record], store: &mut [u8]) -> Outcome {
+        let before = table.get(case.i).copied();
+        let outcome = on_table(case, table, store);
+        let overtaken = before.filter(|record| record.state == State::InvalidWrite);
+        if let (Event::Replay, 0, Some(before)) = (&case.event, outcome.number, overtaken) {
+            table[case.i].last_write = before.last_write;
+        }
+        outcome
+    }
+    let found = compare(&Settings::USUAL, by_hand, wrong).expect_err("a difference");
+    println!("{found}");
+    // Five would do: two writes, an INV, a view and the replay. The shrinker, which only
+    // drops, stops at two more: a third write, by which the winner's stamp is the greater.
+    assert!(found.shrunk.entries.len() <= 7);
     assert_eq!(found.shrunk.records, 1);
 }
 
@@ -230,5 +274,64 @@ fn the_last_acknowledgement_sends_to_all() {
     assert_eq!(play(&mut group, &entries), Ok(()));
     for member in &group.members {
         assert_eq!(member.memory.record(0).map(|r| r.state), Some(0));
+    }
+}
+
+/// Document 02, Wish 2: 0 and 2 save the ring together. 1 acknowledges 0's save; 2's,
+/// which has the greater stamp, reaches 0 alone, and 2 dies. 0 gives its own up, and
+/// both that are left show 2's.
+#[test]
+fn a_record_hung_after_two_saves() {
+    let mut group = three();
+    let own = |event| What::Own { i: 0, event };
+    let write = |text: &[u8]| {
+        own(Event::Write {
+            value: Bytes(text.to_vec()),
+        })
+    };
+    let view = || own(Event::View { epoch: 1, set: 3 });
+    let state = |group: &Group, at: usize| group.members[at].memory.record(0).map(|r| r.state);
+    let entries = [
+        (0, write(b"lesser"), 0),
+        (2, write(b"greater"), 1),
+        (1, What::Deliver { of: 0 }, 2),
+        (0, What::Deliver { of: 2 }, 3),
+        (0, What::Deliver { of: 1 }, 4),
+        // Refused: 2 is in the view.
+        (0, own(Event::Replay), 5),
+        (0, view(), 6),
+        (1, view(), 7),
+    ];
+    assert_eq!(play(&mut group, &entries), Ok(()));
+    assert_eq!([0, 1].map(|at| state(&group, at)), [Some(2), Some(1)]);
+
+    let entries = [
+        // 1 holds 0's save, whose laptop is there: refused.
+        (1, own(Event::Replay), 8),
+        (0, own(Event::Replay), 9),
+        // The acknowledgement of the save that is given up.
+        (0, What::Deliver { of: 2 }, 10),
+        (0, own(Event::Validate), 11),
+        (1, What::Deliver { of: 9 }, 12),
+    ];
+    assert_eq!(play(&mut group, &entries), Ok(()));
+    assert_eq!([0, 1].map(|at| state(&group, at)), [Some(4), Some(1)]);
+
+    let entries = [
+        (0, What::Deliver { of: 12 }, 13),
+        (1, What::Deliver { of: 13 }, 14),
+    ];
+    assert_eq!(play(&mut group, &entries), Ok(()));
+    let posts: Vec<usize> = group.posts.keys().copied().collect();
+    assert_eq!(posts, [0, 1, 2, 4, 9, 12, 13]);
+    let val = &group.posts[&13];
+    assert_eq!((val.message.kind, val.to), (3, 2));
+    for member in &group.members[..2] {
+        let record = member.memory.record(0).expect("there is one");
+        assert_eq!((record.state, record.stamp()), (0, (1, 2)));
+        assert_eq!(
+            member.memory.slot(0).expect("there is one")[..7],
+            *b"greater"
+        );
     }
 }

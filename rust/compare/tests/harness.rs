@@ -173,6 +173,94 @@ fn an_overtaken_write_is_settled() {
     assert_eq!((record.state, others.count_ones()), (2, 1));
 }
 
+/// A replay from invalid-write by the wrong models below: whether the last writer
+/// is in the view.
+fn replay_by(wrong: Play) -> (Case, bool) {
+    let case = caught(wrong);
+    one_record(&case);
+    assert_eq!((&case.event, case.record.state), (&Event::Replay, 2));
+    let present = case.me.view >> case.record.writer & 1 == 1;
+    (case, present)
+}
+
+/// As it was before document 02's Wish 2.
+#[test]
+fn a_replay_of_an_invalid_write_is_refused() {
+    fn wrong(case: &Case, memory: &mut Memory) -> Outcome {
+        let before = memory.clone();
+        let mut outcome = by_model(case, memory);
+        if case.event == Event::Replay && outcome.number == 0 && case.record.state == 2 {
+            memory.clone_from(&before);
+            (outcome.number, outcome.sent) = (16, (0, 0, 0));
+        }
+        outcome
+    }
+    let (_, present) = replay_by(wrong);
+    assert!(!present);
+}
+
+/// The last writer is asked after at invalid alone.
+#[test]
+fn an_invalid_write_is_replayed_though_its_writer_is_there() {
+    fn wrong(case: &Case, memory: &mut Memory) -> Outcome {
+        let outcome = by_model(case, memory);
+        if case.event == Event::Replay && outcome.number == 16 && case.record.state == 2 {
+            let replayed = Fields {
+                state: 4,
+                writer: case.me.number,
+                written_version: case.record.version,
+                written_tie: case.record.tie,
+                acks: 0,
+                ..case.record
+            };
+            memory.put_record(case.i, &replayed);
+            let (version, tie) = replayed.stamp();
+            let sent = (1, tie, version);
+            return Outcome {
+                number: 0,
+                sent,
+                ..outcome
+            };
+        }
+        outcome
+    }
+    let (_, present) = replay_by(wrong);
+    assert!(present);
+}
+
+/// What a wrong model keeps of the write that a replay should give up.
+fn keeping(case: &Case, memory: &mut Memory, keep: fn(&Fields, &mut Fields)) -> Outcome {
+    let outcome = by_model(case, memory);
+    let replayed = case.event == Event::Replay && outcome.number == 0;
+    if let Some(mut record) = memory.record(case.i).filter(|_| replayed) {
+        if case.record.state == 2 {
+            keep(&case.record, &mut record);
+            memory.put_record(case.i, &record);
+        }
+    }
+    outcome
+}
+
+#[test]
+fn the_acknowledgements_of_a_write_that_is_given_up_are_kept() {
+    fn wrong(case: &Case, memory: &mut Memory) -> Outcome {
+        keeping(case, memory, |before, after| after.acks = before.acks)
+    }
+    let (case, _) = replay_by(wrong);
+    assert_eq!(case.record.acks.count_ones(), 1);
+}
+
+#[test]
+fn the_stamp_of_a_write_that_is_given_up_is_kept() {
+    fn wrong(case: &Case, memory: &mut Memory) -> Outcome {
+        keeping(case, memory, |before, after| {
+            (after.written_version, after.written_tie) = before.written();
+        })
+    }
+    let (case, _) = replay_by(wrong);
+    assert_ne!(case.record.stamp(), case.record.written());
+}
+
 #[test]
 fn a_later_validation_is_taken() {
     fn wrong(case: &Case, memory: &mut Memory) -> Outcome {

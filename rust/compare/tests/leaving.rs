@@ -14,6 +14,8 @@ fn after_random_events() {
             assert!(tally.kinds.iter().all(|&times| times >= 1000));
             assert!(tally.sent[1..].iter().all(|&times| times >= 1000));
             assert!(tally.last >= 1000);
+            // Some 3,100 of each.
+            assert!(tally.replayed.iter().all(|&times| times >= 2000));
             assert!(tally.bodies >= 1000 && tally.gone.iter().all(|&times| times >= 1000));
         }
         Err(found) => panic!("{settings}\n{found}"),

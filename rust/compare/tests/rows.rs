@@ -1,6 +1,7 @@
-//! The rows of document 01, "From the ringing table", and of document 02's last
-//! acknowledgement, one by one, in the engine and in the model. The rows of
-//! packets stand in `fetch` and `pack`.
+//! The rows of document 01, "From the ringing table", and of document 02's Wishes
+//! 1 and 2, the last acknowledgement and the record hung after two saves, one by
+//! one, in the engine and in the model. The rows of packets stand in `fetch` and
+//! `pack`.
 
 use cetskobi::raw::{Message, Replica};
 use compare::bytes::Bytes;
@@ -274,6 +275,105 @@ fn the_last_acknowledgement_of_an_invalid_write() {
     assert_eq!(laptop.record(), counted);
     assert_eq!(laptop.play(0, Event::Validate), refused(15));
     assert_eq!(laptop.read(0), None);
+}
+
+/// 2 has written (1,2), which 1 has acknowledged, and 5's (1,5) has overtaken it;
+/// 5 is in the view still.
+fn overtaken() -> Laptop {
+    let mut laptop = Laptop::written();
+    assert_eq!(laptop.deliver(1, (ACK, 1, 2), b""), DONE);
+    assert_eq!(laptop.deliver(5, (INV, 1, 5), b"B"), sent(ACK, 1, 5));
+    assert_eq!(laptop.record(), OVERTAKEN);
+    laptop
+}
+
+const OVERTAKEN: Fields = record(INVALID_WRITE, (1, 5), 5, (1, 2), 1 << 1, 1);
+
+/// Document 02, Wish 2: 5 is struck off, and 2 gives its own write up.
+fn given_up() -> Laptop {
+    let mut laptop = overtaken();
+    assert_eq!(laptop.play(0, Event::Replay), refused(16));
+    assert_eq!(laptop.record(), OVERTAKEN);
+    assert_eq!(laptop.view(1, &[1, 2]), DONE);
+    assert_eq!(laptop.record(), OVERTAKEN);
+    assert_eq!(laptop.play(0, Event::Replay), sent(INV, 1, 5));
+    assert_eq!(laptop.record(), GIVEN_UP);
+    assert_eq!(laptop.engine.store()[..2], *b"B\0");
+    laptop
+}
+
+const GIVEN_UP: Fields = record(REPLAY, (1, 5), 2, (1, 5), 0, 1);
+
+#[test]
+fn a_replay_of_an_invalid_write() {
+    let mut laptop = given_up();
+    assert_eq!(laptop.read(0), None);
+    assert_eq!(laptop.write(0, b"C"), refused(7));
+    assert_eq!(laptop.play(0, Event::Validate), refused(15));
+    assert_eq!(laptop.play(0, Event::Replay), refused(16));
+    assert_eq!(laptop.play(0, Event::Resend), sent(INV, 1, 5));
+    assert_eq!(laptop.record(), GIVEN_UP);
+}
+
+/// While the last writer is in the view, whoever else is struck off; and the last
+/// writer is not looked for among the acknowledgements.
+#[test]
+fn no_replay_of_an_invalid_write_while_its_writer_is_there() {
+    let mut laptop = overtaken();
+    assert_eq!(laptop.view(1, &[2, 5]), DONE);
+    assert_eq!(laptop.play(0, Event::Replay), refused(16));
+    assert_eq!(laptop.record(), OVERTAKEN);
+
+    for (writer, answer) in [(1, refused(16)), (2, refused(16)), (3, sent(INV, 1, 5))] {
+        let mut laptop = overtaken();
+        let acks = set(&[1, 3]);
+        laptop.lay(&record(INVALID_WRITE, (1, 5), writer, (1, 2), acks, 1));
+        assert_eq!(laptop.play(0, Event::Replay), answer, "{writer}");
+    }
+}
+
+/// Of the write that was given up, an acknowledgement is none.
+#[test]
+fn an_acknowledgement_of_a_write_that_was_given_up() {
+    let mut laptop = given_up();
+    // As it was sent, in the epoch before; and by its stamp alone.
+    assert_eq!(laptop.deliver_of(0, 1, (ACK, 1, 2), b""), refused(10));
+    assert_eq!(laptop.deliver(1, (ACK, 1, 2), b""), refused(13));
+    assert_eq!(laptop.record(), GIVEN_UP);
+    assert_eq!(laptop.deliver(1, (VAL, 1, 2), b""), refused(14));
+    assert_eq!(laptop.record(), GIVEN_UP);
+}
+
+/// The last acknowledgement of the winner's stamp: valid, and the VAL leaves.
+#[test]
+fn the_last_acknowledgement_after_giving_up() {
+    let mut laptop = given_up();
+    assert_eq!(laptop.deliver(1, (ACK, 1, 5), b""), sent(VAL, 1, 5));
+    let settled = record(VALID, (1, 5), 2, (1, 5), 1 << 1, 1);
+    assert_eq!(laptop.record(), settled);
+    assert_eq!(laptop.read(0), Some(b"B".to_vec()));
+    assert_eq!(laptop.deliver(1, (ACK, 1, 2), b""), refused(13));
+    assert_eq!(laptop.play(0, Event::Resend), sent(VAL, 1, 5));
+}
+
+/// A greater INV: invalid and not invalid-write, so it can be written again. In
+/// invalid-write the same is not.
+#[test]
+fn a_greater_invalidation_after_giving_up() {
+    let mut laptop = given_up();
+    assert_eq!(laptop.deliver(1, (INV, 2, 1), b"CC"), sent(ACK, 2, 1));
+    assert_eq!(laptop.record(), record(INVALID, (2, 1), 1, (1, 5), 0, 2));
+    assert_eq!(laptop.play(0, Event::Replay), refused(16));
+    assert_eq!(laptop.deliver(1, (ACK, 1, 5), b""), refused(13));
+    assert_eq!(laptop.write(0, b"D"), sent(INV, 3, 2));
+
+    let mut laptop = overtaken();
+    assert_eq!(laptop.view(1, &[1, 2]), DONE);
+    assert_eq!(laptop.deliver(1, (INV, 2, 1), b"CC"), sent(ACK, 2, 1));
+    let later = record(INVALID_WRITE, (2, 1), 1, (1, 2), 1 << 1, 2);
+    assert_eq!(laptop.record(), later);
+    assert_eq!(laptop.play(0, Event::Replay), refused(16));
+    assert_eq!(laptop.write(0, b"D"), refused(7));
 }
 
 /// Laptops outside the view may be counted: the set is looked at, not its size.

@@ -16,6 +16,12 @@ fn random_events() {
             assert!(tally.total() >= 1_000_000);
             assert_eq!(tally.stray(), 0);
             assert!(tally.least() >= 100, "some answer is rare:\n{tally}");
+            // Some 28,000 are accepted at invalid, and at invalid-write; and some 5,000
+            // refused there, the last writer being in the view.
+            let [invalid, invalid_write] = tally.replays();
+            for [accepted, refused] in [invalid, invalid_write] {
+                assert!(accepted >= 20_000 && refused >= 3_000, "{tally}");
+            }
         }
         Err(found) => panic!("{settings}\n{found}"),
     }

@@ -9,8 +9,8 @@ use crate::agreement::Disagreement;
 pub enum Cause {
     /// Agreement, after an event.
     Disagreement(Disagreement),
-    /// A record that did not settle though the link has healed: somebody could
-    /// still finish it, replay it or send again.
+    /// A record that is not valid on all laptops of the newest view though the
+    /// link has healed.
     Unsettled {
         /// The record.
         record: usize,
@@ -25,7 +25,7 @@ pub enum Cause {
         /// The record.
         record: usize,
     },
-    /// All is settled, and a bird still waits to be saved though its record does not hang.
+    /// All is settled, and a bird still waits to be saved.
     Unsaved {
         /// The record.
         record: usize,

@@ -16,6 +16,9 @@ pub enum Fault {
     Sender,
     /// Hut software drops validations.
     Val,
+    /// Hut software never replays from invalid-write, as no laptop could before
+    /// document 02's Wish 2.
+    Replay,
     /// Hut software refuses the saves of one record in seven.
     Save,
 }
@@ -32,8 +35,9 @@ impl Fault {
             "epoch" => Ok(Fault::Epoch),
             "sender" => Ok(Fault::Sender),
             "val" => Ok(Fault::Val),
+            "replay" => Ok(Fault::Replay),
             "save" => Ok(Fault::Save),
-            _ => Err("--fault: text, epoch, sender, val or save".to_owned()),
+            _ => Err("--fault: text, epoch, sender, val, replay or save".to_owned()),
         }
     }
 }

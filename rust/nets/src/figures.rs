@@ -27,17 +27,14 @@ impl Figures<'_> {
         row(f, "save to finished", cells(times.finished), remark)?;
         let remark = "a later save of another laptop stands";
         row(f, "save to replaced", cells(times.replaced), remark)?;
-        let remark = format!("at one laptop; {} of these to the end", times.lasting);
-        row(f, "record unreadable", cells(times.unreadable), &remark)
+        let remark = "at one laptop";
+        row(f, "record unreadable", cells(times.unreadable), remark)
     }
 
     fn leftovers(&self, f: &mut fmt::Formatter<'_>) -> fmt::Result {
         let (times, unshown) = (&self.0.times, grouped(self.0.unshown));
-        let (left, hung) = (times.left, times.hung);
-        let remark = format!(
-            "saves: {left} at a laptop that died or was struck off, {hung} of a record that hangs"
-        );
-        line(f, "never finished", (left + hung) as u64, &remark)?;
+        let remark = "saves, at a laptop that died or was struck off";
+        line(f, "never finished", times.left as u64, remark)?;
         let remark = "of the time of all records at laptops in service, while birds come";
         line_of(f, "unreadable", &self.share(), remark)?;
         let remark = format!("by ringers; {unshown} met an unreadable record");

@@ -20,6 +20,8 @@ pub(crate) struct EventCounts {
     pub refused: BTreeMap<u8, u64>,
     /// Saves overtaken by another laptop's: from write to invalid-write.
     pub overtaken: u64,
+    /// Of these, given up by a replay: from invalid-write to replay.
+    pub given_up: u64,
     /// Validations by the last acknowledgement.
     pub completed: u64,
     /// INV, ACK, VAL.
@@ -119,8 +121,14 @@ impl Group {
         self.watched(number, i, Kind::Validate, None, answer)
     }
 
+    /// A replay. From invalid-write it gives this laptop's own overtaken save up
+    /// (document 02, Wish 2).
     pub fn replay(&mut self, number: u8, i: usize) -> Watched {
+        let before = self.record(number, i).map(|r| r.state);
         let answer = self.act(number, i, |l| sent(l.replay(i)));
+        if answer.is_ok() && before == Some(State::InvalidWrite) {
+            self.counts.given_up += 1;
+        }
         self.watched(number, i, Kind::Replay, None, answer)
     }
 
@@ -350,6 +358,8 @@ mod tests {
         assert_eq!(left(comes(&mut group, 1, 2, 1, ack)), None);
         assert_eq!(comes(&mut group, 1, 3, 1, ack), NOTICED);
         assert_eq!(group.counts.completed, 1);
+        // 1 had no save of its own.
+        assert_eq!(group.counts.given_up, 0);
     }
 
     /// 0's save is overtaken: its acknowledgements are counted, and end nothing.

@@ -3,7 +3,7 @@
 
 use std::collections::BTreeMap;
 
-use cetskobi::{packet, Arriving, Envelope, Members, Message, State, Timestamp};
+use cetskobi::{packet, Arriving, Envelope, Members, Message, Refusal, State, Timestamp};
 
 use crate::agreement::Disagreement;
 use crate::fault::Fault;
@@ -172,7 +172,7 @@ impl Hut {
     /// Tries what else may move a record on from here.
     fn help(&mut self, group: &mut Group, i: usize, wait: Tick) -> Done {
         let n = self.number;
-        let mut answer = group.replay(n, i)?;
+        let mut answer = self.replay(group, i)?;
         if answer.is_err() {
             answer = group.resend(n, i)?;
         }
@@ -181,6 +181,15 @@ impl Hut {
             self.timers.remove(&i);
         }
         Ok(())
+    }
+
+    /// Takes a save over whose laptop was struck off.
+    fn replay(&self, group: &mut Group, i: usize) -> Watched {
+        let state = group.record(self.number, i).map(|r| r.state);
+        if self.fault == Some(Fault::Replay) && state == Some(State::InvalidWrite) {
+            return Ok(Err(Refusal::NotReplayable));
+        }
+        group.replay(self.number, i)
     }
 
     /// Sends what leaves an event of this hut, if that was accepted; it goes
@@ -290,6 +299,48 @@ mod tests {
         sent(&mut one);
         assert_eq!(sent_at(&mut one, group, 60), [8, 24, 56]);
         assert_eq!(sent_at(&mut two, group, 60), []);
+    }
+
+    /// 1 and 2 save at once, and 2's save overtakes 1's; then 2 is struck off. 1
+    /// gives its own up: 2's leaves with the view, and with 0's acknowledgement it
+    /// stands at both (document 02, Wish 2).
+    #[test]
+    fn an_overtaken_save_is_given_up_with_the_view() {
+        let (mut group, [mut zero, mut one, mut two]) = huts();
+        let group = &mut group;
+        let seen = one.open(group, 0).expect("agreement").expect("shown");
+        assert_eq!(one.save(group, 0, seen, b"Wren"), Ok(true));
+        assert_eq!(two.save(group, 0, seen, b"Robin"), Ok(true));
+        let [first, second] = [sent(&mut one), sent(&mut two)];
+        one.packet_came(group, &second).expect("agreement");
+        zero.packet_came(group, &first).expect("agreement");
+        for hut in [&mut one, &mut zero] {
+            sent(hut);
+        }
+        let state = |group: &Group| group.record(1, 0).map(|r| r.state);
+        assert_eq!(state(group), Some(State::InvalidWrite));
+        // 2 is in the view still: no replay, and nothing to send again.
+        assert_eq!(sent_at(&mut one, group, 60), []);
+        assert_eq!((group.counts.overtaken, group.counts.given_up), (1, 0));
+
+        for hut in [&mut zero, &mut one] {
+            hut.view_came(group, 1, Members::from(0b011))
+                .expect("agreement");
+        }
+        assert_eq!(state(group), Some(State::Replay));
+        assert_eq!((group.counts.overtaken, group.counts.given_up), (1, 1));
+        // Lost, and sent again.
+        sent(&mut one);
+        assert_eq!(sent_at(&mut one, group, 7), []);
+        group.now += 1;
+        one.tick(group).expect("agreement");
+        zero.packet_came(group, &sent(&mut one)).expect("agreement");
+        one.packet_came(group, &sent(&mut zero)).expect("agreement");
+        zero.packet_came(group, &sent(&mut one)).expect("agreement");
+        for n in [0, 1] {
+            assert_eq!(group.laptop(n).read(0), Ok(&b"Robin"[..]));
+        }
+        assert_eq!(validations(group), (0, 0));
     }
 
     /// How often the hut validated, and how often question 15 said no.

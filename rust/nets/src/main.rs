@@ -45,6 +45,8 @@ fn one(settings: &Settings, counts: bool) -> io::Result<ExitCode> {
 
 fn many(settings: &Settings, seeds: u64) -> io::Result<ExitCode> {
     let begun = Instant::now();
+    // Overtaken saves that were given up, and in how many mornings.
+    let (mut given_up, mut mornings) = (0, 0);
     for n in 0..seeds {
         let seed = settings.seed.wrapping_add(n);
         let settings = Settings {
@@ -52,13 +54,17 @@ fn many(settings: &Settings, seeds: u64) -> io::Result<ExitCode> {
             ..settings.clone()
         };
         match played(&settings) {
-            Ok(report) => say(&format!("{}\n", report.line()))?,
+            Ok(report) => {
+                given_up += report.given_up();
+                mornings += u64::from(report.given_up() > 0);
+                say(&format!("{}\n", report.line()))?;
+            }
             Err(failure) => return failed(&failure),
         }
     }
     let seconds = begun.elapsed().as_secs_f64();
     say(&format!(
-        "{seeds} mornings, agreement held throughout; {seconds:.2} s\n"
+        "{seeds} mornings, agreement held throughout, every record settled; saves given up: {given_up}, in {mornings} mornings; {seconds:.2} s\n"
     ))?;
     Ok(ExitCode::SUCCESS)
 }

@@ -158,8 +158,7 @@ impl Morning {
         let members = self.plan.members.into_iter();
         let members: Vec<&Laptop> = members.map(|n| self.group.laptop(n)).collect();
         let settled = settled::look(&self.group, &members)?;
-        let waiting = self.ringers.waiting().into_iter();
-        match waiting.filter(|r| !settled.hung.contains(r)).min() {
+        match self.ringers.waiting() {
             None => Ok(Some(settled)),
             // Its record is valid everywhere, so it can be saved.
             Some(record) => Err(Cause::Unsaved { record }),
@@ -179,7 +178,6 @@ impl Morning {
             to_the_dead: self.to_the_dead,
             checks: self.group.agreement.checks,
             saved: self.ringers.saved,
-            waiting: self.ringers.waiting().len(),
             settled,
             last_change: self.group.last_change,
             ticks: self.group.now,

@@ -29,7 +29,8 @@ wrong options.
   --fault F        break something and see it reported: text (the link alters
                    texts), sender (the link alters who acknowledged), epoch
                    (huts take messages of other epochs), val (huts drop VALs),
-                   save (huts refuse some saves)
+                   replay (huts do not replay from invalid-write), save (huts
+                   refuse some saves)
   --help           this page
 ";
 

@@ -32,7 +32,6 @@ pub struct Report {
     pub(crate) to_the_dead: u64,
     pub(crate) checks: u64,
     pub(crate) saved: usize,
-    pub(crate) waiting: usize,
     pub(crate) settled: Settled,
     pub(crate) last_change: Tick,
     pub(crate) ticks: Tick,
@@ -58,19 +57,15 @@ impl Report {
             .unwrap_or(0)
     }
 
-    /// Records that hang in invalid-write, their last writer struck off.
-    pub fn hung(&self) -> usize {
-        self.settled.hung.len()
-    }
-
     /// Rings and recaptures that were saved.
     pub fn saved(&self) -> usize {
         self.saved
     }
 
-    /// Rings and recaptures whose ringer waits for a record that hangs.
-    pub fn waiting(&self) -> usize {
-        self.waiting
+    /// Records that are valid on all laptops of the newest view, with one timestamp
+    /// and the text saved with it.
+    pub fn settled(&self) -> usize {
+        self.settled.settled
     }
 
     /// Validations: by the last acknowledgement, and by an event of their own,
@@ -90,6 +85,12 @@ impl Report {
         self.events.overtaken
     }
 
+    /// Overtaken saves that were given up by a replay from invalid-write: the
+    /// later one's laptop was struck off.
+    pub fn given_up(&self) -> u64 {
+        self.events.given_up
+    }
+
     /// Bytes that all laptops send an hour, while birds come.
     pub fn bytes_an_hour(&self) -> u64 {
         self.air.group()
@@ -99,8 +100,7 @@ impl Report {
     pub fn ends_of_saves(&self) -> [usize; 3] {
         let count = |spread: Option<Spread>| spread.map_or(0, |s| s.count);
         let times = &self.times;
-        let neither = times.left + times.hung;
-        [count(times.finished), count(times.replaced), neither]
+        [count(times.finished), count(times.replaced), times.left]
     }
 
     /// Events for each save that was finished or replaced, in tenths. None
@@ -119,13 +119,13 @@ impl Report {
     /// The whole in one line.
     pub fn line(&self) -> String {
         format!(
-            "seed {}: agreed after {} events; {} messages in {} packets of {} bytes; {} hung; {} ticks",
+            "seed {}: agreed after {} events; {} messages in {} packets of {} bytes; {} given up; {} ticks",
             self.settings.seed,
             grouped(self.events()),
             grouped(self.messages()),
             grouped(self.link.packets),
             grouped(self.link.bytes),
-            self.hung(),
+            self.given_up(),
             grouped(self.ticks.into()),
         )
     }
@@ -198,10 +198,11 @@ impl Report {
         )?;
         line(
             f,
-            "birds saved",
-            self.saved as u64,
-            &format!("{} wait for a record that hangs", self.waiting),
+            "  given up",
+            self.given_up(),
+            "by a replay of the later one, whose laptop was struck off",
         )?;
+        line(f, "birds saved", self.saved as u64, "all that came")?;
         line(
             f,
             "saves lost",
@@ -214,13 +215,6 @@ impl Report {
             self.settled.settled as u64,
             "records valid with one text on every laptop of the view",
         )?;
-        let which: Vec<String> = self.settled.hung.iter().map(usize::to_string).collect();
-        let which = match which.is_empty() {
-            true => String::new(),
-            false => format!(": {}", which.join(", ")),
-        };
-        let remark = format!("records in invalid-write whose last writer was struck off{which}");
-        line(f, "hung", self.hung() as u64, &remark)?;
         let remark = format!(
             "the link healed at {}, and nothing changed after {}",
             seconds(self.settings.ticks),

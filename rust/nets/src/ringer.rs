@@ -51,9 +51,9 @@ impl Ringers {
         }
     }
 
-    /// The records of the birds that are not saved yet.
-    pub fn waiting(&self) -> Vec<usize> {
-        self.visits.iter().map(|v| v.bird.record).collect()
+    /// The first record whose bird is not saved yet, if there is one.
+    pub fn waiting(&self) -> Option<usize> {
+        self.visits.iter().map(|v| v.bird.record).min()
     }
 
     /// All whose time has come. A ringer who cannot use a laptop goes to the next.

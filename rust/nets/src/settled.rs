@@ -1,38 +1,29 @@
 //! What is left when the link has healed.
 
-use cetskobi::{Laptop, Members, Record, State};
+use cetskobi::{Laptop, State};
 
 use crate::failure::Cause;
 use crate::group::Group;
 
 /// The records as the laptops of the newest view hold them.
-#[derive(Clone, Debug, Default, PartialEq, Eq)]
+#[derive(Clone, Copy, Debug, Default, PartialEq, Eq)]
 pub(crate) struct Settled {
     pub settled: usize,
-    /// Left in invalid-write by a last writer who was struck off: document 02
-    /// knows that case as Wish 2.
-    pub hung: Vec<usize>,
     /// Saves that nobody heard of before their laptop died.
     pub lost: usize,
 }
 
-/// All records at the laptops of the newest view. Each is settled or hung;
-/// anything else is a failure.
+/// All records at the laptops of the newest view. Each is settled: valid on all of
+/// them, with one timestamp and the text saved with it. Anything else is a failure.
 pub(crate) fn look(group: &Group, members: &[&Laptop]) -> Result<Settled, Cause> {
     let mut found = Settled::default();
     for i in 0..members[0].count() {
-        let records = members.iter().map(|l| l.record(i));
-        let records: Option<Vec<Record>> = records.collect();
-        let unsettled = Cause::Unsettled { record: i };
-        let records = records.ok_or(unsettled)?;
-        if records.iter().all(|r| r.state == State::Valid) {
-            same_text(group, members, i)?;
-            found.settled += 1;
-        } else if hangs(members, &records) {
-            found.hung.push(i);
-        } else {
-            return Err(unsettled);
+        let valid = |l: &&Laptop| l.record(i).is_some_and(|r| r.state == State::Valid);
+        if !members.iter().all(valid) {
+            return Err(Cause::Unsettled { record: i });
         }
+        same_text(group, members, i)?;
+        found.settled += 1;
     }
     found.lost = lost(group, members);
     Ok(found)
@@ -41,44 +32,17 @@ pub(crate) fn look(group: &Group, members: &[&Laptop]) -> Result<Settled, Cause>
 /// Valid everywhere: one timestamp and one text, that which was saved with it.
 fn same_text(group: &Group, members: &[&Laptop], i: usize) -> Result<(), Cause> {
     let timestamp = members[0].record(i).map(|r| r.timestamp);
-    let fresh = Vec::new();
-    let saved = timestamp
-        .and_then(|t| group.saves.get(&(i, t)))
-        .unwrap_or(&fresh);
+    // A record of version 0 is as it was at the fresh start.
+    let saved: Option<&[u8]> = timestamp.and_then(|t| match t.version {
+        0 => Some(&[][..]),
+        _ => group.saves.get(&(i, t)).map(Vec::as_slice),
+    });
     let same =
-        |l: &&Laptop| l.record(i).map(|r| r.timestamp) == timestamp && l.read(i) == Ok(saved);
-    match members.iter().all(same) {
-        true => Ok(()),
-        false => Err(Cause::OtherText { record: i }),
+        |text, l: &Laptop| l.record(i).map(|r| r.timestamp) == timestamp && l.read(i) == Ok(text);
+    match saved {
+        Some(text) if members.iter().all(|l| same(text, l)) => Ok(()),
+        _ => Err(Cause::OtherText { record: i }),
     }
-}
-
-/// Nothing more comes of the record unless it is saved anew: every laptop is
-/// valid, hung, or waits for the VAL of one that will not send it, being hung or
-/// waiting itself.
-fn hangs(members: &[&Laptop], records: &[Record]) -> bool {
-    let pairs = || members.iter().zip(records);
-    let waits = |r: &Record| matches!(r.state, State::Invalid | State::InvalidWrite);
-    let sends_val = |l: &Laptop, r: &Record| r.state == State::Valid && r.writer == l.number();
-    let val_comes = |t| pairs().any(|(l, r)| sends_val(l, r) && r.timestamp == t);
-    let mut silent = Members::default();
-    loop {
-        let more: Members = pairs()
-            .filter(|(l, r)| is_hung(l, r) || waits(r) && silent.contains(r.writer))
-            .filter(|(_, r)| !val_comes(r.timestamp))
-            .map(|(l, _)| l.number())
-            .collect();
-        if more == silent {
-            break;
-        }
-        silent = more;
-    }
-    pairs().all(|(l, r)| r.state == State::Valid || silent.contains(l.number()))
-}
-
-/// In invalid-write, and the last writer was struck off.
-fn is_hung(laptop: &Laptop, r: &Record) -> bool {
-    r.state == State::InvalidWrite && !laptop.view().contains(r.writer)
 }
 
 fn lost(group: &Group, members: &[&Laptop]) -> usize {
@@ -95,7 +59,7 @@ fn lost(group: &Group, members: &[&Laptop]) -> usize {
 mod tests {
     use super::*;
     use crate::settings::Settings;
-    use cetskobi::{Leaving, Replica, Timestamp};
+    use cetskobi::{Leaving, Members, Record, Replica, Timestamp};
 
     const SAVED: Timestamp = Timestamp { version: 1, tie: 0 };
 
@@ -136,25 +100,27 @@ mod tests {
 
     #[test]
     fn a_finished_save_is_settled() {
-        let settled = looked(&finished()).expect("settled");
-        assert_eq!(
-            (settled.settled, settled.hung.len(), settled.lost),
-            (1, 0, 0)
-        );
+        let settled = Settled {
+            settled: 1,
+            lost: 0,
+        };
+        assert_eq!(looked(&finished()), Ok(settled));
     }
+
+    const UNSETTLED: Result<usize, Cause> = Err(Cause::Unsettled { record: 0 });
 
     #[test]
     fn an_open_save_is_not() {
-        let cause = Cause::Unsettled { record: 0 };
-        assert_eq!(looked(&saved().0), Err(cause));
+        assert_eq!(looked(&saved().0).map(|s| s.settled), UNSETTLED);
     }
 
     /// A record's state, its last writer, and whose save it is by its timestamp.
     type Left = (State, u8, u8);
 
-    /// Laptops 0, 1, .. of a view {0,1,2}, as no event need have left them; 5
-    /// was struck off.
-    fn left(records: [Left; 3]) -> bool {
+    /// How many records are settled at laptops 0, 1 and 2 of a view {0,1,2}, as no
+    /// event need have left them. All of them and 5 had saved the one record; 5 was
+    /// struck off.
+    fn left(records: [Left; 3]) -> Result<usize, Cause> {
         let laptop = |(number, (state, writer, tie)): (u8, Left)| {
             let r = Record {
                 state,
@@ -179,63 +145,81 @@ mod tests {
             records: 1,
             ..Settings::default()
         };
-        let group = Group::start(&settings).expect("a group of three");
-        match look(&group, &members) {
-            Ok(found) => found.hung == [0],
-            Err(cause) => {
-                assert_eq!(cause, Cause::Unsettled { record: 0 });
-                false
-            }
+        let mut group = Group::start(&settings).expect("a group of three");
+        for tie in [0, 1, 2, 5] {
+            let saved = (0, Timestamp { version: 1, tie });
+            group.saves.insert(saved, Vec::new());
         }
+        look(&group, &members).map(|s| s.settled)
     }
 
-    const HUNG: Left = (State::InvalidWrite, 5, 5);
+    /// Its own save was overtaken by that of 5.
+    const OVERTAKEN: Left = (State::InvalidWrite, 5, 5);
     /// Here 5's save is valid, and there 2's.
     const VALID: [Left; 2] = [(State::Valid, 5, 5), (State::Valid, 2, 2)];
 
     #[test]
-    fn a_record_that_hangs() {
-        assert!(left([HUNG, HUNG, HUNG]));
+    fn valid_on_all_laptops_is_settled() {
         for valid in VALID {
-            assert!(left([HUNG, valid, valid]));
-            // The VAL of 0, whose own save was overtaken, never comes; nor that
-            // of 1, which waits for it.
-            for waiting in [State::Invalid, State::InvalidWrite] {
-                assert!(left([HUNG, (waiting, 0, 0), valid]));
-                assert!(left([HUNG, (waiting, 0, 0), (waiting, 1, 1)]));
-            }
+            assert_eq!(left([valid; 3]), Ok(1), "{valid:?}");
         }
     }
 
+    /// Document 02, Wish 2: a laptop in invalid-write whose last writer was struck
+    /// off can replay, so the record must not be left so.
     #[test]
-    fn a_laptop_that_waits_beside_a_hung_one_is_not_settled() {
+    fn an_overtaken_save_is_not_settled() {
+        assert_eq!(left([OVERTAKEN; 3]), UNSETTLED);
+        for valid in VALID {
+            assert_eq!(left([OVERTAKEN, valid, valid]), UNSETTLED);
+            // 1 waits for the VAL of 0, and 2 for that of 1.
+            for waiting in [State::Invalid, State::InvalidWrite] {
+                let (one, two) = ((waiting, 0, 0), (waiting, 1, 1));
+                assert_eq!(left([OVERTAKEN, one, valid]), UNSETTLED);
+                assert_eq!(left([OVERTAKEN, one, two]), UNSETTLED);
+            }
+        }
+        // The VAL of 1's replay would end it.
+        let replayed = (State::Valid, 1, 5);
+        assert_eq!(left([OVERTAKEN, replayed, VALID[1]]), UNSETTLED);
+    }
+
+    #[test]
+    fn a_laptop_that_waits_is_not_settled() {
         for stuck in [
             (State::Write, 1, 1),
             (State::Replay, 1, 5),
-            // It could replay.
             (State::Invalid, 5, 5),
-            // Laptop 2 could send its VAL again.
             (State::Invalid, 2, 2),
             (State::InvalidWrite, 2, 2),
-            // No laptop waits for itself.
             (State::Invalid, 1, 1),
         ] {
             for valid in VALID {
-                assert!(!left([HUNG, stuck, valid]), "{stuck:?}");
+                assert_eq!(left([valid, stuck, valid]), UNSETTLED, "{stuck:?}");
+                assert_eq!(left([OVERTAKEN, stuck, valid]), UNSETTLED, "{stuck:?}");
             }
         }
     }
 
+    const OTHER_TEXT: Cause = Cause::OtherText { record: 0 };
+
     #[test]
-    fn the_val_of_a_replay_frees_a_hung_laptop() {
-        assert!(!left([HUNG, (State::Valid, 1, 5), (State::Valid, 2, 2)]));
+    fn two_timestamps_are_noticed() {
+        let [first, second] = VALID;
+        assert_eq!(left([first, first, second]), Err(OTHER_TEXT));
+    }
+
+    #[test]
+    fn a_timestamp_that_nobody_saved_with_is_noticed() {
+        let strange = (State::Valid, 5, 6);
+        assert_eq!(left([strange; 3]), Err(OTHER_TEXT));
     }
 
     #[test]
     fn another_text_than_was_saved_is_noticed() {
         let mut group = finished();
         group.saves.insert((0, SAVED), b"Robin".to_vec());
-        assert_eq!(looked(&group), Err(Cause::OtherText { record: 0 }));
+        assert_eq!(looked(&group), Err(OTHER_TEXT));
     }
 
     #[test]

@@ -43,12 +43,8 @@ pub(crate) struct TimesReport {
     pub replaced: Option<Spread>,
     /// Saves of neither kind, at laptops no longer in service.
     pub left: usize,
-    /// Saves of neither kind, at laptops in service.
-    pub hung: usize,
     /// Spans in which a record of a laptop in service was not valid.
     pub unreadable: Option<Spread>,
-    /// How many of those spans lasted to the end of the morning.
-    pub lasting: usize,
     /// While birds came, all together: those spans, and the laptops' service.
     pub dark: u64,
     pub served: u64,
@@ -99,21 +95,19 @@ impl Times {
         }
     }
 
-    /// The morning ends now.
+    /// The morning ends now: at the laptops in service every record is valid.
     pub fn report(&self, now: Tick) -> TimesReport {
         let mut end = self.clone();
-        let hung = |place: &&Place| self.service.contains_key(&place.0);
-        let hung = self.saving.keys().filter(hung).count();
+        let left = |place: &&Place| !self.service.contains_key(&place.0);
+        let left = self.saving.keys().filter(left).count();
         for n in self.service.keys() {
             end.leave(now, *n);
         }
         TimesReport {
             finished: Spread::of(&end.finished),
             replaced: Spread::of(&end.replaced),
-            left: end.saving.len() - hung,
-            hung,
+            left,
             unreadable: Spread::of(&end.spans),
-            lasting: end.spans.len() - self.spans.len(),
             dark: end.dark,
             served: end.served,
         }
@@ -215,9 +209,7 @@ mod tests {
             finished: spread(1, 5, 5, 5),
             replaced: None,
             left: 0,
-            hung: 0,
             unreadable: spread(2, 5, 10, 10),
-            lasting: 0,
             dark: 15,
             served: 180,
         };
@@ -238,7 +230,7 @@ mod tests {
         let report = times.report(100);
         assert_eq!(report.finished, spread(1, 9, 9, 9));
         assert_eq!(report.replaced, spread(1, 20, 20, 20));
-        assert_eq!((report.left, report.hung), (0, 0));
+        assert_eq!(report.left, 0);
         assert_eq!(report.unreadable, spread(2, 9, 20, 20));
     }
 
@@ -254,12 +246,9 @@ mod tests {
         times.moved(44, 1, 0, replay, valid);
         let report = times.report(100);
         assert_eq!((report.finished, report.replaced), (None, None));
-        assert_eq!((report.left, report.hung), (1, 0));
+        assert_eq!(report.left, 1);
         assert_eq!(report.unreadable, spread(2, 5, 32, 32));
-        assert_eq!(
-            (report.lasting, report.dark, report.served),
-            (0, 37, 15 + 90)
-        );
+        assert_eq!((report.dark, report.served), (37, 15 + 90));
     }
 
     /// 0 is unreadable from 10 on, sleeps from 14 to 50 and is valid at 53.
@@ -275,14 +264,26 @@ mod tests {
         assert_eq!((report.dark, report.served), (7, 14 + 40 + 90));
     }
 
-    /// 0 saves at 10 and is overtaken at 13, by a save that never ends.
+    /// 0 saves at 10 and 1 at 11, with the greater timestamp. 0 hears of that save
+    /// at 13, and 1 dies at 15; 0 gives its own up by a replay at 40, and finishes
+    /// that at 44.
     #[test]
-    fn a_record_that_hangs() {
-        let times = played(&[(10, 0, State::Write, 0), (13, 0, State::InvalidWrite, 1)]);
+    fn a_save_that_is_given_up() {
+        let mut times = played(&[
+            (10, 0, State::Write, 0),
+            (11, 1, State::Write, 1),
+            (13, 0, State::InvalidWrite, 1),
+        ]);
+        times.serve(15, Members::from(0b01));
+        let [overtaken, replay, valid] =
+            [State::InvalidWrite, State::Replay, State::Valid].map(|s| record(s, 1, 1));
+        times.moved(40, 0, 0, overtaken, replay);
+        times.moved(44, 0, 0, replay, valid);
         let report = times.report(100);
-        assert_eq!((report.finished, report.replaced), (None, None));
-        assert_eq!((report.left, report.hung), (0, 1));
-        assert_eq!(report.unreadable, spread(1, 90, 90, 90));
-        assert_eq!((report.lasting, report.dark), (1, 80));
+        assert_eq!(report.finished, None);
+        assert_eq!(report.replaced, spread(1, 34, 34, 34));
+        assert_eq!(report.left, 1);
+        assert_eq!(report.unreadable, spread(2, 4, 34, 34));
+        assert_eq!((report.dark, report.served), (38, 15 + 90));
     }
 }

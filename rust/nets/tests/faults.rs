@@ -104,3 +104,18 @@ fn validations_that_nobody_takes() {
         "{failure}"
     );
 }
+
+/// As before document 02's Wish 2: laptop 1 sits in invalid-write, its save
+/// overtaken by that of 7, which was struck off; seven others wait for its VAL.
+#[test]
+fn overtaken_saves_that_are_not_given_up() {
+    let failure = failure(Fault::Replay);
+    let cause = Cause::Unsettled { record: 740 };
+    assert_eq!(failure.cause, cause, "{failure}");
+    let state = |state: &str| {
+        let of = |line: &&String| line.split_whitespace().nth(3) == Some(state);
+        failure.holdings.iter().filter(of).count()
+    };
+    let states = ["invalid-write", "invalid", "valid", "write"].map(state);
+    assert_eq!(states, [1, 7, 2, 1], "{failure}");
+}

@@ -12,14 +12,18 @@ fn agreed(settings: &Settings) -> Report {
     }
 }
 
-/// Every bird was saved, but for those whose record hangs.
+/// Every bird was saved, and every record has settled.
 fn all_saved(settings: &Settings, report: &Report) {
     let birds = settings.rings + settings.recaptures;
-    let (saved, waiting) = (report.saved(), report.waiting());
-    assert_eq!(saved + waiting, birds, "{settings:?}");
-    assert!(waiting == 0 || report.hung() > 0, "{settings:?}");
+    let saved = report.saved();
+    assert_eq!(saved, birds, "{settings:?}");
+    assert_eq!(report.settled(), settings.records, "{settings:?}");
     let ends = report.ends_of_saves();
     assert_eq!(ends.iter().sum::<usize>(), saved, "{settings:?}");
+    // An overtaken save is given up only where a laptop was struck off.
+    let given_up = report.given_up();
+    assert!(given_up <= report.overtaken(), "{settings:?}");
+    assert!(settings.deaths > 0 || given_up == 0, "{settings:?}");
     // Finished or replaced, unless a laptop was struck off.
     assert!(settings.deaths > 0 || ends[2] == 0, "{settings:?}");
     // The last acknowledgement settles the record. Only after a view is a
@@ -37,6 +41,7 @@ fn the_default_morning() {
     // What makes a morning hard has happened.
     assert!(report.overtaken() > 0, "no two saves met");
     assert!(report.replays() > 0, "nothing was replayed");
+    assert_eq!(report.given_up(), 1, "the save of record 740");
     for refusal in [
         Refusal::NotReadable,
         Refusal::OtherEpoch,
@@ -157,8 +162,8 @@ fn other_groups() {
     }
 }
 
-/// Few records, many saves at once, laptops that die: records hang, also by one
-/// that hangs itself, and nobody else is left waiting.
+/// Few records, many saves at once, laptops that die: overtaken saves are given
+/// up, also by a laptop that others wait for, and nobody is left waiting.
 #[test]
 fn small_hard_groups() {
     let three = Settings {
@@ -186,22 +191,28 @@ fn small_hard_groups() {
         loss: 50,
         ..five.clone()
     };
-    for settings in [three, five, eight] {
-        let hung = (1..500).map(|seed| {
-            let settings = Settings {
-                seed,
-                ..settings.clone()
-            };
-            let report = agreed(&settings);
-            all_saved(&settings, &report);
-            report.hung()
-        });
-        assert!(hung.sum::<usize>() > 0);
+    // 69, 175 and 347 were counted.
+    for (settings, floor) in [(three, 45), (five, 120), (eight, 240)] {
+        let given_up: u64 = (1..500).map(|seed| given_up(&settings, seed)).sum();
+        assert!(given_up >= floor, "{given_up} given up in {settings:?}");
     }
 }
 
+/// How many overtaken saves were given up by a replay, with this seed.
+fn given_up(settings: &Settings, seed: u64) -> u64 {
+    let settings = Settings {
+        seed,
+        ..settings.clone()
+    };
+    let report = agreed(&settings);
+    all_saved(&settings, &report);
+    report.given_up()
+}
+
+/// Document 02, Wish 2: two huts save one bird at once, and the laptop with the
+/// later save dies. The other gives its own up, and the record settles.
 #[test]
-fn a_record_that_hangs_is_counted() {
+fn overtaken_saves_are_given_up() {
     let small = Settings {
         laptops: 3,
         late: 1,
@@ -209,15 +220,11 @@ fn a_record_that_hangs_is_counted() {
         ticks: 300,
         ..Settings::default()
     };
-    let hung = |seed| {
-        agreed(&Settings {
-            seed,
-            ..small.clone()
-        })
-        .hung()
-    };
-    let hung: Vec<usize> = (1..60).map(hung).filter(|n| *n > 0).collect();
-    assert!(!hung.is_empty(), "in none of 59 mornings did a save hang");
+    let given_up: Vec<u64> = (1..300).map(|seed| given_up(&small, seed)).collect();
+    let mornings = given_up.iter().filter(|n| **n > 0).count();
+    let saves: u64 = given_up.iter().sum();
+    // 76 in 61 of the 299 mornings were counted.
+    assert!(saves >= 50 && mornings >= 40, "{saves} in {mornings}");
 }
 
 #[test]

@@ -20,7 +20,7 @@ fn one_morning() {
     let output = nets(&["--seed", "3"]);
     assert_eq!(output.status.code(), Some(0));
     let said = out(&output);
-    for part in ["seed 3", "save to finished", "hung", "wall time"] {
+    for part in ["seed 3", "save to finished", "given up", "wall time"] {
         assert!(said.contains(part), "{part} is missing:\n{said}");
     }
     assert!(!said.contains("question"), "{said}");
@@ -48,10 +48,23 @@ fn many_mornings() {
         .map(|l| l.split(':').next().unwrap_or(""))
         .collect();
     assert_eq!(begins[..3], ["seed 8", "seed 9", "seed 10"]);
-    assert!(said
-        .lines()
-        .last()
-        .is_some_and(|l| l.starts_with("3 mornings")));
+    let last = said.lines().last().unwrap_or("");
+    assert!(last.starts_with("3 mornings"), "{said}");
+    assert!(last.contains("given up: 0, in 0 mornings"), "{said}");
+}
+
+/// In the second of these mornings an overtaken save is given up.
+#[test]
+fn mornings_with_a_save_that_is_given_up() {
+    let output = nets(&["--seed", "44", "--seeds", "3"]);
+    assert_eq!(output.status.code(), Some(0));
+    let said = out(&output);
+    let lines: Vec<&str> = said.lines().collect();
+    for (line, given_up) in lines.iter().zip([0, 1, 0]) {
+        let part = format!("; {given_up} given up; ");
+        assert!(line.contains(&part), "{said}");
+    }
+    assert!(lines[3].contains("given up: 1, in 1 mornings"), "{said}");
 }
 
 #[test]

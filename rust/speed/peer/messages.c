@@ -21,7 +21,7 @@ static inline struct cetskobi_answer take_inv(record *r, uint8_t *store, size_t 
     return sent(CETSKOBI_ACK, m.version, m.tie);
 }
 
-/* The last one validates a write or a replay too, and the VAL leaves; an overtaken write waits for the VAL of another. */
+/* The last one validates a write or a replay too, and the VAL leaves; of an overtaken write it is only counted. */
 static inline struct cetskobi_answer take_ack(record *r, struct cetskobi_replica me, struct cetskobi_message m)
 {
     bool awaited = r->state >= CETSKOBI_INVALID_WRITE && stamp(m.version, m.tie) == stamp(r->written_version, r->written_tie);

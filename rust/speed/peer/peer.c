@@ -48,7 +48,9 @@ struct cetskobi_answer peer_replay(struct cetskobi_replica me, uint8_t *table, s
     if (no)
         return refused(no);
     record *r = record_at(table, i);
-    if (r->state != CETSKOBI_INVALID || has(me.view, r->writer))
+    /* Question 16. From invalid-write too (02, Wish 2): the own write, overtaken, is given up. */
+    bool invalid = r->state == CETSKOBI_INVALID || r->state == CETSKOBI_INVALID_WRITE;
+    if (!invalid || has(me.view, r->writer))
         return refused(CETSKOBI_REFUSED_NOT_REPLAYABLE);
     r->state = CETSKOBI_REPLAY;
     r->writer = me.number;

@@ -38,6 +38,7 @@ const ONE_MISSING: Record = record(State::Write, (8, 2), (8, 2), 0b10);
 const ACKNOWLEDGED: Record = record(State::Write, (8, 2), (8, 2), 0b10_0010);
 const INVALID: Record = record(State::Invalid, (8, 5), (0, 1), 0);
 const ORPHAN: Record = record(State::Invalid, (8, 4), (0, 1), 0);
+const OVERTAKEN: Record = record(State::InvalidWrite, (8, 4), (8, 2), 0b10);
 
 /// A record with a value of 32 bytes, whose last writer is the tie-breaker.
 const fn record(state: State, timestamp: (u32, u8), written: (u32, u8), acks: u16) -> Record {
@@ -167,18 +168,16 @@ fn events(n: usize, visit: &mut impl Visit) {
             call: |m: &mut Plain<()>, i| m.replica.validate(&mut m.table, &m.store, i),
         },
     );
-    visit.case(
-        event("replay", "replay", n, sent(1, 8, 4)),
-        both!(by => On {
-            lent: Lent::new(ME, n, VALID, ()),
-            prepare: |e: &mut Lent<()>, i| e.set(i, ORPHAN),
-            call: |e: &mut Lent<()>, i| by::replay(e.me, &mut e.table, &e.store, i),
-        }),
-        || On {
-            lent: Plain::new(ME, n, VALID, ()),
-            prepare: |m: &mut Plain<()>, i| m.table[i] = plain::record(ORPHAN),
-            call: |m: &mut Plain<()>, i| m.replica.replay(&mut m.table, &m.store, i),
-        },
+    replay(event("replay", "replay", n, sent(1, 8, 4)), ORPHAN, visit);
+    replay(
+        event(
+            "replay-overtaken",
+            "replay from invalid-write",
+            n,
+            sent(1, 8, 4),
+        ),
+        OVERTAKEN,
+        visit,
     );
     visit.case(
         event("resend", "resend", n, sent(1, 8, 2)),
@@ -213,6 +212,23 @@ fn write(about: About, record: Record, value: Vec<u8>, visit: &mut impl Visit) {
             call: |m: &mut Plain<Vec<u8>>, i| {
                 m.replica.write(&mut m.table, &mut m.store, i, &m.input)
             },
+        },
+    );
+}
+
+fn replay(about: About, record: Record, visit: &mut impl Visit) {
+    let n = about.records;
+    visit.case(
+        about,
+        both!(by => On {
+            lent: Lent::new(ME, n, VALID, ()),
+            prepare: move |e: &mut Lent<()>, i| e.set(i, record),
+            call: |e: &mut Lent<()>, i| by::replay(e.me, &mut e.table, &e.store, i),
+        }),
+        || On {
+            lent: Plain::new(ME, n, VALID, ()),
+            prepare: move |m: &mut Plain<()>, i| m.table[i] = plain::record(record),
+            call: |m: &mut Plain<()>, i| m.replica.replay(&mut m.table, &m.store, i),
         },
     );
 }

@@ -28,6 +28,9 @@ pub struct Member {
     /// By record: the greatest validated stamp with this laptop in the
     /// finisher's view.
     pub(super) floor: Vec<Stamp>,
+    /// By record in replay: the stamp of this laptop's own save that the replay
+    /// gave up, if the record was in invalid-write.
+    pub(super) given_up: Vec<Option<Stamp>>,
 }
 
 impl Member {
@@ -60,6 +63,7 @@ impl Member {
             table,
             store,
             floor: vec![(0, 0); run.records],
+            given_up: vec![None; run.records],
         })
     }
 

@@ -1,7 +1,7 @@
 use std::collections::BTreeMap;
 
 use cetskobi::raw::{self, Answer, Message, Replica};
-use model::engine::{bit, has, Record};
+use model::engine::{bit, has, Record, State};
 
 use super::member::Member;
 use super::{Entry, Run, Tally, What};
@@ -81,26 +81,18 @@ impl Group {
         };
         let at = |what: String| format!("entry {} at {}: {what}", entry.id, entry.at);
         let member = &mut self.members[entry.at];
-        let before = member.table.get(case.i).map(|record| record.state);
+        let before = member.table.get(case.i).copied();
         let expected = (self.other)(&case, &mut member.table, &mut member.store);
         if outcome != expected {
             return Err(at(format!("engine {outcome:?}, other {expected:?}")));
         }
         member.me = outcome.me;
         member.same(case.i).map_err(at)?;
-        let others = member.me.view & !bit(member.me.number);
-        let all = member.table.get(case.i).map(|r| others & !r.acks == 0);
-        let label = match (outcome.number, before) {
-            (0, Some(state)) if case.kind() == Kind::Ack && all == Some(true) => {
-                let val = ["no VAL", "VAL"][usize::from(outcome.sent.0 == 3)];
-                format!("last Ack at {state:?}: {val}")
-            }
-            (0, Some(state)) if case.kind() != Kind::View => {
-                format!("{:?} at {state:?}", case.kind())
-            }
-            (number, _) => format!("{:?} answers {number}", case.kind()),
-        };
-        *tally.entry(label).or_default() += 1;
+        let more = before.and_then(|before| given_up(member, &case, before, &outcome));
+        let label = label(member, &case, before.map(|record| record.state), &outcome);
+        for label in more.into_iter().chain([label]) {
+            *tally.entry(label).or_default() += 1;
+        }
 
         if outcome.number == 0 {
             self.leave(entry.id, entry.at, &case, &outcome);
@@ -221,5 +213,54 @@ impl Group {
             self.agreement(i)?;
         }
         Ok(())
+    }
+}
+
+/// What an entry comes to: its kind with the state that it was accepted at, or
+/// with its answer.
+fn label(member: &Member, case: &Case, before: Option<State>, outcome: &Outcome) -> String {
+    let kind = case.kind();
+    let others = member.me.view & !bit(member.me.number);
+    let all = member.table.get(case.i).map(|r| others & !r.acks == 0);
+    match (outcome.number, before) {
+        (0, Some(state)) if kind == Kind::Ack && all == Some(true) => {
+            let val = ["no VAL", "VAL"][usize::from(outcome.sent.0 == 3)];
+            format!("last Ack at {state:?}: {val}")
+        }
+        (0, Some(state)) if kind != Kind::View => format!("{kind:?} at {state:?}"),
+        // The last writer is in the view.
+        (16, Some(state @ (State::Invalid | State::InvalidWrite))) => {
+            format!("{kind:?} at {state:?} answers 16")
+        }
+        (number, _) => format!("{kind:?} answers {number}"),
+    }
+}
+
+/// 02, Wish 2: a replay gives up this laptop's own save, which was overtaken. What
+/// the entry comes to for a record that is in replay since, if it is about that.
+fn given_up(member: &mut Member, case: &Case, before: Record, outcome: &Outcome) -> Option<String> {
+    let after = member.table.get(case.i)?.state;
+    let own = member.given_up.get_mut(case.i)?;
+    let accepted = outcome.number == 0;
+    if case.event == Event::Replay && accepted && before.state == State::InvalidWrite {
+        *own = Some((before.last_write.version, before.last_write.tie));
+        return None;
+    }
+    let stamp = (*own)?;
+    if after != State::Replay {
+        *own = None;
+    }
+    let Event::Deliver { message, .. } = &case.event else {
+        return None;
+    };
+    let of_own = (message.version, message.tie) == stamp;
+    match case.kind() {
+        Kind::Ack if of_own => Some(format!("given up: its Ack answers {}", outcome.number)),
+        Kind::Ack if outcome.sent.0 == 3 => Some(format!("given up: the last Ack, {after:?}")),
+        Kind::Inv if accepted && after != State::Replay => {
+            Some(format!("given up: a greater Inv, {after:?}"))
+        }
+        Kind::Val if accepted => Some(format!("given up: a Val, {after:?}")),
+        _ => None,
     }
 }

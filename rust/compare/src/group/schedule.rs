@@ -106,6 +106,10 @@ impl Schedule {
                 };
                 (anyone, Event::View { epoch, set })
             }
+            36 if rng.chance(1, 3) => match self.strike_winner(rng, group) {
+                Some((at, epoch, set)) => (at, Event::View { epoch, set }),
+                None => (at(rng, 2), Event::Replay),
+            },
             _ => return self.delivery(rng, group, anyone),
         };
         (at, What::Own { i, event })
@@ -115,7 +119,9 @@ impl Schedule {
     fn replay(&self, rng: &mut Rng, group: &Group, any: (usize, usize)) -> (usize, What) {
         let mut fit = vec![any];
         for (at, member) in group.members.iter().enumerate() {
-            let gone = |record: Fields| record.state == 1 && !has(member.me.view, record.writer);
+            let gone = |record: Fields| {
+                matches!(record.state, 1 | 2) && !has(member.me.view, record.writer)
+            };
             let hot = self.hot.iter();
             let hot = hot.filter(|&&i| member.memory.record(i).is_some_and(gone));
             fit.extend(hot.map(|&i| (at, i)));
@@ -171,6 +177,36 @@ impl Schedule {
         self.views.truncate(self.issued);
         self.views.push((issued.1, issued.2));
         self.issued += 1;
+        Some(issued)
+    }
+
+    /// A laptop in invalid-write, with a view that lacks its last writer: a replay
+    /// is then the only way on, and gives its own save up. If no such view is out,
+    /// the warden issues one in the place of those to come.
+    fn strike_winner(&mut self, rng: &mut Rng, group: &Group) -> Option<(usize, u32, u16)> {
+        let (last, within) = self.views[self.issued - 1];
+        let mut fit = Vec::new();
+        let mut new = Vec::new();
+        for (at, member) in group.members.iter().enumerate() {
+            let own = bit(member.me.number);
+            let hot = self.hot.iter().filter_map(|&i| member.memory.record(i));
+            for record in hot.filter(|record| record.state == 2) {
+                let strikes = |set: u16| set & own != 0 && !has(set, record.writer);
+                let issued = self.views[..self.issued].iter();
+                let issued = issued.filter(|v| v.0 > member.me.epoch && strikes(v.1));
+                fit.extend(issued.map(|&(epoch, set)| (at, epoch, set)));
+                let set = within & !bit(record.writer);
+                if strikes(set) && set.count_ones() >= 2 {
+                    new.push((at, last.checked_add(1)?, set));
+                }
+            }
+        }
+        let issued = rng.pick(&fit).or_else(|| rng.pick(&new))?;
+        if issued.1 > last {
+            self.views.truncate(self.issued);
+            self.views.push((issued.1, issued.2));
+            self.issued += 1;
+        }
         Some(issued)
     }
 

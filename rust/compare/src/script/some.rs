@@ -105,6 +105,7 @@ impl Writer {
                 return lines.extend(vec![line; times[rng.below(3)]]);
             }
             33..40 => return lines.push(self.write(rng)),
+            40..42 => return self.dead_winner(rng, lines),
             _ => {
                 if rng.chance(1, 15) {
                     self.look(lines);
@@ -237,6 +238,44 @@ impl Writer {
         }
         say(format!("validate {other}"));
         self.logged += 4;
+    }
+
+    /// Two write at once. The message with the greater stamp has reached the other
+    /// when its writer dies: the other replays it in the view without that writer,
+    /// and gives its own write up. The rest acknowledge, or one of them saves anew.
+    fn dead_winner(&mut self, rng: &mut Rng, lines: &mut Vec<Bytes>) {
+        self.look(lines);
+        let winner = 1 + rng.below(self.size - 1);
+        let loser = rng.below(winner);
+        let inv = self.logged;
+        self.epoch += 1;
+        let (epoch, set) = (self.epoch, ((1 << self.size) - 1) & !(1 << winner));
+        let anew = rng.chance(1, 3);
+        let mut say = |line: String| {
+            if !rng.chance(1, 20) {
+                lines.push(Bytes(line.into_bytes()));
+            }
+        };
+        say(format!("write {loser} text {inv}"));
+        say(format!("write {winner} text {}", inv + 1));
+        say(format!("deliver {loser} {}", inv + 1));
+        say(format!("replay {loser}"));
+        say(format!("view {loser} {epoch} {set}"));
+        say(format!("replay {loser}"));
+        let replay = inv + 3;
+        let rest = (0..self.size).filter(|&n| n != winner && n != loser);
+        for (k, third) in rest.enumerate() {
+            say(format!("view {third} {epoch} {set}"));
+            say(format!("deliver {third} {replay}"));
+            if anew {
+                say(format!("write {third} text {}", replay + 2));
+                say(format!("deliver {loser} {}", replay + 2));
+                break;
+            }
+            say(format!("deliver {loser} {}", replay + 1 + k));
+        }
+        say(format!("read {loser}"));
+        self.logged += 6;
     }
 }
 

@@ -1,11 +1,11 @@
 //! What scripts come to, as it was printed.
 
-use std::collections::BTreeMap;
+use std::collections::{BTreeMap, BTreeSet};
 
 use crate::bytes::Bytes;
 
 /// How often each answer, state letter and log number was printed, and what
-/// became of ACKs.
+/// became of ACKs and of replays at invalid-write.
 #[derive(Clone, Debug, Default)]
 pub struct Tally {
     pub scripts: u64,
@@ -53,11 +53,13 @@ struct Seen {
     states: BTreeMap<String, char>,
     /// Is it an ACK, by log number?
     log: Vec<bool>,
+    /// Laptops in replay since invalid-write: their own write is given up.
+    given_up: BTreeSet<String>,
 }
 
 impl Seen {
-    /// Looks at a line and what it printed: what kind of ACK it delivered, if
-    /// the state and the log tell.
+    /// Looks at a line and what it printed: what kind of ACK it delivered, or what
+    /// replay it was, if the state and the log tell.
     fn look(&mut self, line: &str, printed: &str) -> Option<&'static str> {
         let words: Vec<&str> = line.split(' ').collect();
         let (event, laptop) = (words.first()?, words.get(1)?);
@@ -72,14 +74,27 @@ impl Seen {
         };
         let state = state.chars().next()?;
         self.states.insert(laptop.to_string(), state);
+        let given_up = self.given_up.contains(*laptop);
+        if state != 'R' {
+            self.given_up.remove(*laptop);
+        }
         if log != "-" {
             // What leaves with a delivery is an ACK, or the VAL of the last ACK.
             self.log.push(*event == "deliver" && !ack);
         }
-        match (before, state, log) {
-            ('W', 'V', log) if ack && log != "-" => Some("last ACK at W"),
-            ('R', 'V', log) if ack && log != "-" => Some("last ACK at R"),
-            ('X', 'X', "-") if ack && answer == "0" => Some("last ACK at X"),
+        let sent = log != "-";
+        match (before, state) {
+            ('W', 'V') if ack && sent => Some("last ACK at W"),
+            ('R', 'V') if ack && sent && given_up => Some("last ACK at R, once X"),
+            ('R', 'V') if ack && sent => Some("last ACK at R"),
+            ('X', 'X') if ack && !sent && answer == "0" => Some("last ACK at X"),
+            // Its ACK leaves.
+            ('R', 'I') if sent && given_up => Some("greater INV at R, once X"),
+            ('X', 'X') if *event == "replay" && answer == "16" => Some("replay at X refused"),
+            ('X', 'R') => {
+                self.given_up.insert(laptop.to_string());
+                Some("replay at X")
+            }
             _ => None,
         }
     }

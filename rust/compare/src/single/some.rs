@@ -157,7 +157,7 @@ fn event(rng: &mut Rng, kind: Kind, me: &Replica, record: &mut Fields) -> Event 
             }
         }
         Kind::Replay => {
-            record.state = 1;
+            record.state = 1 + rng.below(2) as u8;
             if let Some(gone) = one_of(rng, !me.view) {
                 record.writer = gone;
             }

@@ -19,6 +19,9 @@ pub struct Tally {
     /// Accepted ACKs after which as many are counted as the view has others,
     /// or more, but one of the view is missing; by the state, as above.
     many: [u64; 3],
+    /// Replays refused by question 16, by the state: with the last writer gone,
+    /// and with it in the view.
+    unreplayed: [[u64; 5]; 2],
     /// Refused by question 2, by what is wrong with the memory.
     sizes: [u64; SIZES.len()],
     /// Refused by question 5, by what alone is wrong with the record.
@@ -77,6 +80,10 @@ impl Tally {
             _ => {}
         }
         let state = usize::from(case.record.state);
+        if outcome.number == 16 {
+            let present = has(case.me.view, case.record.writer);
+            self.unreplayed[usize::from(present)][state] += 1;
+        }
         if outcome.number != 0 || state >= 5 {
             return;
         }
@@ -116,9 +123,19 @@ impl Tally {
         });
         let wrong = self.sizes.into_iter().chain(self.unsound);
         let acks = self.last.into_iter().chain(self.many);
+        let [gone, present] = &self.unreplayed;
+        let unreplayed = UNREPLAYED.iter().map(|&state| gone[state]);
+        let unreplayed = unreplayed.chain(*present);
         let all = answers.chain(accepted).chain(self.older);
-        let all = all.chain(acks).chain(wrong);
+        let all = all.chain(acks).chain(unreplayed).chain(wrong);
         all.min().unwrap_or(0)
+    }
+
+    /// Replays at invalid and at invalid-write: accepted, and refused by question
+    /// 16, as the last writer is in the view.
+    pub fn replays(&self) -> [[u64; 2]; 2] {
+        let accepted = &self.accepted[Kind::Replay as usize];
+        [1, 2].map(|state| [accepted[state], self.unreplayed[1][state]])
     }
 
     /// Answers that no event of this kind can give.
@@ -151,13 +168,16 @@ pub fn last_ack(me: Replica, before: &Fields, sender: u8, outcome: &Outcome) -> 
     (outcome.number == 0 && all && leaves).then_some(at)
 }
 
+/// The states in which no record is replayed, though its last writer be gone.
+const UNREPLAYED: [usize; 3] = [0, 3, 4];
+
 /// The states at which an event of this kind can be accepted.
 fn states(kind: Kind) -> &'static [usize] {
     match kind {
         Kind::Start | Kind::View | Kind::Unknown => &[],
         Kind::Read => &[0],
         Kind::Write => &[0, 1],
-        Kind::Replay => &[1],
+        Kind::Replay => &[1, 2],
         Kind::Inv => &[0, 1, 2, 3, 4],
         Kind::Ack => &[2, 3, 4],
         Kind::Val => &[1, 2, 3, 4],
@@ -203,6 +223,16 @@ impl fmt::Display for Tally {
             let [x, w, r] = counts;
             writeln!(f, "          {what} at X:{x} W:{w} R:{r}")?;
         }
+        let [gone, present] = &self.unreplayed;
+        write!(f, "          no replay, the last writer gone, at")?;
+        for state in UNREPLAYED {
+            write!(f, " {}:{}", letter(state), gone[state])?;
+        }
+        write!(f, "; in the view, at")?;
+        for (state, count) in present.iter().enumerate() {
+            write!(f, " {}:{count}", letter(state))?;
+        }
+        writeln!(f)?;
         let sizes = self.sizes.iter().zip(SIZES);
         for (count, (name, _)) in sizes.chain(self.unsound.iter().zip(UNSOUND)) {
             writeln!(f, "          {count} with {name}")?;

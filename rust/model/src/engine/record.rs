@@ -66,7 +66,8 @@ impl Record {
         }
     }
 
-    /// 01, "Replay".
+    /// 01, "Replay". From invalid-write it gives up the overtaken write of this
+    /// replica's (02, Wish 2): its stamp and its acknowledgements are gone.
     pub(super) fn replayed(self, number: u8) -> Record {
         Record {
             state: State::Replay,

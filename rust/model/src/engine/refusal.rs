@@ -39,7 +39,8 @@ pub enum Refusal {
     StrayVal = 14,
     /// Validate without all acknowledgements, or in the wrong state.
     NotFinished = 15,
-    /// Replay while not invalid, or with the last writer still in the view.
+    /// Replay while neither invalid nor invalid-write, or with the last writer
+    /// still in the view.
     NotReplayable = 16,
     /// Nothing of this replica's to resend.
     NotResendable = 17,

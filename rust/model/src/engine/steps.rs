@@ -30,8 +30,10 @@ impl Replica {
 
     pub(super) fn replay_step(&self, record: &mut Record) -> Answer {
         self.ask_sound(record)?;
+        // 01, question 16, and 02, Wish 2: invalid-write too.
+        let invalid = matches!(record.state, State::Invalid | State::InvalidWrite);
         ask(
-            record.state == State::Invalid && !has(self.view, record.last_writer),
+            invalid && !has(self.view, record.last_writer),
             Refusal::NotReplayable,
         )?;
 

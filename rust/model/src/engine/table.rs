@@ -41,7 +41,8 @@ impl Replica {
         self.write_step(&mut table[record], slot_mut(store, record)?, value)
     }
 
-    /// A replay of an invalid record whose last writer is gone.
+    /// A replay of a record, invalid or invalid-write, whose last writer is gone
+    /// (02, Wish 2).
     pub fn replay(&self, table: &mut [Record], store: &[u8], record: usize) -> Answer {
         self.ask_record(Sizes::of(table, store), record)?;
         self.replay_step(&mut table[record])

@@ -1,9 +1,9 @@
 //! Random runs of small groups, with loss, repetition, reordering and changes
 //! of view. Demand 3 is checked after every event.
 
-use std::collections::BTreeMap;
+use std::collections::{BTreeMap, BTreeSet};
 
-use model::engine::{Answer, Message, Refusal, State};
+use model::engine::{bit, Answer, Message, Record, Refusal, State};
 use model::rng::Rng;
 
 use crate::group::{Event, Group};
@@ -19,7 +19,7 @@ type Tally = BTreeMap<&'static str, u32>;
 /// The name under which an accepted event is tallied.
 fn name(
     group: &Group,
-    before: &[State],
+    before: &[Record],
     at: usize,
     event: &Event,
     answer: &Answer,
@@ -28,13 +28,16 @@ fn name(
     match *event {
         Event::Read { .. } => "read",
         Event::Write { .. } => "write",
-        Event::Replay { .. } => "replay",
+        Event::Replay { record } => match before[record].state {
+            State::InvalidWrite => "replay from invalid-write",
+            _ => "replay",
+        },
         Event::Resend { .. } => match answer {
             Ok(Some(Message::Inv(_))) => "resent INV",
             _ => "resent VAL",
         },
         Event::View { .. } => "view",
-        Event::Validate { record } => match before[record] {
+        Event::Validate { record } => match before[record].state {
             State::Write => "validated write",
             _ => "validated replay",
         },
@@ -47,7 +50,7 @@ fn name(
                     State::InvalidWrite => "INV at a write",
                     _ => "INV",
                 },
-                Message::Ack(_) => match (before[envelope.record], answer) {
+                Message::Ack(_) => match (before[envelope.record].state, answer) {
                     (State::Write, Ok(Some(_))) => "last ACK at a write",
                     (State::Replay, Ok(Some(_))) => "last ACK at a replay",
                     (State::InvalidWrite, _) if member.replica.others() & !held.acks == 0 => {
@@ -55,7 +58,7 @@ fn name(
                     }
                     _ => "ACK",
                 },
-                Message::Val(_) => match before[envelope.record] {
+                Message::Val(_) => match before[envelope.record].state {
                     State::InvalidWrite => "VAL at invalid-write",
                     State::Replay => "VAL at replay",
                     _ => "VAL",
@@ -65,16 +68,56 @@ fn name(
     }
 }
 
-fn run(rng: &mut Rng, tally: &mut Tally) -> Result<(), String> {
-    let (mut group, mut schedule) = Schedule::start(rng);
+/// The name under which the end of a replay from invalid-write is tallied too,
+/// given that of the event.
+fn end(name: &str) -> &'static str {
+    match name {
+        "last ACK at a replay" => "given up, last ACK",
+        "validated replay" => "given up, validated",
+        "VAL at replay" => "given up, VAL",
+        "INV" => "given up, INV",
+        _ => panic!("{name} ends no replay"),
+    }
+}
+
+/// Do all others in this member's view sit in invalid-write?
+fn all_overtaken(group: &Group, at: usize, record: usize) -> bool {
+    let members = group.members.iter();
+    let overtaken = members.filter(|m| m.table[record].state == State::InvalidWrite);
+    let overtaken = overtaken.fold(0, |all, m| all | bit(m.replica.number));
+    group.members[at].replica.others() & !overtaken == 0
+}
+
+/// What an engine makes of a replayed record besides, given the record before.
+type Besides = fn(&Record, &mut Record);
+
+/// The engine as it is.
+fn nothing(_: &Record, _: &mut Record) {}
+
+fn run(rng: &mut Rng, together: bool, tally: &mut Tally, besides: Besides) -> Result<(), String> {
+    let (mut group, mut schedule) = Schedule::start(rng, together);
+    // The records that were replayed from invalid-write and still are in replay.
+    let mut given_up = BTreeSet::new();
     for _ in 0..EVENTS {
         let (at, event) = schedule.next(rng, &group);
-        let table = &group.members[at].table;
-        let before: Vec<State> = table.iter().map(|record| record.state).collect();
+        let before = group.members[at].table.clone();
         let answer = group.play(at, &event);
         if answer.is_ok() {
             let name = name(&group, &before, at, &event, &answer);
             *tally.entry(name).or_default() += 1;
+            for (record, held) in group.members[at].table.iter().enumerate() {
+                if held.state != State::Replay && given_up.remove(&(at, record)) {
+                    *tally.entry(end(name)).or_default() += 1;
+                }
+            }
+            if let Event::Replay { record } = event {
+                besides(&before[record], &mut group.members[at].table[record]);
+                if before[record].state == State::InvalidWrite {
+                    given_up.insert((at, record));
+                    let all = u32::from(all_overtaken(&group, at, record));
+                    *tally.entry("given up, all in invalid-write").or_default() += all;
+                }
+            }
         }
         let pairs = group.agreement()?;
         group.durability()?;
@@ -88,7 +131,8 @@ fn random_groups() {
     let mut rng = rng();
     let mut tally = Tally::new();
     for number in 0..RUNS {
-        if let Err(broken) = run(&mut rng, &mut tally) {
+        let together = rng.chance(1, 3);
+        if let Err(broken) = run(&mut rng, together, &mut tally, nothing) {
             panic!("run {number}: {broken}");
         }
     }
@@ -114,10 +158,38 @@ fn random_groups() {
         "VAL at replay",
         "valid pairs",
     ];
-    for name in names {
+    // 02, Wish 2: replays from invalid-write are many, with each of their ends.
+    let many = [
+        ("replay from invalid-write", 1000),
+        ("given up, all in invalid-write", 200),
+        ("given up, last ACK", 600),
+        ("given up, validated", 10),
+        ("given up, VAL", 120),
+        ("given up, INV", 20),
+    ];
+    for (name, least) in names.map(|name| (name, 5)).into_iter().chain(many) {
         let times = tally.get(name).copied().unwrap_or(0);
-        assert!(times >= 5, "{name}: only {times} times");
+        assert!(times >= least, "{name}: only {times} times");
     }
+}
+
+/// An engine that kept the acknowledgements of the save it gives up (02, Wish 2)
+/// breaks demand 3, and the random runs see it.
+#[test]
+fn kept_acknowledgements() {
+    let keep: Besides = |before, after| {
+        if before.state == State::InvalidWrite {
+            after.acks = before.acks;
+        }
+    };
+    let mut rng = rng();
+    let mut broken = 0;
+    for _ in 0..RUNS {
+        let done = run(&mut rng, true, &mut Tally::new(), keep);
+        broken += u32::from(done.is_err());
+    }
+    println!("broken {broken}");
+    assert!(broken >= 3, "only {broken} runs broken");
 }
 
 /// Replica 0 has written; 1 has acknowledged, 2 has heard nothing. The view

@@ -15,7 +15,7 @@ pub struct Post {
 
 /// A validation: an accepted Validate, or the last ACK of a write or a replay,
 /// with which a VAL leaves too (02, Wish 1).
-#[derive(Clone, Copy, Debug)]
+#[derive(Clone, Copy, Debug, PartialEq)]
 pub struct Validation {
     pub record: usize,
     pub timestamp: Timestamp,
@@ -35,6 +35,7 @@ pub enum Event {
     View { epoch: u32, view: u16 },
 }
 
+#[derive(Clone)]
 pub struct Group {
     pub members: Vec<Member>,
     pub posts: Vec<Post>,

@@ -158,6 +158,33 @@ fn counts_then_validates(done: &Done, sender: u8) -> bool {
     validated.is_ok()
 }
 
+/// 02, Wish 2: a replay is that of source document 000, widened by
+/// invalid-write. 16 refuses where it does not permit the step, and only there.
+fn is_the_replay(done: &Done) {
+    let (held, slot) = taken_out(&done.before, done.index);
+    let Replica { number, view, .. } = done.before.replica;
+    let permitted = || {
+        let invalid = matches!(held.state, State::Invalid | State::InvalidWrite);
+        invalid && view & set(&[held.last_writer]) == 0
+    };
+    match done.answer {
+        Ok(sent) => {
+            assert!(permitted());
+            assert_eq!(sent, Some(Message::Inv(held.timestamp)));
+            let replayed = Record {
+                state: State::Replay,
+                last_writer: number,
+                last_write: held.timestamp,
+                acks: 0,
+                ..held
+            };
+            assert_eq!(taken_out(&done.after, done.index), (replayed, slot));
+        }
+        Err(Refusal::NotReplayable) => assert!(!permitted()),
+        Err(refusal) => assert!(refusal.number() <= 5),
+    }
+}
+
 #[test]
 fn events() {
     let mut rng = rng();
@@ -166,6 +193,8 @@ fn events() {
     let mut last = [0; 2];
     // Those of an overtaken write by all others, which do not.
     let mut overtaken = 0;
+    // Replays of invalid-write: accepted, refused by 16.
+    let mut given_up = [0; 2];
     for _ in 0..ROUNDS {
         let before = some_member(&mut rng);
         let index = some_index(&mut rng);
@@ -234,6 +263,13 @@ fn events() {
             one,
         };
         done.check();
+        if kind == 2 {
+            is_the_replay(&done);
+            if taken_out(&done.before, index).0.state == State::InvalidWrite {
+                given_up[0] += u32::from(done.answer.is_ok());
+                given_up[1] += u32::from(done.answer == Err(Refusal::NotReplayable));
+            }
+        }
         if kind == 6 && done.answer.is_ok() {
             let followed = counts_then_validates(&done, sender);
             let all = replica.others() & !done.after.table[index].acks == 0;
@@ -246,8 +282,10 @@ fn events() {
     }
     assert!(accepted.iter().all(|&times| times > 50), "{accepted:?}");
     println!("accepted {accepted:?}, last ACKs {last:?}, overtaken {overtaken}");
+    println!("given up {given_up:?}");
     assert!(last.iter().all(|&times| times > 5), "{last:?}");
     assert!(overtaken > 5, "{overtaken}");
+    assert!(given_up.iter().all(|&times| times > 50), "{given_up:?}");
 }
 
 #[test]

@@ -2,6 +2,7 @@
 //! environment variable MODEL_SEED gives another; a failure shows the seed.
 
 mod agreement;
+mod every_order;
 mod group;
 mod hostile;
 mod moves;
@@ -12,3 +13,4 @@ mod refusals;
 mod ringing_table;
 mod schedule;
 mod support;
+mod two_saves;

@@ -65,20 +65,28 @@ fn write() {
     }
 }
 
+/// From invalid-write too: the own save of (8,2) is given up (02, Wish 2),
+/// whoever had acknowledged it.
 #[test]
 fn replay() {
-    let before = Record {
-        last_writer: 7,
-        ..held(State::Invalid)
-    };
-    let after = Record {
-        state: State::Replay,
-        last_writer: 2,
-        last_write: ts(9, 5),
-        acks: 0,
-        ..before
-    };
-    moves(before, |m| m.replay(0), after, Some(inv(9, 5)), None);
+    for state in [State::Invalid, State::InvalidWrite] {
+        for counted in [&[][..], &[1, 7], &[1, 5], &[0, 1, 5, 7]] {
+            let before = Record {
+                last_writer: 7,
+                acks: set(counted),
+                ..held(state)
+            };
+            let after = Record {
+                state: State::Replay,
+                timestamp: ts(9, 5),
+                last_writer: 2,
+                last_write: ts(9, 5),
+                acks: 0,
+                len: 4,
+            };
+            moves(before, |m| m.replay(0), after, Some(inv(9, 5)), None);
+        }
+    }
 }
 
 #[test]

@@ -122,9 +122,23 @@ fn write() {
 
 #[test]
 fn replay() {
+    use State::{Invalid, InvalidWrite, Replay, Valid, Write};
+    // 0 is not in the view. 16 fails by the state, or by the last writer.
+    for good in [Invalid, InvalidWrite] {
+        for other in [Valid, Write, Replay] {
+            replay_at((good, 0), (other, 0));
+        }
+        for writer in [1, 2, 5] {
+            replay_at((good, 0), (good, writer));
+        }
+    }
+}
+
+/// Record's state and last writer, good and bad for question 16.
+fn replay_at(good: (State, u8), bad: (State, u8)) {
     every_subset(&[1, 2, 3, 4, 5, 16], |faults| {
         let mut record = Record::fresh(0);
-        record.state = faults.choose(16, State::Invalid, State::InvalidWrite);
+        (record.state, record.last_writer) = faults.choose(16, good, bad);
         faults.answer(faults.member(record), |m| m.replay(faults.record()))
     });
 }

@@ -159,14 +159,16 @@ fn all_states() {
         "deliver 0 0",
         "deliver 1 0",
         "view 1 1 3",
+        "replay 0",
         "view 0 1 3",
         "replay 1",
-        "replay 0",
         "deliver 0 5",
         "deliver 1 6",
         "validate 1",
+        "replay 1",
         "deliver 0 7",
         "read 0",
+        "replay 0",
         "resend 1",
         "view 2 2 3",
         "read 2",
@@ -180,19 +182,125 @@ fn all_states() {
         "0 X 1 2 3",
         "0 I 1 2 4",
         "0 I 1 2 -",
+        "16 X 1 2 -",
         "0 X 1 2 -",
         "0 R 1 2 5",
-        "16 X 1 2 -",
         "0 X 1 2 6",
         "0 V 1 2 7",
         "15 V 1 2 -",
+        "16 V 1 2 -",
         "0 V 1 2 -",
         "0 V 1 2 -",
+        "16 V 1 2 -",
         "0 V 1 2 8",
         "0 W 1 2 -",
         "3 W 1 2 -",
         "3 W 1 2 -",
         "3 W 1 2 -",
+    ];
+    assert_eq!(printed, expected);
+}
+
+/// 02, Wish 2: 0 and 2 save together, and 2, which wins the tie, dies. Only 0
+/// holds its text. Messages 0 to 3 are the two INVs and the two ACKs.
+#[test]
+fn two_saves() {
+    let printed = lines(&[
+        "group 3",
+        "write 0 own",
+        "write 2 winner",
+        "deliver 1 0",
+        "deliver 0 1",
+        "deliver 0 2",
+        "replay 0",
+        "view 0 1 3",
+        "view 1 1 3",
+        "replay 1",
+        "resend 0",
+        "replay 0",
+        "replay 0",
+        "write 0 again",
+        "validate 0",
+        "deliver 0 2",
+        "deliver 1 4",
+        "deliver 0 5",
+        "deliver 1 6",
+        "read 0",
+        "read 1",
+        "resend 0",
+    ]);
+    let expected = [
+        "0 W 1 0 0",
+        "0 W 1 2 1",
+        "0 I 1 0 2",
+        "0 X 1 2 3",
+        // 1's ACK of what 0 saved.
+        "0 X 1 2 -",
+        // 2 is still in the view.
+        "16 X 1 2 -",
+        "0 X 1 2 -",
+        "0 I 1 0 -",
+        // 1's last writer is 0.
+        "16 I 1 0 -",
+        "17 X 1 2 -",
+        "0 R 1 2 4",
+        "16 R 1 2 -",
+        "7 R 1 2 -",
+        // That ACK was for the save given up.
+        "15 R 1 2 -",
+        "10 R 1 2 -",
+        "0 I 1 2 5",
+        "0 V 1 2 6",
+        "0 V 1 2 -",
+        "0 V 1 2 -",
+        "0 V 1 2 -",
+        "0 V 1 2 7",
+    ];
+    assert_eq!(printed, expected);
+}
+
+/// The same where all who are left have saved: both replay at once.
+#[test]
+fn three_saves() {
+    let printed = lines(&[
+        "group 3",
+        "write 0 a",
+        "write 1 b",
+        "write 2 winner",
+        "deliver 0 2",
+        "deliver 1 2",
+        "view 0 1 3",
+        "view 1 1 3",
+        "replay 0",
+        "replay 1",
+        "deliver 1 5",
+        "deliver 0 6",
+        "deliver 0 7",
+        "deliver 1 8",
+        "deliver 1 9",
+        "deliver 0 10",
+        "read 0",
+        "read 1",
+    ]);
+    let expected = [
+        "0 W 1 0 0",
+        "0 W 1 1 1",
+        "0 W 1 2 2",
+        "0 X 1 2 3",
+        "0 X 1 2 4",
+        "0 X 1 2 -",
+        "0 X 1 2 -",
+        "0 R 1 2 5",
+        "0 R 1 2 6",
+        "0 R 1 2 7",
+        "0 R 1 2 8",
+        "0 V 1 2 9",
+        "0 V 1 2 10",
+        // Both were the last ACK's.
+        "14 V 1 2 -",
+        "14 V 1 2 -",
+        "0 V 1 2 -",
+        "0 V 1 2 -",
     ];
     assert_eq!(printed, expected);
 }
@@ -306,6 +414,23 @@ fn other_acks_and_a_full_log() {
     let printed = lines(&input);
     let last = ["0 X 1 1 255", "0 X 1 1 -", "13 X 1 1 -", "15 X 1 1 -"];
     assert_eq!(printed[printed.len() - 4..], last);
+}
+
+/// A replay's INV needs room too: without it, the overtaken save is not given
+/// up. 1 is overtaken; 0's VALs fill the log.
+#[test]
+fn a_replay_and_a_full_log() {
+    let head = [
+        "group 3",
+        "write 1 own",
+        "write 2 winner",
+        "deliver 1 1",
+        "view 1 1 3",
+    ];
+    let tail = ["replay 1", "replay 1", "read 1"];
+    let room = ["0 R 1 2 255", "16 R 1 2 -", "6 R 1 2 -"];
+    assert_eq!(with_messages(255, &head, &tail), room);
+    assert_eq!(with_messages(256, &head, &tail), ["?", "?", "6 X 1 2 -"]);
 }
 
 /// The separate validation is still the way once the last missing laptop is

@@ -268,15 +268,17 @@ fn validations() {
 
 #[test]
 fn replays_and_resends() {
-    use State::{Invalid, Replay, Valid, Write};
+    use State::{Invalid, InvalidWrite, Replay, Valid, Write};
     for held in State::ALL {
         for writer in 0..16 {
             let change = |m: &mut Member| {
                 m.table[0].state = held;
                 m.table[0].last_writer = writer;
             };
+            // 02, Wish 2: invalid or invalid-write.
+            let invalid = matches!(held, Invalid | InvalidWrite);
             let gone = ![1, 2, 5].contains(&writer);
-            let expected = if held == Invalid && gone { 0 } else { 16 };
+            let expected = if invalid && gone { 0 } else { 16 };
             assert_eq!(after(change, replay), expected);
             let sends = matches!(held, Write | Replay) || held == Valid && writer == 2;
             let expected = if sends { 0 } else { 17 };

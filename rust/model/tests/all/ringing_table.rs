@@ -183,8 +183,8 @@ fn last_ack_at_replay() {
     assert_eq!(member.read(0), Ok(&b"B"[..]));
 }
 
-/// An overtaken write is not validated by its last ACK: only the VAL of the
-/// greater stamp makes it valid.
+/// An overtaken write is not validated by its last ACK. While 5 is in the view,
+/// only the VAL of the greater stamp makes it valid.
 #[test]
 fn last_ack_at_invalid_write() {
     let mut member = written();
@@ -201,6 +201,7 @@ fn last_ack_at_invalid_write() {
     };
     assert_eq!(member.table, [expected]);
     assert_eq!(member.validate(0), Err(Refusal::NotFinished));
+    assert_eq!(member.replay(0), Err(Refusal::NotReplayable));
     assert_eq!(member.deliver(&from(5, val(1, 5)), b""), Ok(None));
     assert_eq!(member.read(0), Ok(&b"B"[..]));
 }

@@ -17,23 +17,42 @@ pub struct Schedule {
     taken: usize,
     /// The place of a member that does no more.
     dead: Option<usize>,
+    /// Writes to begin with, and how many deliveries alone come after them.
+    opening: Vec<(usize, Event)>,
+    deliveries: usize,
 }
 
 impl Schedule {
-    /// A group that has just started, and its schedule.
-    pub fn start(rng: &mut Rng) -> (Group, Schedule) {
+    /// A group that has just started, and its schedule. With `together`, most
+    /// members begin by saving the same record, some messages arrive, and the
+    /// one that wins a tie dies and is struck off first (02, Wish 2).
+    pub fn start(rng: &mut Rng, together: bool) -> (Group, Schedule) {
         let numbers = some_numbers(rng);
         let mut first = set(&numbers);
         if rng.chance(1, 10) {
             // A number that no replica has may stand in the first view.
             first |= bit(rng.below(16) as u8);
         }
-        let schedule = Schedule {
-            views: some_views(rng, first),
+        let winner = (0..numbers.len()).max_by_key(|&at| numbers[at]);
+        let dead = winner.filter(|_| together);
+        let mut schedule = Schedule {
+            views: some_views(rng, first, dead.map(|at| numbers[at])),
             under_way: Vec::new(),
             taken: 0,
-            dead: None,
+            dead,
+            opening: Vec::new(),
+            deliveries: 0,
         };
+        if together {
+            for at in 0..numbers.len() {
+                let value = some_value(rng);
+                if rng.chance(4, 5) {
+                    let write = Event::Write { record: 0, value };
+                    schedule.opening.push((at, write));
+                }
+            }
+            schedule.deliveries = rng.below(13);
+        }
         let records = if rng.chance(1, 8) { 2 } else { 1 };
         (Group::start(&numbers, first, records), schedule)
     }
@@ -43,6 +62,13 @@ impl Schedule {
     /// then spreads in the place of its own events.
     pub fn next(&mut self, rng: &mut Rng, group: &Group) -> (usize, Event) {
         self.take_up(group);
+        if let Some(write) = self.opening.pop() {
+            return write;
+        }
+        if self.deliveries > 0 && !group.posts.is_empty() {
+            self.deliveries -= 1;
+            return self.delivery(rng, group);
+        }
         let (at, event) = self.choose(rng, group);
         let number = group.members[at].replica.number;
         let mut views = self.views.iter();
@@ -82,7 +108,8 @@ impl Schedule {
             6..12 => {
                 let at = some_member(rng, group, |m| {
                     let held = m.table[record];
-                    held.state == State::Invalid && !has(m.replica.view, held.last_writer)
+                    let invalid = matches!(held.state, State::Invalid | State::InvalidWrite);
+                    invalid && !has(m.replica.view, held.last_writer)
                 });
                 (at, Event::Replay { record })
             }
@@ -184,15 +211,16 @@ fn some_numbers(rng: &mut Rng) -> Vec<u8> {
 }
 
 /// One view per epoch number, each within all lower-numbered ones. The first is
-/// that of the start.
-fn some_views(rng: &mut Rng, first: u16) -> Vec<(u32, u16)> {
+/// that of the start. Whoever is to go first is struck off before any other.
+fn some_views(rng: &mut Rng, first: u16, mut to_go: Option<u8>) -> Vec<(u32, u16)> {
     let mut issued = vec![(0, first)];
     let (mut epoch, mut view) = (0, first);
     for _ in 0..=rng.below(3) {
         epoch += 1 + rng.below(2) as u32;
         for _ in 0..[0, 1, 1, 1, 1, 2][rng.below(6)] {
             let there: Vec<u8> = (0..16).filter(|&number| has(view, number)).collect();
-            view &= !rng.pick(&there).map_or(0, bit);
+            let struck = to_go.take().or_else(|| rng.pick(&there));
+            view &= !struck.map_or(0, bit);
         }
         issued.push((epoch, view));
     }

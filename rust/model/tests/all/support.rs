@@ -14,7 +14,7 @@ pub fn rng() -> Rng {
     Rng::new(seed)
 }
 
-pub fn ts(version: u32, tie: u8) -> Timestamp {
+pub const fn ts(version: u32, tie: u8) -> Timestamp {
     Timestamp::new(version, tie)
 }
 

@@ -51,6 +51,11 @@ fn random_events() {
             assert!(tally.total() >= 1_000_000);
             assert_eq!(tally.stray(), 0);
             assert!(tally.least() >= 100, "some answer is rare:\n{tally}");
+            // 02, Wish 2: some 28,000 accepted at invalid, and at invalid-write, and some
+            // 5,000 refused there, the last writer being in the view.
+            for [accepted, refused] in tally.replays() {
+                assert!(accepted >= 20_000 && refused >= 3_000, "{tally}");
+            }
         }
         Err(found) => panic!("{settings}\n{found}"),
     }
@@ -73,6 +78,23 @@ fn a_peer_that_only_counts_is_found() {
     let found = compare(&Settings::USUAL, wrong).expect_err("a difference");
     println!("{found}");
     assert!(found.shrunk.record.state >= 3);
+}
+
+/// A peer that refuses a replay from invalid-write, as before 02, Wish 2, is found.
+#[test]
+fn a_peer_that_does_not_replay_is_found() {
+    fn wrong(case: &Case, memory: &mut Memory) -> Outcome {
+        let before = memory.clone();
+        let mut outcome = by_peer(case, memory);
+        if (&case.event, case.record.state, outcome.number) == (&Event::Replay, 2, 0) {
+            memory.clone_from(&before);
+            (outcome.number, outcome.sent) = (16, (0, 0, 0));
+        }
+        outcome
+    }
+    let found = compare(&Settings::USUAL, wrong).expect_err("a difference");
+    println!("{found}");
+    assert_eq!(found.shrunk.record.state, 2);
 }
 
 /// A wrong peer is found.

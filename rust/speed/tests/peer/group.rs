@@ -25,6 +25,9 @@ type Tally = BTreeMap<Kind, [u64; 26]>;
 /// The last ACKs, as `last_ack` has them: at invalid-write, write and replay.
 type Last = [u64; 3];
 
+/// Replays at invalid and at invalid-write: accepted, and refused by question 16.
+type Replays = [[u64; 2]; 2];
+
 /// A replica with the memory of both sides.
 struct Member {
     me: Replica,
@@ -46,10 +49,11 @@ struct Group {
     views: Vec<u16>,
     tally: Tally,
     last: Last,
+    replays: Replays,
 }
 
 impl Group {
-    fn start(rng: &mut Rng, tally: Tally, last: Last) -> Group {
+    fn start(rng: &mut Rng, tally: Tally, last: Last, replays: Replays) -> Group {
         let mut numbers: Vec<u8> = (0..16).collect();
         while numbers.len() > 2 + rng.below(3) {
             numbers.remove(rng.below(numbers.len()));
@@ -61,6 +65,7 @@ impl Group {
             views: vec![view],
             tally,
             last,
+            replays,
         };
         for (at, &number) in numbers.iter().enumerate() {
             let (mut table, mut store) = ([0; 16 * RECORDS], [0; 192 * RECORDS]);
@@ -186,6 +191,15 @@ impl Group {
             let last = before.and_then(|before| last_ack(case.me, &before, message.sender, a));
             last.into_iter().for_each(|state| self.last[state] += 1);
         }
+        let state = before.map(|before| before.state);
+        if let (Event::Replay, Some(state @ (1 | 2))) = (&case.event, state) {
+            let replays = &mut self.replays[usize::from(state) - 1];
+            match a.number {
+                0 => replays[0] += 1,
+                16 => replays[1] += 1,
+                _ => {}
+            }
+        }
         member.me = a.me;
         let (kind, tie, version) = a.sent;
         if kind == 0 {
@@ -219,13 +233,13 @@ fn random_groups() {
     // Shown if it fails.
     println!("{settings}");
     let mut rng = settings.rng("group of peers");
-    let (mut tally, mut last) = (Tally::new(), [0; 3]);
+    let (mut tally, mut last, mut replays) = (Tally::new(), [0; 3], [[0; 2]; 2]);
     for _ in 0..RUNS * settings.times {
-        let mut group = Group::start(&mut rng, tally, last);
+        let mut group = Group::start(&mut rng, tally, last, replays);
         for _ in 0..STEPS {
             group.step(&mut rng);
         }
-        (tally, last) = (group.tally, group.last);
+        (tally, last, replays) = (group.tally, group.last, group.replays);
     }
     let reached: [(Kind, &[usize]); 10] = [
         (Kind::Start, &[0]),
@@ -244,4 +258,9 @@ fn random_groups() {
     }
     println!("the last ACK at X, W, R: {last:?}");
     assert!(last.iter().all(|&times| times >= 20));
+    println!("replays at I, X, accepted and refused by 16: {replays:?}");
+    // 201 and 4,841, 340 and 6,656 were counted.
+    for ([accepted, refused], floor) in replays.into_iter().zip([[100, 3000], [200, 4000]]) {
+        assert!(accepted >= floor[0] && refused >= floor[1], "{replays:?}");
+    }
 }
