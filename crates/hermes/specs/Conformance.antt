@@ -1,5 +1,5 @@
--- Demand 2: each event is accepted exactly when document 01's own questions say yes and the source's guard holds; accepted, it does the
--- source's action; refused, nothing moves and nothing leaves.
+-- Demand 2: each event is accepted exactly when document 01's own questions say yes and the source's guard holds (a replay's as 02, Wish 2 widens it);
+-- accepted, it does the source's action; refused, nothing moves and nothing leaves.
 use Prim.Native.Nat.{ℕ, _<_}
 use mathlib.Core.Path.{_≡_}
 use mathlib.Core.Bool.{Bool, not, _&&_}

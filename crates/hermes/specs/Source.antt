@@ -1,6 +1,6 @@
 -- Demand 2: the actions of the Hermes specification (source 000) under their names, guard first and effect after, as its page words them.
 -- Completed as document 01 rules: HRcvInv after 003 and 004, the end of HSendVals after 003; the view for the alive nodes; values; the
--- epoch and the record's number on messages. Nothing here uses the steps of `Event`.
+-- epoch and the record's number on messages. What 02's Wishes add stands beside the source's own, and says so. Nothing here uses the steps of `Event`.
 use Prim.Native.Nat.{ℕ, _+_, _≤_, _<_}
 use mathlib.Core.Path.{_≡_}
 use mathlib.Core.Bool.{Bool, true, false}
