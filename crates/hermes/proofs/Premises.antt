@@ -18,7 +18,7 @@ use Rattle.hermes.specs.Run as run
 use Rattle.hermes.specs.Run.{Action, result, advance}
 use Rattle.hermes.specs.Agreement.{Started, Entries, Agreement, validates, acknowledges}
 use Rattle.hermes.specs.Played.{three, issued, lentTable, group, played, answers, struckOff, story}
-use Rattle.hermes.specs.Witness.{kind, BothWays, end, Witness}
+use Rattle.hermes.specs.Witness.{kind, BothWays, leftOut, Witness}
 use Rattle.hermes.specs.Overtaken.{Turn, shown, finishes, resends, takesOver, awaits}
 use Rattle.hermes_record.proofs.Order.{higher-order}
 use Rattle.hermes.proofs.Members.{others-every}
@@ -73,7 +73,7 @@ every-kind (run.resend i) = (refl, refl)
 every-kind (run.view epoch set) = (refl, refl)
 
 -- 2 is not in its own view, and is itself the last writer
-no-turn : Turn higher (end 2) 0 → ⊥
+no-turn : Turn higher leftOut 0 → ⊥
 unfolding result advance apply effect refusal start has size lowest within othersIn with padded place later sameTimestamp view viewed
 no-turn (shown e) = omega (arith, e)
 no-turn (finishes e m) = omega (arith, e)
@@ -107,8 +107,13 @@ witness = record {
   quiet1 =
       (calm, (calm, (calm, (calm, (calm, (calm, (calm, (calm, (calm, (calm, (calm, (calm, (calm, (calm, (calm, (calm, (calm, tt)))))))))))))))));
   vain = (inl refl, others-every 1 3 1 refl);
-  overtaken = record { member = refl; split = refl; given = record { invalidWrite = refl; accepted = refl }; save = refl };
-  past = given-up higher higher-order three 1 issued group started (take 24 story) 0 0 (omega arith) refl (record { invalidWrite = refl; accepted = refl }) (drop 25 story);
+  overtaken = record {
+    member = refl;
+    split = refl;
+    given = record { invalidWrite = refl; accepted = refl };
+    save = refl;
+    past = given-up higher higher-order three 1 issued group started (take 24 story) 0 0 (omega arith) refl (record { invalidWrite = refl; accepted = refl }) (drop 25 story);
+  };
   turns = λ k m v. nobody-hangs higher three 1 issued group started story story-entries 0 k (omega arith) m v;
   stuck = no-turn;
   first = record { timestamp = refl; text = refl };

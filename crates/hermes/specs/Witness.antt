@@ -10,7 +10,7 @@ use lib.ListN.{length, take, drop}
 use Rattle.hermes_record.specs.Members.{has}
 use Rattle.hermes_record.specs.Order.{higher}
 use Rattle.hermes.specs.Node.{Node, recordOf, valueOf}
-use Rattle.hermes.specs.Run.{Action, read, write, replay, deliver, validate, resend, view, run}
+use Rattle.hermes.specs.Run.{Action, read, write, replay, deliver, validate, resend, view, advance, run}
 use Rattle.hermes.specs.Agreement.{Started, Entries, Sees, Shows, Validation, after, Agreement}
 use Rattle.hermes.specs.LastAck.{AllReplied, NoView}
 use Rattle.hermes.specs.Overtaken.{replayOf, Past, GivesUp, Turn}
@@ -74,12 +74,17 @@ pub record FinishedSave (j k : ℕ) (action : Action) (m : ℕ) : Type 0 where
   pub sees : Sees (after higher group (take j story) k) m
   pub shown : Shows (end m) 0
 
--- the premises of `GivenUp`: entry j, counted from 0, is k's accepted replay in invalid-write, and its own save is that of version 1
+-- the premises of `GivenUp`, and its claim: entry j, counted from 0, is k's accepted replay in invalid-write; its own save is that of version 1
 pub record GivenUpSave (j k : ℕ) : Type 0 where
   pub member : three k ≡ true
   pub split : story ≡ take j story ++ replayOf k 0 ∷ drop (suc j) story
   pub given : GivesUp higher group (take j story) 0 k
   pub save : recordOf 0 (after higher group (take j story) k) .written ≡ record { version = 1; tie = k }
+  pub past : Past higher 0 (recordOf 0 (after higher group (take j story) k) .written) (after higher (advance higher (run higher group (take j story)) (replayOf k 0)) (drop (suc j) story) k)
+
+-- 2, struck off amid a save
+abbrev pub leftOut : Node
+leftOut = after higher group (by 2 (write 0 (66 ∷ [])) ∷ by 2 (view 1 3) ∷ []) 2
 
 -- replica n holds C3 under the timestamp of 1's last save
 pub record Holds (n : Node) : Type 0 where
@@ -112,11 +117,10 @@ pub record Witness : Type 0 where
   pub quiet0 : NoView 0 (take 21 story)
   pub quiet1 : NoView 1 (take 17 story)
   pub vain : AllReplied 0 (after higher group (take 19 story) 1)
-  -- those of `GivenUp`: 0 gives Z0 up; and so its claim
+  -- those of `GivenUp`: 0 gives Z0 up
   pub overtaken : GivenUpSave 24 0
-  pub past : Past higher 0 (record { version = 1; tie = 0 }) (end 0)
-  -- the claim of `NobodyHangs`; and for 2, struck off amid its save, nothing can be done: so it claims something
+  -- the claim of `NobodyHangs`; and that it claims something: for a laptop that is struck off amid a save nothing can be done
   pub turns : (k : ℕ) → three k ≡ true → Sees (end k) k → Turn higher (end k) 0
-  pub stuck : Turn higher (end 2) 0 → ⊥
+  pub stuck : Turn higher leftOut 0 → ⊥
   pub first : Holds (end 0)
   pub second : Holds (end 1)
