@@ -200,8 +200,8 @@ struct cetskobi_answer cetskobi_deliver(struct cetskobi_replica me, uint8_t *tab
                                         size_t i, struct cetskobi_message message, const uint8_t *value, size_t value_len);
 /* For a record in state invalid or invalid-write whose last writer was struck off before its VAL came here: to be tried after a view. This
  * laptop takes that write over, with its timestamp and value: all others in the view are to acknowledge it anew, and the last ACK settles
- * it. From invalid-write too, where it had overtaken a write of this laptop's own: that one is given up, its value is no longer in the
- * record, and its acknowledgements no longer count. */
+ * it. From invalid-write too, where it had overtaken a write of this laptop's own: that one is given up. Its value was overwritten when
+ * the other's INV came, and its acknowledgements no longer count. */
 CETSKOBI_MUST_USE
 struct cetskobi_answer cetskobi_replay(struct cetskobi_replica me, uint8_t *table, size_t table_len, const uint8_t *store, size_t store_len,
                                        size_t i);

@@ -87,8 +87,8 @@ impl<T: AsMut<[u8]>, S: AsMut<[u8]>> Laptop<T, S> {
     /// others in the view; the last acknowledgement ends it, as it ends a write.
     ///
     /// In invalid-write that writer had overtaken a write of this laptop's own.
-    /// That one is given up: its value is no longer in the record, and its
-    /// acknowledgements no longer count.
+    /// That one is given up: its value was overwritten when the other's INV came,
+    /// and its acknowledgements no longer count.
     ///
     /// ```
     /// use cetskobi::{Laptop, Refusal};
@@ -103,16 +103,16 @@ impl<T: AsMut<[u8]>, S: AsMut<[u8]>> Laptop<T, S> {
     /// let _ack = net.deliver(greater.arriving())?;
     /// assert_eq!(net.replay(0), Err(Refusal::NotReplayable));
     ///
-    /// // It is struck off, and 0 hands its text on.
+    /// // It is struck off, at both that are left, and 0 hands its text on.
     /// net.change_view(1, 0b011)?;
-    /// # hut.change_view(1, 0b011)?;
+    /// hut.change_view(1, 0b011)?;
     /// let inv = net.replay(0)?;
     /// assert_eq!(inv.body(), b"Robin");
     /// let ack = hut.deliver(inv.arriving())?.leaving();
-    /// # let ack = ack.expect("an INV is acknowledged").into_owned();
+    /// let ack = ack.expect("an INV is acknowledged").into_owned();
     /// let val = net.deliver(ack.arriving())?.leaving();
-    /// # let val = val.expect("1 was the last").into_owned();
-    /// # assert_eq!(hut.deliver(val.arriving())?.leaving(), None);
+    /// let val = val.expect("1 was the last").into_owned();
+    /// assert_eq!(hut.deliver(val.arriving())?.leaving(), None);
     /// assert_eq!(net.read(0)?, b"Robin");
     /// assert_eq!(hut.read(0)?, b"Robin");
     /// # Ok(())

@@ -8,8 +8,8 @@ use crate::settings::Settings;
 /// What `--help` prints.
 pub const HELP: &str = "\
 A morning at the nets: laptops on the proved engine over a poor radio link.
-Agreement is checked after every event; exit status 1 if it ever fails, 2 for
-wrong options.
+Agreement is checked after every event, and at the end that every record has
+settled; exit status 1 if a check fails, 2 for wrong options.
 
   --seed S         the beginning of all random numbers    (111, or CETSKOBI_SEED)
   --seeds N        N mornings, from the seed on, one line each
