@@ -57,7 +57,7 @@ module _ (wins : ℕ → ℕ → Bool) where
       → (entries : List Entry) → Entries member issued entries
       → (i k : ℕ) → i < count → member k ≡ true → Sees (after wins g entries k) k → Turn (after wins g entries k) i
 
--- both, over every strict total order of ties; `proofs/Overtaken` proves them
+-- both, over every strict total order of ties, of which the second asks nothing; `proofs/Overtaken` proves them
 abbrev pub GivenUp : Type 0
 GivenUp = (wins : ℕ → ℕ → Bool) → TieOrder wins → GivenUpBy wins
 
