@@ -24,12 +24,13 @@ use Rattle.hermes.specs.Node.{Node, Outcome, recordOf, apply, newcomer}
 use Rattle.hermes.specs.Run.{Entry, Group, received, nodeAfter, result, advance, run}
 use Rattle.hermes.specs.Agreement.{FreshStart, Started, AsIssued, Entries, Sees, Shows, Alike, Validation, validates, acknowledges, Agreement, Demand3Any, Demand3}
 use Rattle.hermes.proofs.Members.{has-zero}
-use Rattle.hermes_record.proofs.Order.{higher-order, notAfter-refl, notAfter-trans}
+use Rattle.hermes_record.proofs.Order.{higher-order, notAfter-refl, notAfter-trans, notAfter-antisym}
 use Rattle.hermes.proofs.Store.{zeros, slot-zero}
 use Rattle.hermes.proofs.Start.{sized, Begun, begun}
 use Rattle.hermes.proofs.Apply.{stepOf, Applied, refused, accepted, applied}
 use Rattle.hermes.proofs.Protocol as protocol
-use Rattle.hermes.proofs.Protocol.{Copy, Msg, Move, Honest, Invariant, Step, preserve, rises}
+use Rattle.hermes.proofs.Protocol.{Copy, Msg, Move, Honest, Invariant, Step, preserve, rises, same-cells}
+use Rattle.hermes.proofs.Standing.{Standing, standing, stands-first}
 use Rattle.hermes.proofs.Refine.{Cell, clean-cell, setting, copy, copyOf, Known, Refined, refined}
 
 -- ---- lists of entries
@@ -77,16 +78,17 @@ module _ (wins : ℕ → ℕ → Bool) (ord : TieOrder wins) (member : ℕ → B
   absent : Copy Cell
   absent = copyOf (newcomer 0 (issued 0)) (freshRecord (lowest (issued 0))) (zeros 192)
 
-  copies : ℕ → Group → ℕ → Copy Cell
+  pub copies : ℕ → Group → ℕ → Copy Cell
   copies i g k = cond (member k) (copy i (g .at k)) absent
 
-  copies-member : (i : ℕ) (g : Group) (k : ℕ) → member k ≡ true → copies i g k ≡ copy i (g .at k)
+  pub copies-member : (i : ℕ) (g : Group) (k : ℕ) → member k ≡ true → copies i g k ≡ copy i (g .at k)
   unfolding copies
   copies-member i g k e = rw e
 
-  record Ok (g : Group) : Type 0 where
-    numbers : (k : ℕ) → member k ≡ true → g .at k .me .number ≡ k
-    holds : (i : ℕ) → i < count → Invariant (setting wins issued) (copies i g) (Known i (g .log))
+  pub record Ok (g : Group) : Type 0 where
+    pub numbers : (k : ℕ) → member k ≡ true → g .at k .me .number ≡ k
+    pub holds : (i : ℕ) → i < count → Invariant (setting wins issued) (copies i g) (Known i (g .log))
+    pub stands : (i : ℕ) → i < count → Standing (setting wins issued) (copies i g) (Known i (g .log))
 
   -- ---- one entry
   module _ (g : Group) (ok : Ok g) (a : Entry) (mem : member (a .who) ≡ true) (due : AsIssued issued (a .what)) where
@@ -108,7 +110,7 @@ module _ (wins : ℕ → ℕ → Bool) (ord : TieOrder wins) (member : ℕ → B
     unfolding advance
     left i p k = rw (here i) (subst (λ (x : ℕ). Known i (g .log) p ⊎ Honest (setting wins issued) x (copy i (nodeAfter (result wins g a) (g .at (a .who)))) p) (ok .numbers (a .who) mem) (fine i .left p k))
 
-    one-step : (i : ℕ) → Step (setting wins issued) (copies i g) (copies i (advance wins g a)) (Known i (g .log)) (Known i (advance wins g a .log))
+    pub one-step : (i : ℕ) → Step (setting wins issued) (copies i g) (copies i (advance wins g a)) (Known i (g .log)) (Known i (advance wins g a .log))
     one-step i = record {
       who = a .who;
       move = rw (copies-member i g (a .who) mem, here i) (subst (λ (x : ℕ). Move (setting wins issued) x (Known i (g .log)) (copy i (g .at (a .who))) (copy i (nodeAfter (result wins g a) (g .at (a .who))))) (ok .numbers (a .who) mem) (fine i .moves));
@@ -116,22 +118,37 @@ module _ (wins : ℕ → ℕ → Bool) (ord : TieOrder wins) (member : ℕ → B
       left = left i;
     }
 
-    next-ok : Ok (advance wins g a)
-    next-ok = record { numbers = λ m k. go m k (ℕ-discrete m (a .who)); holds = λ i h. preserve (setting wins issued) ord (one-step i) (ok .holds i h) }
+    pub next-ok : Ok (advance wins g a)
+    next-ok = record { numbers = λ m k. go m k (ℕ-discrete m (a .who)); holds = λ i h. preserve (setting wins issued) ord (one-step i) (ok .holds i h); stands = λ i h. standing (setting wins issued) ord (one-step i) (ok .stands i h) }
       where
         go : (m : ℕ) → member m ≡ true → Dec (m ≡ a .who) → advance wins g a .at m .me .number ≡ m
         go m k (yes e) = rw (e, at-who wins g a) number
         go m k (no d) = rw (at-other wins g a m d) (ok .numbers m k)
 
   -- ---- every list
-  run-ok : (g : Group) → Ok g → (entries : List Entry) → Entries member issued entries → Ok (run wins g entries)
+  pub run-ok : (g : Group) → Ok g → (entries : List Entry) → Entries member issued entries → Ok (run wins g entries)
   run-ok g ok [] c = ok
   run-ok g ok (a ∷ rest) c = run-ok (advance wins g a) (next-ok g ok a (c .0) (c .1)) rest (c .2)
 
-  run-rises : (g : Group) → Ok g → (entries : List Entry) → Entries member issued entries → (i m : ℕ) → NotAfter wins (copies i g m .timestamp) (copies i (run wins g entries) m .timestamp)
+  pub run-rises : (g : Group) → Ok g → (entries : List Entry) → Entries member issued entries → (i m : ℕ) → NotAfter wins (copies i g m .timestamp) (copies i (run wins g entries) m .timestamp)
   run-rises g ok [] c i m = notAfter-refl wins (copies i g m .timestamp)
   run-rises g ok (a ∷ rest) c i m =
       notAfter-trans wins ord (rises (setting wins issued) ord (one-step g ok a (c .0) (c .1) i) m) (run-rises (advance wins g a) (next-ok g ok a (c .0) (c .1)) rest (c .2) i m)
+
+  -- who has kept its timestamp has kept its text
+  pub run-cells : (g : Group) → Ok g → (entries : List Entry) → Entries member issued entries → (i m : ℕ) → copies i (run wins g entries) m .timestamp ≡ copies i g m .timestamp
+      → copies i (run wins g entries) m .cell ≡ copies i g m .cell
+  run-cells g ok [] c i m e = refl
+  run-cells g ok (a ∷ rest) c i m e = run-cells (advance wins g a) ok2 rest (c .2) i m (e ∙ sym still) ∙ same-cells (setting wins issued) ord st m still
+    where
+      ok2 : Ok (advance wins g a)
+      ok2 = next-ok g ok a (c .0) (c .1)
+
+      st : Step (setting wins issued) (copies i g) (copies i (advance wins g a)) (Known i (g .log)) (Known i (advance wins g a .log))
+      st = one-step g ok a (c .0) (c .1) i
+
+      still : copies i (advance wins g a) m .timestamp ≡ copies i g m .timestamp
+      still = notAfter-antisym wins ord (rw e at (run-rises (advance wins g a) ok2 rest (c .2) i m)) (rises (setting wins issued) ord st m)
 
   -- ---- the start
   module _ (g : Group) (s : Started member count issued g) where
@@ -159,11 +176,13 @@ module _ (wins : ℕ → ℕ → Bool) (ord : TieOrder wins) (member : ℕ → B
             q : slot i (g .at k .store) ≡ zeros 192
             q = rw (f .storeAfter, b .storeAfter) (slot-zero i (length (f .store)) (omega (arith, f .records, sized (length (f .table)) (length (f .store)) (b .asked .1 .0))))
 
-    start-ok : Ok g
+    pub start-ok : Ok g
     unfolding absent padded
     start-ok = record {
       numbers = λ k e. ap (λ (me : Replica). me .number) (starts k e .identity);
       holds = λ i h. protocol.initially (setting wins issued) ord absent refl (clean-cell []) refl (λ m t. false≢true (sym (has-zero m) ∙ t)) refl
+          (copies i g) (all-absent i h) (Known i (g .log)) (λ p t. List·Memᴰ·not-nil (rw (s .silent) at (t .1)));
+      stands = λ i h. stands-first (setting wins issued) ord absent refl refl
           (copies i g) (all-absent i h) (Known i (g .log)) (λ p t. List·Memᴰ·not-nil (rw (s .silent) at (t .1)));
     }
 

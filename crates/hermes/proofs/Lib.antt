@@ -9,12 +9,14 @@ pub mod Apply
 pub mod Start
 pub mod Filling
 pub mod Protocol
+pub mod Standing
 pub mod Refine
 pub mod Agreement
 pub mod Sound
 pub mod Along
 pub mod LastAck
 pub mod Overtaken
+pub mod Progress
 pub mod SecondReading
 pub mod SecondPremises
 pub mod Premises

@@ -9,8 +9,8 @@ use mathlib.Core.Logic.{_⊎_, inl, inr, ⊎-map, _≢_}
 use native.Mathlib.Omega.{arith}
 use native.Mathlib.Decide.{ℕ-discrete}
 use Rattle.hermes_record.specs.declared.timestamp.Timestamp.{Timestamp}
-use Rattle.hermes_record.specs.Order.{TieOrder, NotAfter, sameTimestamp}
-use Rattle.hermes_record.proofs.Order.{same-equal, equal-same, notAfter-refl, notAfter-trans, notAfter-antisym, notAfter-version, notAfter-newer}
+use Rattle.hermes_record.specs.Order.{TieOrder, later, NotAfter, rises as goes-up, sameTimestamp}
+use Rattle.hermes_record.proofs.Order.{same-equal, equal-same, notAfter-refl, notAfter-trans, notAfter-antisym, notAfter-version, notAfter-newer, later-apart}
 
 -- what the protocol is over: the order of ties, membership in a set, the view issued for each epoch, a record's length with its bytes, and
 -- which of those are clean (zero past the length)
@@ -28,6 +28,7 @@ pub record Copy (Cell : Type 0) : Type 0 where
   pub valid : Bool
   pub coordinates : Bool
   pub timestamp : Timestamp
+  pub writer : ℕ
   pub written : Timestamp
   pub acks : ℕ
   pub cell : Cell
@@ -49,41 +50,41 @@ module _ (S : Setting) where
     stay : b ≡ a → Move n sent a b
     -- HWrite
     write : (c : S .Cell) → S .Clean c → (none : ℕ) → ((m : ℕ) → S .Has none m → ⊥)
-        → b ≡ record { epoch = a .epoch; view = a .view; valid = false; coordinates = true; timestamp = next n (a .timestamp); written = next n (a .timestamp); acks = none; cell = c }
+        → b ≡ record { epoch = a .epoch; view = a .view; valid = false; coordinates = true; timestamp = next n (a .timestamp); writer = n; written = next n (a .timestamp); acks = none; cell = c }
         → Move n sent a b
     -- HReplayWrite
     replay : (none : ℕ) → ((m : ℕ) → S .Has none m → ⊥)
-        → b ≡ record { epoch = a .epoch; view = a .view; valid = false; coordinates = true; timestamp = a .timestamp; written = a .timestamp; acks = none; cell = a .cell }
+        → b ≡ record { epoch = a .epoch; view = a .view; valid = false; coordinates = true; timestamp = a .timestamp; writer = n; written = a .timestamp; acks = none; cell = a .cell }
         → Move n sent a b
     -- HRcvInv of a greater timestamp
-    rcvInv : (sender e : ℕ) (s : Timestamp) (c : S .Cell) → S .Clean c → sent (inv sender e s c) → NotAfter (S .wins) (a .timestamp) s
-        → b ≡ record { epoch = a .epoch; view = a .view; valid = false; coordinates = false; timestamp = s; written = a .written; acks = a .acks; cell = c }
+    rcvInv : (sender e : ℕ) (s : Timestamp) (c : S .Cell) → S .Clean c → sent (inv sender e s c) → later (S .wins) s (a .timestamp) ≡ true
+        → b ≡ record { epoch = a .epoch; view = a .view; valid = false; coordinates = false; timestamp = s; writer = sender; written = a .written; acks = a .acks; cell = c }
         → Move n sent a b
     -- HRcvAck
     rcvAck : (sender e more : ℕ) → sent (ack sender e (a .written)) → ((m : ℕ) → S .Has more m → S .Has (a .acks) m ⊎ (m ≡ sender))
-        → b ≡ record { epoch = a .epoch; view = a .view; valid = a .valid; coordinates = a .coordinates; timestamp = a .timestamp; written = a .written; acks = more; cell = a .cell }
+        → b ≡ record { epoch = a .epoch; view = a .view; valid = a .valid; coordinates = a .coordinates; timestamp = a .timestamp; writer = a .writer; written = a .written; acks = more; cell = a .cell }
         → Move n sent a b
     -- HRcvAck and HSendVals, one after the other
     rcvLast : (sender e more : ℕ) → sent (ack sender e (a .written)) → ((m : ℕ) → S .Has more m → S .Has (a .acks) m ⊎ (m ≡ sender))
         → a .coordinates ≡ true → ((m : ℕ) → S .Has (a .view) m → (m ≡ n) ⊎ S .Has more m)
-        → b ≡ record { epoch = a .epoch; view = a .view; valid = true; coordinates = false; timestamp = a .timestamp; written = a .written; acks = more; cell = a .cell }
+        → b ≡ record { epoch = a .epoch; view = a .view; valid = true; coordinates = false; timestamp = a .timestamp; writer = a .writer; written = a .written; acks = more; cell = a .cell }
         → Move n sent a b
     -- HRcvVal, of this epoch and this timestamp
     rcvVal : (sender : ℕ) → sent (val sender (a .epoch) (a .timestamp))
-        → b ≡ record { epoch = a .epoch; view = a .view; valid = true; coordinates = false; timestamp = a .timestamp; written = a .written; acks = a .acks; cell = a .cell }
+        → b ≡ record { epoch = a .epoch; view = a .view; valid = true; coordinates = false; timestamp = a .timestamp; writer = a .writer; written = a .written; acks = a .acks; cell = a .cell }
         → Move n sent a b
     -- HSendVals
     sendVals : a .coordinates ≡ true → ((m : ℕ) → S .Has (a .view) m → (m ≡ n) ⊎ S .Has (a .acks) m)
-        → b ≡ record { epoch = a .epoch; view = a .view; valid = true; coordinates = false; timestamp = a .timestamp; written = a .written; acks = a .acks; cell = a .cell }
+        → b ≡ record { epoch = a .epoch; view = a .view; valid = true; coordinates = false; timestamp = a .timestamp; writer = a .writer; written = a .written; acks = a .acks; cell = a .cell }
         → Move n sent a b
     -- nodeFailure, by sets: a view issued, within the one held
     shrink : (e : ℕ) → ((m : ℕ) → S .Has (S .issued e) m → S .Has (a .view) m)
-        → b ≡ record { epoch = e; view = S .issued e; valid = a .valid; coordinates = a .coordinates; timestamp = a .timestamp; written = a .written; acks = a .acks; cell = a .cell }
+        → b ≡ record { epoch = e; view = S .issued e; valid = a .valid; coordinates = a .coordinates; timestamp = a .timestamp; writer = a .writer; written = a .written; acks = a .acks; cell = a .cell }
         → Move n sent a b
 
   -- What a message that leaves replica n says of the copy b that the event left.
   abbrev pub Honest : ℕ → Copy (S .Cell) → Msg (S .Cell) → Type 0
-  Honest n b (inv sender e s c) = (s ≡ b .timestamp) × (S .Clean (b .cell) → c ≡ b .cell)
+  Honest n b (inv sender e s c) = (s ≡ b .timestamp) × (S .Clean (b .cell) → c ≡ b .cell) × (sender ≡ n) × (b .coordinates ≡ true)
   Honest n b (ack sender e s) = (sender ≡ n) × NotAfter (S .wins) s (b .timestamp)
   Honest n b (val sender e s) = (e ≡ b .epoch) × (s ≡ b .timestamp) × (b .valid ≡ true)
 
@@ -133,7 +134,7 @@ module _ (S : Setting) (ord : TieOrder (S .wins)) where
   rise (stay e) = rw e (notAfter-refl (S .wins) _)
   rise {n} {a = a} (write c k none h e) = rw e (notAfter-newer (S .wins) (a .timestamp) (next n (a .timestamp)) (omega arith))
   rise (replay none h e) = rw e (notAfter-refl (S .wins) _)
-  rise (rcvInv sender e s c k m g q) = rw q g
+  rise (rcvInv sender e s c k m g q) = rw q (goes-up g)
   rise (rcvAck sender e more m h q) = rw q (notAfter-refl (S .wins) _)
   rise (rcvLast sender e more m h o d q) = rw q (notAfter-refl (S .wins) _)
   rise (rcvVal sender m q) = rw q (notAfter-refl (S .wins) _)
@@ -147,6 +148,26 @@ module _ (S : Setting) (ord : TieOrder (S .wins)) where
       go : Dec (m ≡ st .who) → NotAfter (S .wins) (at m .timestamp) (at′ m .timestamp)
       go (yes e) = rw e (rise (st .move))
       go (no d) = rw (st .others m d) (notAfter-refl (S .wins) (at m .timestamp))
+
+  -- a move that keeps the timestamp keeps the cell
+  same-cell : {n : ℕ} {sent : Msg (S .Cell) → Type 0} {a b : Copy (S .Cell)} → Move S n sent a b → b .timestamp ≡ a .timestamp → b .cell ≡ a .cell
+  same-cell (stay e) t = rw e
+  same-cell (write c k none h e) t = absurd (omega (arith, ap (λ (x : Timestamp). x .version) t, ap (λ (x : Copy (S .Cell)). x .timestamp .version) e))
+  same-cell (replay none h e) t = rw e
+  same-cell {a = a} (rcvInv sender e s c k m g q) t = absurd (later-apart (S .wins) ord s (a .timestamp) g (sym t ∙ ap (λ (x : Copy (S .Cell)). x .timestamp) q))
+  same-cell (rcvAck sender e more m h q) t = rw q
+  same-cell (rcvLast sender e more m h o d q) t = rw q
+  same-cell (rcvVal sender m q) t = rw q
+  same-cell (sendVals o h q) t = rw q
+  same-cell (shrink e h q) t = rw q
+
+  pub same-cells : {at at′ : ℕ → Copy (S .Cell)} {sent sent′ : Msg (S .Cell) → Type 0} → Step S at at′ sent sent′
+      → (m : ℕ) → at′ m .timestamp ≡ at m .timestamp → at′ m .cell ≡ at m .cell
+  same-cells {at} {at′} st m t = go (ℕ-discrete m (st .who))
+    where
+      go : Dec (m ≡ st .who) → at′ m .cell ≡ at m .cell
+      go (yes e) = rw e (same-cell (st .move) (rw e at t))
+      go (no d) = rw (st .others m d)
 
   -- ---- what was so stays so while timestamps rise and the book grows
   module _ (now now′ : ℕ → Timestamp) (book book′ : Timestamp → S .Cell) (up : (m : ℕ) → NotAfter (S .wins) (now m) (now′ m))
@@ -291,7 +312,7 @@ module _ (S : Setting) (ord : TieOrder (S .wins)) where
   -- an honest message is true of the copy that it left
   honest-ok : (n : ℕ) (now : ℕ → Timestamp) (book : Timestamp → S .Cell) (b : Copy (S .Cell)) → now n ≡ b .timestamp → CopyOk S now book b → (x : Msg (S .Cell))
       → Honest S n b x → MsgOk S now book x
-  honest-ok n now book b here ok (inv sender e s c) (p, q) = rw (p, q (ok .clean)) (ok .booked)
+  honest-ok n now book b here ok (inv sender e s c) (p, q, w, o) = rw (p, q (ok .clean)) (ok .booked)
   honest-ok n now book b here ok (ack sender e s) (p, q) = rw (p, here) q
   honest-ok n now book b here ok (val sender e s) (p, q, v) = rw (p, q) (rw (ok .current) at (ok .settled v))
 

@@ -22,7 +22,7 @@ use Rattle.hermes.specs.declared.event.Replica.{Replica}
 use Rattle.hermes.specs.declared.event.Event.{Event}
 use Rattle.hermes.specs.declared.event.Event.the-variants.{Read, Write, Replay, Deliver, Validate, Resend}
 use Rattle.hermes_record.specs.Members.{with}
-use Rattle.hermes_record.specs.Order.{TieOrder, later, NotAfter, rises}
+use Rattle.hermes_record.specs.Order.{TieOrder, later, NotAfter}
 use Rattle.hermes_record.specs.Record.{oneOf}
 use Rattle.hermes_record.proofs.Moves.{invalid-shown, invalid-own}
 use Rattle.hermes.specs.Store.{slot, valueAt, padded}
@@ -70,6 +70,7 @@ copyOf me r bytes = record {
   valid = oneOf (r .state) (state.Valid ∷ []);
   coordinates = oneOf (r .state) (state.Write ∷ state.Replay ∷ []);
   timestamp = r .timestamp;
+  writer = r .writer;
   written = r .written;
   acks = r .acks;
   cell = record { len = r .len; bytes = bytes };
@@ -105,7 +106,7 @@ module _ (j : ℕ) (n : Node) (s : Step) (c : Changed j s n (done n j s)) where
 module _ (wins : ℕ → ℕ → Bool) (issued : ℕ → ℕ) where
   -- what leaves is true of the copy that was left
   abbrev True : Copy Cell → Message → Type 0
-  True b (Inv s) = s ≡ b .timestamp
+  True b (Inv s) = (s ≡ b .timestamp) × (b .coordinates ≡ true)
   True b (Ack s) = NotAfter wins s (b .timestamp)
   True b (Val s) = (s ≡ b .timestamp) × (b .valid ≡ true)
 
@@ -132,7 +133,7 @@ module _ (wins : ℕ → ℕ → Bool) (issued : ℕ → ℕ) where
   -- a true message is honest
   honest : (i : ℕ) (n : Node) (m : Message) → True (copy i n) m → recordOf i n .len ≤ 192
       → Honest (setting wins issued) (n .me .number) (copy i n) (msg (n .me .number) (n .me .epoch) m (bodyOf m (valueAt i (recordOf i n .len) (n .store))))
-  honest i n (Inv s) h f = (h, λ k. ap cellOf (value-slot i (recordOf i n .len) (n .store) f) ∙ k)
+  honest i n (Inv s) h f = (h .0, λ k. ap cellOf (value-slot i (recordOf i n .len) (n .store) f) ∙ k, refl, h .1)
   honest i n (Ack s) h f = (refl, h)
   honest i n (Val s) h f = (refl, h .0, h .1)
 
@@ -191,13 +192,13 @@ module _ (wins : ℕ → ℕ → Bool) (ord : TieOrder wins) (issued : ℕ → �
   resent-says j state.Valid e = (refl, (refl, rw e))
   resent-says j state.Invalid e = tt
   resent-says j state.InvalidWrite e = tt
-  resent-says j state.Write e = (refl, refl)
-  resent-says j state.Replay e = (refl, refl)
+  resent-says j state.Write e = (refl, (refl, rw e))
+  resent-says j state.Replay e = (refl, (refl, rw e))
 
   inv-good : (j sender epoch : ℕ) (t : Timestamp) (v : List ℕ) → Known j log (inv sender epoch t (cellOf v))
       → (g : Bool) → later wins t (recordOf j n .timestamp) ≡ g → Good wins issued log j n (invStep g (n .me) j (recordOf j n) t sender v)
   inv-good j sender epoch t v k true g = record {
-    moves = rcvInv sender epoch t (cellOf v) (clean-cell v) k (rises g) (rw (invalid-shown (recordOf j n .state), invalid-own (recordOf j n .state)));
+    moves = rcvInv sender epoch t (cellOf v) (clean-cell v) k g (rw (invalid-shown (recordOf j n .state), invalid-own (recordOf j n .state)));
     says = (refl, notAfter-refl wins t);
   }
   inv-good j sender epoch t v k false g =
@@ -243,6 +244,7 @@ module _ (wins : ℕ → ℕ → Bool) (ord : TieOrder wins) (issued : ℕ → �
     valid = false;
     coordinates = true;
     timestamp = record { version = version; tie = n .me .number };
+    writer = n .me .number;
     written = record { version = version; tie = n .me .number };
     acks = 0;
     cell = cellOf v;
@@ -269,8 +271,8 @@ module _ (wins : ℕ → ℕ → Bool) (ord : TieOrder wins) (issued : ℕ → �
   unfolding writing
   refined (run.read j) c = of-event wins issued log n j Read [] (λ y. record { moves = stay refl; says = tt })
   refined (run.write j v) c = of-event wins issued log n j Write v
-      (λ y. record { moves = write (cellOf v) (clean-cell v) 0 none-in-zero (ap (writing j v) (next-version (recordOf j n .timestamp .version) (y .1 .1 .0))); says = (refl, refl) })
-  refined (run.replay j) c = of-event wins issued log n j Replay [] (λ y. record { moves = replay 0 none-in-zero refl; says = (refl, refl) })
+      (λ y. record { moves = write (cellOf v) (clean-cell v) 0 none-in-zero (ap (writing j v) (next-version (recordOf j n .timestamp .version) (y .1 .1 .0))); says = (refl, (refl, refl)) })
+  refined (run.replay j) c = of-event wins issued log n j Replay [] (λ y. record { moves = replay 0 none-in-zero refl; says = (refl, (refl, refl)) })
   refined (run.validate j) c = of-event wins issued log n j Validate []
       (λ y. let o = validate-own (n .me) (recordOf j n) 0 y in
       record { moves = sendVals (o .pending) (others-members (n .me .number) (n .me .view) (recordOf j n .acks) (o .acknowledged)) refl; says = (refl, (refl, refl)) })

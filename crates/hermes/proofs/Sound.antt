@@ -84,7 +84,7 @@ module _ (wins : ℕ → ℕ → Bool) (count k : ℕ) where
   entry-sound n ok log (run.resend j) = event-sound n ok j Resend []
   entry-sound n ok log (run.view epoch next) = viewed-sound n ok epoch next
 
-  advance-sound : (g : Group) (a : Entry) → Sound count k (g .at k) → Sound count k (advance wins g a .at k)
+  pub advance-sound : (g : Group) (a : Entry) → Sound count k (g .at k) → Sound count k (advance wins g a .at k)
   unfolding result
   advance-sound g a ok = go (ℕ-discrete k (a .who))
     where

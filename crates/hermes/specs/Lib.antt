@@ -15,6 +15,8 @@ pub mod SecondReading
 pub mod LastAck
 pub mod Overtaken
 pub mod Reads
+pub mod Settling
+pub mod Recipe
 pub mod Played
 pub mod Witness
 pub mod SecondWitness

@@ -10,7 +10,7 @@ use Rattle.hermes_record.specs.Order.{higher}
 use Rattle.hermes_record.specs.Record.{freshRecord}
 use Rattle.hermes.specs.Event.{numberOf}
 use Rattle.hermes.specs.Node.{Node, newcomer, start}
-use Rattle.hermes.specs.Run.{Action, read, write, replay, deliver, validate, resend, view, Entry, Group, Result, nothing, event, result, advance}
+use Rattle.hermes.specs.Run.{Action, read, write, replay, deliver, validate, resend, view, Entry, by, Group, Result, nothing, event, result, advance}
 
 -- numbers 0, 1 and 2
 abbrev pub three : ℕ → Bool
@@ -32,10 +32,6 @@ fresh k = record { me = newcomer k 7; table = start k 7 lentTable (replicate 192
 -- all of them, with nothing sent
 abbrev pub group : Group
 group = record { at = fresh; log = [] }
-
--- laptop k does that
-abbrev pub by : ℕ → Action → Entry
-by k a = record { who = k; what = a }
 
 -- 01, "The playing program": write 0 A1, deliver 1 0, deliver 2 0, deliver 0 1, deliver 0 2, validate 0, deliver 1 3, read 1, read 2
 abbrev pub played : List Entry

@@ -35,6 +35,10 @@ pub record Entry : Type 0 where
   pub who : ℕ
   pub what : Action
 
+-- laptop k does that
+abbrev pub by : ℕ → Action → Entry
+by k a = record { who = k; what = a }
+
 -- the replica of each number, and the messages that left, oldest first
 pub record Group : Type 0 where
   pub at : ℕ → Node

@@ -10,11 +10,11 @@ use lib.ListN.{length, take, drop}
 use Rattle.hermes_record.specs.Members.{has}
 use Rattle.hermes_record.specs.Order.{higher}
 use Rattle.hermes.specs.Node.{Node, recordOf, valueOf}
-use Rattle.hermes.specs.Run.{Action, read, write, replay, deliver, validate, resend, view, advance, run}
+use Rattle.hermes.specs.Run.{Action, read, write, replay, deliver, validate, resend, view, by, advance, run}
 use Rattle.hermes.specs.Agreement.{Started, Entries, Sees, Shows, Validation, after, Agreement}
 use Rattle.hermes.specs.LastAck.{AllReplied, NoView}
 use Rattle.hermes.specs.Overtaken.{replayOf, Past, GivesUp, Turn}
-use Rattle.hermes.specs.Played.{three, issued, group, by, answers, Line, numbersOf, struckOff, story}
+use Rattle.hermes.specs.Played.{three, issued, group, answers, Line, numbersOf, struckOff, story}
 
 -- a number for each kind of entry, to tell them apart
 abbrev pub kind : Action → ℕ
