@@ -17,6 +17,9 @@ pub mod Along
 pub mod LastAck
 pub mod Overtaken
 pub mod Progress
+pub mod Drive
+pub mod Driver
+pub mod Settling
 pub mod SecondReading
 pub mod SecondPremises
 pub mod Premises

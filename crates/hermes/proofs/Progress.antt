@@ -237,11 +237,13 @@ module _ (T : Task) where
   -- for each number below k an entry if it passes the test, and none if not
   pub for-each : (p : ℕ → Bool) (entry : ℕ → Entry) (P : ℕ → Group → Type 0) → ((k : ℕ) → k < 16 → (g : Group) → P k g → Plays T g (cond (p k) (entry k ∷ []) []) (P (suc k)))
       → (k : ℕ) → k ≤ 16 → (g : Group) → P 0 g → Plays T g (each k p entry) (P k)
+  unfolding each
   for-each p entry P f zero l g h = none g h
   for-each p entry P f (suc k) l g h = next (for-each p entry P f k (omega arith) g h) (f k (omega arith))
 
 -- how many they are
 pub each-length : (k : ℕ) (p : ℕ → Bool) (entry : ℕ → Entry) → length (each k p entry) ≡ countBelow k p
+unfolding each
 each-length zero p entry = refl
 each-length (suc k) p entry = rw (length-append (each k p entry) (cond (p k) (entry k ∷ []) []), each-length k p entry) (go (p k))
   where

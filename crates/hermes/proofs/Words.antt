@@ -1,13 +1,13 @@
 -- The tests of the questions and the words of the source say the same: states, timestamps, and "at least two laptops".
 use Prim.Native.Nat.{ℕ, zero, suc, _+_, _≤_, _<_}
 use mathlib.Core.Path.{_≡_, refl, sym, ap, _∙_}
-use mathlib.Core.Bool.{Bool, true, false, cond, false≢true}
+use mathlib.Core.Bool.{Bool, true, false, cond, not, _&&_, false≢true}
 use mathlib.Core.Logic.{_⊎_, inl, inr, _≢_}
 use mathlib.Core.List.{List, [], _∷_}
 use native.Mathlib.Omega.{arith}
 use native.Mathlib.Decide.{ℕ-discrete}
 use lib.Dec.{leb, eqb}
-use borrow.Author.Tests.{leb-true, eqb-true, le-leb, eq-eqb}
+use borrow.Author.Tests.{leb-true, eqb-true, le-leb, eq-eqb, ne-eqb}
 use Rattle.hermes_record.specs.declared.timestamp.Timestamp.{Timestamp}
 use Rattle.hermes_record.specs.declared.record.State.{State}
 use Rattle.hermes_record.specs.declared.record.State.the-variants.{Valid, Invalid, InvalidWrite, Write, Replay}
@@ -15,7 +15,7 @@ use Rattle.hermes_record.specs.Members.{has, countBelow, size}
 use Rattle.hermes_record.specs.Order.{sameTimestamp}
 use Rattle.hermes_record.specs.Record.{code, oneOf}
 use Rattle.hermes.specs.Source.{In, equalTS}
-use Rattle.hermes_record.proofs.Tests.{either, or-true}
+use Rattle.hermes_record.proofs.Tests.{either, or-true, and-true, and-false}
 use Rattle.hermes.proofs.Members.{Has, has-small}
 use Rattle.hermes_record.proofs.Order.{timestamp-path, equal-same}
 
@@ -122,6 +122,29 @@ two-count (suc k) p a b d la lb ha hb = go (ℕ-discrete a k) (ℕ-discrete b k)
     go (yes e) (no f) rest = rw (ap p (sym e) ∙ ha) (omega (arith, one-counts k p b (omega arith) hb))
     go (no e) (yes f) rest = rw (ap p (sym f) ∙ hb) (omega (arith, one-counts k p a (omega arith) ha))
     go (no e) (no f) rest = omega (arith, rest (omega arith) (omega arith))
+
+-- ---- how many pass a test
+
+pub count-le : (k : ℕ) (p q : ℕ → Bool) → ((m : ℕ) → p m ≡ true → q m ≡ true) → countBelow k p ≤ countBelow k q
+count-le zero p q h = omega arith
+count-le (suc k) p q h = go (p k) refl (count-le k p q h)
+  where
+    go : (b : Bool) → p k ≡ b → countBelow k p ≤ countBelow k q → cond b 1 0 + countBelow k p ≤ cond (q k) 1 0 + countBelow k q
+    go true e l = rw (h k e) (omega arith)
+    go false e l = omega arith
+
+-- all but d
+count-above : (k d : ℕ) (p : ℕ → Bool) → k ≤ d → countBelow k (λ m. p m && not (eqb m d)) ≡ countBelow k p
+count-above zero d p l = refl
+count-above (suc k) d p l = rw (ne-eqb k d (omega arith), and-true (p k), count-above k d p (omega arith))
+
+pub count-without : (k d : ℕ) (p : ℕ → Bool) → d < k → p d ≡ true → countBelow k (λ m. p m && not (eqb m d)) + 1 ≡ countBelow k p
+count-without zero d p l h = absurd (omega arith)
+count-without (suc k) d p l h = go (ℕ-discrete d k) (λ (t : d < k). count-without k d p t h)
+  where
+    go : Dec (d ≡ k) → (d < k → countBelow k (λ m. p m && not (eqb m d)) + 1 ≡ countBelow k p) → countBelow (suc k) (λ m. p m && not (eqb m d)) + 1 ≡ countBelow (suc k) p
+    go (yes e) rest = rw (eq-eqb k d (sym e), and-false (p k), count-above k d p (omega arith), ap p (sym e) ∙ h) (omega arith)
+    go (no n) rest = rw (ne-eqb k d (λ e. n (sym e)), and-true (p k)) (omega (arith, rest (omega arith)))
 
 pub size-two : (s : ℕ) → leb 2 (size s) ≡ true → Two 16 (has s)
 unfolding size

@@ -28,12 +28,12 @@ orElse nobody c = c
 orElse (laptop u) c = laptop u
 
 -- the lowest number below n that passes the test
-abbrev pub first : ℕ → (ℕ → Bool) → Choice
+unfoldable pub first : ℕ → (ℕ → Bool) → Choice
 first zero p = nobody
 first (suc n) p = orElse (first n p) (cond (p n) (laptop n) nobody)
 
 -- an entry for each number below n that passes the test, in rising order
-abbrev pub each : ℕ → (ℕ → Bool) → (ℕ → Entry) → List Entry
+unfoldable pub each : ℕ → (ℕ → Bool) → (ℕ → Entry) → List Entry
 each zero p f = []
 each (suc n) p f = each n p f ++ cond (p n) (f n ∷ []) []
 

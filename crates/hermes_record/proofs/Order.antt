@@ -122,6 +122,10 @@ module _ (wins : ℕ → ℕ → Bool) (ord : TieOrder wins) where
       go (inl l) = omega (arith, ap (λ (x : Timestamp). x .version) e)
       go (inr (p, q)) = false≢true (sym (ord .irreflexive (s .tie)) ∙ subst (λ (x : Timestamp). wins (s .tie) (x .tie) ≡ true) e q)
 
+  pub not-later : (s t : Timestamp) → NotAfter wins s t → later wins s t ≡ true → ⊥
+  not-later s t (equal e) h = later-apart s t h (sym e)
+  not-later s t (rises g) h = later-apart s s (later-trans s t s h g) refl
+
   -- the order is total: what is not later is not after
   pub notAfter-total : (s t : Timestamp) → later wins s t ≡ false → NotAfter wins s t
   notAfter-total s t g = go (ltb (s .version) (t .version)) refl (eqb (s .tie) (t .tie)) refl
