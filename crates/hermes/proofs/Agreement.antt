@@ -39,7 +39,7 @@ pub run-append : (wins : ℕ → ℕ → Bool) (g : Group) (xs ys : List Entry) 
 run-append wins g [] ys = refl
 run-append wins g (x ∷ xs) ys = run-append wins (advance wins g x) xs ys
 
-entries-append : (member : ℕ → Bool) (issued : ℕ → ℕ) (xs ys : List Entry) → Entries member issued (xs ++ ys) → Entries member issued xs × Entries member issued ys
+pub entries-append : (member : ℕ → Bool) (issued : ℕ → ℕ) (xs ys : List Entry) → Entries member issued (xs ++ ys) → Entries member issued xs × Entries member issued ys
 entries-append member issued [] ys c = (tt, c)
 entries-append member issued (x ∷ xs) ys c = let (p, q) = entries-append member issued xs ys (c .2) in ((c .0, c .1, p), q)
 

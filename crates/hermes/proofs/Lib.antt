@@ -23,6 +23,7 @@ pub mod Settling
 pub mod SecondReading
 pub mod SecondPremises
 pub mod Premises
+pub mod SettlingPremises
 pub mod Frame
 pub mod Locality
 pub mod Recipients

@@ -50,7 +50,7 @@ played-agree = agreement three 1 issued group started played
 -- ---- every kind of entry
 
 -- views as issued, and nothing asked of any other entry
-story-entries : Entries three issued story
+pub story-entries : Entries three issued story
 story-entries =
     (refl, tt, (refl, tt, (refl, tt, (refl, tt, (refl, tt, (refl, tt, (refl, tt, (refl, tt, (refl, tt, (refl, tt, second))))))))))
   where

@@ -20,6 +20,7 @@ pub mod Recipe
 pub mod Played
 pub mod Witness
 pub mod SecondWitness
+pub mod SettlingWitness
 pub mod Worked
 pub mod Limits
 pub mod Rows

@@ -1,0 +1,137 @@
+-- The premises of settling can be met, and the recipe computes.
+use Prim.Native.Nat.{ℕ, zero, suc}
+use mathlib.Core.Path.{_≡_, refl, subst}
+use mathlib.Core.Bool.{Bool, true, not, _||_, false≢true}
+use mathlib.Core.Logic.{_⊎_, inl, inr}
+use mathlib.Core.List.{List, [], _∷_, List·Memᴰ, List·Memᴰ·cases-cons, List·Memᴰ·not-nil}
+use native.Mathlib.Omega.{arith}
+use lib.ListN.{take, drop}
+use borrow.Author.Tests.{ltb-true}
+use Rattle.hermes_record.specs.Members.{has, size, lowest, within, othersIn, with}
+use Rattle.hermes_record.specs.Order.{higher, later, sameTimestamp}
+use Rattle.hermes.specs.Store.{padded, place}
+use Rattle.hermes.specs.Event.{refusal, effect}
+use Rattle.hermes.specs.Node.{start, apply, view, viewed, valueOf}
+use Rattle.hermes.specs.Run as run
+use Rattle.hermes.specs.Run.{Action, Entry, Group, Logged, result, advance, run}
+use Rattle.hermes.specs.Agreement.{Entries, after}
+use Rattle.hermes.specs.Settling.{Helps, Gathered, AllHelp, Settled}
+use Rattle.hermes.specs.Recipe.{first, each, leads, allShow, driver, recipe}
+use Rattle.hermes.specs.Played.{three, issued, group, story}
+use Rattle.hermes.specs.SettlingWitness.{lostVal, lostValRecipe, deadWinner, deadWinnerRecipe, lostSave, lostSaveRecipe, vainSave, vainSaveRecipe, Computed, Brings, Only, SettlingWitness}
+use Rattle.hermes_record.proofs.Order.{higher-order}
+use Rattle.hermes_record.proofs.Tests.{implied}
+use Rattle.hermes.proofs.Members.{all-at, has-small}
+use Rattle.hermes.proofs.Agreement.{entries-append}
+use Rattle.hermes.proofs.Settling.{recipe-settles}
+use Rattle.hermes.proofs.Premises.{started, story-entries}
+
+-- what holds of 0, 1 and 2 holds of everybody in a view of these
+in-three : (P : ℕ → Type 0) → P 0 → P 1 → P 2 → (m : ℕ) → three m ≡ true → P m
+in-three P a b c zero h = a
+in-three P a b c (suc zero) h = b
+in-three P a b c (suc (suc zero)) h = c
+in-three P a b c (suc (suc (suc m))) h = absurd (omega (arith, ltb-true (suc (suc (suc m))) 3 h))
+
+view-in-three : (e m : ℕ) → has (issued e) m ≡ true → three m ≡ true
+unfolding has
+view-in-three zero m h = implied (has 7 m) (three m) (all-at 16 (λ (x : ℕ). not (has 7 x) || three x) refl m (has-small 7 m h)) h
+view-in-three (suc e) m h = implied (has 3 m) (three m) (all-at 16 (λ (x : ℕ). not (has 3 x) || three x) refl m (has-small 3 m h)) h
+
+in-view : (P : ℕ → Type 0) → (e : ℕ) → P 0 → P 1 → (has (issued e) 2 ≡ true → P 2) → (m : ℕ) → has (issued e) m ≡ true → P m
+in-view P e a b c m h = in-three (λ m. has (issued e) m ≡ true → P m) (λ h. a) (λ h. b) c m (view-in-three e m h) h
+
+-- nothing else is done
+helps-only : (set i old : ℕ) (log : List Logged) (a : Entry) → has set (a .who) ≡ true → Helps i old log (a .what) → Only set i old a
+helps-only set i old log a h = go (a .what) refl
+  where
+    go : (w : Action) → a .what ≡ w → Helps i old log w → Only set i old a
+    go (run.read j) e p = absurd p
+    go (run.write j v) e p = absurd p
+    go (run.replay j) e p = (h, inl (rw (e, p)))
+    go (run.deliver k) e p = (h, inr (inr (inr (k, e, p .0))))
+    go (run.validate j) e p = (h, inr (inl (rw (e, p))))
+    go (run.resend j) e p = (h, inr (inr (inl (rw (e, p)))))
+    go (run.view epoch set) e p = absurd p
+
+only-these : (wins : ℕ → ℕ → Bool) (set i old : ℕ) (g : Group) (entries : List Entry) → AllHelp wins set i old g entries → (a : Entry) → List·Memᴰ a entries → Only set i old a
+only-these wins set i old g [] p a m = absurd (List·Memᴰ·not-nil m)
+only-these wins set i old g (x ∷ rest) (h, k, c, p) a m = go (List·Memᴰ·cases-cons m) (only-these wins set i old (advance wins g x) rest p a)
+  where
+    go : (a ≡ x) ⊎ List·Memᴰ a rest → (List·Memᴰ a rest → Only set i old a) → Only set i old a
+    go (inl e) later = rw e (helps-only set i old (g .log) x h k)
+    go (inr t) later = later t
+
+-- ---- the cases
+
+lost : Computed lostVal 0 lostValRecipe (66 ∷ 50 ∷ [])
+unfolding result advance apply effect refusal start has size lowest within othersIn with padded place later sameTimestamp view viewed first each leads allShow driver recipe
+lost = record {
+  gathered = in-view (λ m. (three m ≡ true) × (run higher group lostVal .at m .me .epoch ≡ 0)) 0 (refl, refl) (refl, refl) (λ h. (refl, refl));
+  gives = refl;
+  shown = in-view (λ m. valueOf 0 (after higher (run higher group lostVal) lostValRecipe m) ≡ (66 ∷ 50 ∷ [])) 0 refl refl (λ h. refl);
+}
+
+dead : Computed deadWinner 1 deadWinnerRecipe (66 ∷ 50 ∷ [])
+unfolding result advance apply effect refusal start has size lowest within othersIn with padded place later sameTimestamp view viewed first each leads allShow driver recipe
+dead = record {
+  gathered = in-view (λ m. (three m ≡ true) × (run higher group deadWinner .at m .me .epoch ≡ 1)) 1 (refl, refl) (refl, refl) (λ h. absurd (false≢true h));
+  gives = refl;
+  shown = in-view (λ m. valueOf 0 (after higher (run higher group deadWinner) deadWinnerRecipe m) ≡ (66 ∷ 50 ∷ [])) 1 refl refl (λ h. absurd (false≢true h));
+}
+
+unheard : Computed lostSave 0 lostSaveRecipe (65 ∷ 48 ∷ [])
+unfolding result advance apply effect refusal start has size lowest within othersIn with padded place later sameTimestamp view viewed first each leads allShow driver recipe
+unheard = record {
+  gathered = in-view (λ m. (three m ≡ true) × (run higher group lostSave .at m .me .epoch ≡ 0)) 0 (refl, refl) (refl, refl) (λ h. (refl, refl));
+  gives = refl;
+  shown = in-view (λ m. valueOf 0 (after higher (run higher group lostSave) lostSaveRecipe m) ≡ (65 ∷ 48 ∷ [])) 0 refl refl (λ h. refl);
+}
+
+vain : Computed vainSave 1 vainSaveRecipe (67 ∷ 49 ∷ [])
+unfolding result advance apply effect refusal start has size lowest within othersIn with padded place later sameTimestamp view viewed first each leads allShow driver recipe
+vain = record {
+  gathered = in-view (λ m. (three m ≡ true) × (run higher group vainSave .at m .me .epoch ≡ 1)) 1 (refl, refl) (refl, refl) (λ h. absurd (false≢true h));
+  gives = refl;
+  shown = in-view (λ m. valueOf 0 (after higher (run higher group vainSave) vainSaveRecipe m) ≡ (67 ∷ 49 ∷ [])) 1 refl refl (λ h. absurd (false≢true h));
+}
+
+fresh : Computed [] 0 [] []
+unfolding result advance apply effect refusal start has size lowest within othersIn with padded place later sameTimestamp view viewed first each leads allShow driver recipe
+fresh = record {
+  gathered = in-view (λ m. (three m ≡ true) × (run higher group [] .at m .me .epoch ≡ 0)) 0 (refl, refl) (refl, refl) (λ h. (refl, refl));
+  gives = refl;
+  shown = in-view (λ m. valueOf 0 (after higher (run higher group []) [] m) ≡ []) 0 refl refl (λ h. refl);
+}
+
+-- 1's last save of `struckOff`
+met : Gathered three issued 1 (run higher group (take 36 story))
+unfolding result advance apply effect refusal start has size lowest within othersIn with padded place later sameTimestamp view viewed
+met = in-view (λ m. (three m ≡ true) × (run higher group (take 36 story) .at m .me .epoch ≡ 1)) 1 (refl, refl) (refl, refl) (λ h. absurd (false≢true h))
+
+-- 0 is in both views
+zero-in : (e : ℕ) → has (issued e) 0 ≡ true
+unfolding has
+zero-in zero = refl
+zero-in (suc e) = refl
+
+-- the theorem at a list that is computed
+brings : {before : List Entry} {e : ℕ} {list : List Entry} {text : List ℕ} → Entries three issued before → Computed before e list text → Brings before e list text
+brings {before} {e} {list} c x = record {
+  entries = c;
+  computed = x;
+  settled = subst (Settled higher (issued e) 0 (run higher group before)) (x .gives) (recipe-settles higher higher-order three 1 issued group started before c 0 e 0 (omega arith) (zero-in e) (x .gathered));
+}
+
+pub settling-witness : SettlingWitness
+settling-witness = record {
+  lost = brings (refl, tt, (refl, tt, (refl, tt, (refl, tt, (refl, tt, (refl, tt, tt)))))) lost;
+  dead = brings (refl, tt, (refl, tt, (refl, tt, (refl, tt, (refl, tt, (refl, tt, (refl, refl, (refl, refl, tt)))))))) dead;
+  unheard = brings (refl, tt, tt) unheard;
+  vain = brings (refl, tt, (refl, tt, (refl, tt, (refl, refl, (refl, refl, tt))))) vain;
+  fresh = brings tt fresh;
+  reachedByTwo = unfold size has in refl;
+  reachedByThree = unfold size has in refl;
+  met = (met, recipe-settles higher higher-order three 1 issued group started (take 36 story) (entries-append three issued (take 36 story) (drop 36 story) story-entries .0) 0 1 0 (omega arith) (zero-in 1) met);
+  only = only-these;
+}
