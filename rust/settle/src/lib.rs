@@ -112,7 +112,7 @@ pub fn driver(held: &[Held], latest: Timestamp) -> Option<Step> {
         let event = Event::Resend;
         return Some(Step { at, event });
     }
-    // Its last writer is not in the view: one that would be still drives it.
+    // Its last writer is not in the view, or would be one of those above.
     let waits = find(|(_, r)| matches!(r.state, State::Invalid | State::InvalidWrite));
     waits.map(|(at, _)| Step {
         at,

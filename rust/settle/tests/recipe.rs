@@ -130,13 +130,16 @@ fn a_dead_laptops_save() {
     settles(&laptops, &[&inv[..], &["0 takes 2", "2 takes 2"]].concat());
 }
 
-/// 2's save overtook that of 0, and 2 died.
+/// 2's save overtook that of 0, which 1 had acknowledged, and 2 died.
 #[test]
 fn an_overtaken_save() {
     let mut laptops = four();
-    let _lesser = save(&mut laptops, 0);
+    let lesser = save(&mut laptops, 0);
     let inv = save(&mut laptops, 2);
     comes(&mut laptops, 0, &inv);
+    // It does not count for the replay.
+    let ack = comes(&mut laptops, 1, &lesser).expect("an ACK");
+    comes(&mut laptops, 0, &ack);
     strike(&mut laptops, 2);
     let invs = ["0 replays", "1 takes 0", "3 takes 0"];
     let acks = ["0 takes 1", "0 takes 2"];
