@@ -11,5 +11,6 @@ pub mod memory;
 pub mod packet;
 pub mod script;
 pub mod settings;
+pub mod settling;
 pub mod shrink;
 pub mod single;

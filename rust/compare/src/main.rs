@@ -9,12 +9,12 @@ use compare::group::{self, by_hand, by_packet};
 use compare::packet::{deliver, fetch, pack};
 use compare::settings::Settings;
 use compare::shrink::Found;
-use compare::{leaving, script, single};
+use compare::{leaving, script, settling, single};
 
 /// Runs a part of the comparison, and shows what it counted.
 type Part = fn(&Settings) -> Result<String, String>;
 
-const PARTS: [(&str, Part); 8] = [
+const PARTS: [(&str, Part); 9] = [
     ("single", |settings| {
         shown(
             single::compare(settings, single::by_model),
@@ -28,6 +28,12 @@ const PARTS: [(&str, Part); 8] = [
         shown(
             group::compare(settings, by_packet, single::on_table),
             listed,
+        )
+    }),
+    ("settling", |settings| {
+        shown(
+            settling::compare(settings, settle::recipe),
+            ToString::to_string,
         )
     }),
     ("leaving", |settings| {

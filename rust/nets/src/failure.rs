@@ -15,6 +15,12 @@ pub enum Cause {
         /// The record.
         record: usize,
     },
+    /// A record that no short list of events would settle, when all laptops of the
+    /// newest view had heard of it.
+    NoWay {
+        /// The record.
+        record: usize,
+    },
     /// Records change without end though the link has healed.
     Restless {
         /// The last one.
@@ -38,6 +44,7 @@ impl Cause {
         match self {
             Cause::Disagreement(d) => d.record(),
             Cause::Unsettled { record }
+            | Cause::NoWay { record }
             | Cause::Restless { record }
             | Cause::OtherText { record }
             | Cause::Unsaved { record } => *record,
@@ -51,6 +58,9 @@ impl fmt::Display for Cause {
             Cause::Disagreement(d) => write!(f, "no agreement: {d}"),
             Cause::Unsettled { record } => {
                 write!(f, "record {record} has not settled since the link healed")
+            }
+            Cause::NoWay { record } => {
+                write!(f, "no 3k - 2 events would settle record {record}")
             }
             Cause::Restless { record } => write!(
                 f,

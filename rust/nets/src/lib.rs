@@ -31,6 +31,7 @@ mod settled;
 mod spread;
 mod text;
 mod times;
+mod unsettled;
 
 pub use agreement::Disagreement;
 pub use counts::Counts;

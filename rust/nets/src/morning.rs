@@ -12,6 +12,7 @@ use crate::report::Report;
 use crate::ringer::Ringers;
 use crate::settings::{Part, Settings};
 use crate::settled::{self, Settled};
+use crate::unsettled::{self, Unsettled};
 use crate::Tick;
 
 /// So many calms after the link has healed, the last view is in and the last
@@ -32,6 +33,7 @@ pub fn run(settings: &Settings, mut progress: impl FnMut(u32)) -> Result<Report,
     loop {
         progress(morning.group.now);
         let done = morning.step().map_err(Cause::Disagreement);
+        let done = done.and_then(|()| morning.look());
         match done.and_then(|()| morning.end()) {
             Ok(None) => morning.group.now += 1,
             Ok(Some(settled)) => return Ok(morning.report(settled)),
@@ -50,6 +52,8 @@ struct Morning {
     ringers: Ringers,
     /// Copies that reached a dead laptop.
     to_the_dead: u64,
+    /// What was open when all had heard of the last view.
+    unsettled: Option<Unsettled>,
 }
 
 impl Morning {
@@ -65,6 +69,7 @@ impl Morning {
             ringers: Ringers::new(&plan.birds, settings.rng(Part::Texts)),
             plan,
             to_the_dead: 0,
+            unsettled: None,
         }
     }
 
@@ -139,6 +144,21 @@ impl Morning {
         }
     }
 
+    /// Looks once what it would take to settle every record: when all laptops of
+    /// the last view have heard of it, or, without deaths, when the link heals.
+    fn look(&mut self) -> Result<(), Cause> {
+        let members = self.plan.members;
+        let heard = |n| self.group.laptop(n).view() == members;
+        let now = match self.plan.deaths.is_empty() {
+            true => self.group.now == self.settings.ticks,
+            false => members.into_iter().all(heard),
+        };
+        if now && self.unsettled.is_none() {
+            self.unsettled = Some(unsettled::look(&self.group, members)?);
+        }
+        Ok(())
+    }
+
     /// Whether the morning is over: None as long as it goes on. It ends when
     /// nothing has changed for a calm, in which every hut has sent all that it
     /// sends again, and all of it was heard.
@@ -178,6 +198,7 @@ impl Morning {
             to_the_dead: self.to_the_dead,
             checks: self.group.agreement.checks,
             saved: self.ringers.saved,
+            unsettled: self.unsettled.unwrap_or_default(),
             settled,
             last_change: self.group.last_change,
             ticks: self.group.now,

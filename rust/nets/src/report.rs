@@ -16,6 +16,7 @@ use crate::settings::Settings;
 use crate::settled::Settled;
 use crate::spread::Spread;
 use crate::times::TimesReport;
+use crate::unsettled::Unsettled;
 use crate::Tick;
 
 /// A morning on which every check held.
@@ -32,6 +33,7 @@ pub struct Report {
     pub(crate) to_the_dead: u64,
     pub(crate) checks: u64,
     pub(crate) saved: usize,
+    pub(crate) unsettled: Unsettled,
     pub(crate) settled: Settled,
     pub(crate) last_change: Tick,
     pub(crate) ticks: Tick,
@@ -66,6 +68,18 @@ impl Report {
     /// and the text saved with it.
     pub fn settled(&self) -> usize {
         self.settled.settled
+    }
+
+    /// Records that were open when all laptops of the newest view had heard of it,
+    /// the events that would have settled them, and the most for one of them.
+    pub fn unsettled(&self) -> [usize; 3] {
+        let Unsettled {
+            records,
+            events,
+            most,
+            ..
+        } = self.unsettled;
+        [records, events, most]
     }
 
     /// Validations: by the last acknowledgement, and by an event of their own,
@@ -209,6 +223,7 @@ impl Report {
             self.settled.lost as u64,
             "nobody had heard of them when their laptop died",
         )?;
+        self.open(f)?;
         line(
             f,
             "settled",
@@ -221,6 +236,24 @@ impl Report {
             seconds(self.last_change)
         );
         line(f, "seconds", self.ticks.into(), &remark)
+    }
+}
+
+impl Report {
+    /// What was open at one moment, and what would have settled it.
+    fn open(&self, f: &mut fmt::Formatter<'_>) -> fmt::Result {
+        let open = &self.unsettled;
+        let moment = match self.plan.deaths.len() {
+            0 => "the link healed".to_owned(),
+            epoch => format!("all had heard of epoch {epoch}"),
+        };
+        let remark = format!("records at {}, when {moment}", seconds(open.tick));
+        line(f, "unsettled", open.records as u64, &remark)?;
+        let (k, most) = (open.laptops, open.most);
+        let bound = settle::most(k);
+        let remark =
+            format!("would settle them, at most {most} for one; 3k - 2 is {bound} for {k} laptops");
+        line(f, "  events", open.events as u64, &remark)
     }
 }
 

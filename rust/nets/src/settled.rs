@@ -30,7 +30,7 @@ pub(crate) fn look(group: &Group, members: &[&Laptop]) -> Result<Settled, Cause>
 }
 
 /// Valid everywhere: one timestamp and one text, that which was saved with it.
-fn same_text(group: &Group, members: &[&Laptop], i: usize) -> Result<(), Cause> {
+pub(crate) fn same_text(group: &Group, members: &[&Laptop], i: usize) -> Result<(), Cause> {
     let timestamp = members[0].record(i).map(|r| r.timestamp);
     // A record of version 0 is as it was at the fresh start.
     let saved: Option<&[u8]> = timestamp.and_then(|t| match t.version {

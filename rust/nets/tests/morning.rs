@@ -20,6 +20,11 @@ fn all_saved(settings: &Settings, report: &Report) {
     assert_eq!(report.settled(), settings.records, "{settings:?}");
     let ends = report.ends_of_saves();
     assert_eq!(ends.iter().sum::<usize>(), saved, "{settings:?}");
+    // Document 02, Wish 3: what was open could be settled, by 3k - 2 events each.
+    let [records, events, most] = report.unsettled();
+    let bound = 3 * usize::from(settings.laptops - settings.deaths) - 2;
+    assert!(most <= bound, "{settings:?}");
+    assert!(most <= events && events <= records * most, "{settings:?}");
     // An overtaken save is given up only where a laptop was struck off.
     let given_up = report.given_up();
     assert!(given_up <= report.overtaken(), "{settings:?}");
@@ -42,6 +47,7 @@ fn the_default_morning() {
     assert!(report.overtaken() > 0, "no two saves met");
     assert!(report.replays() > 0, "nothing was replayed");
     assert_eq!(report.given_up(), 1, "the save of record 740");
+    assert_eq!(report.unsettled(), [119, 1734, 28], "ten laptops");
     for refusal in [
         Refusal::NotReadable,
         Refusal::OtherEpoch,

@@ -1,6 +1,8 @@
 //! Who does what next, over a radio that loses, repeats and holds back, with
 //! views that reach each laptop when they will.
 
+use std::collections::VecDeque;
+
 use model::engine::{bit, has};
 use model::rng::Rng;
 
@@ -25,12 +27,20 @@ pub struct Schedule {
     hot: Vec<usize>,
     /// The last entry of one that sent something.
     last: Option<usize>,
+    /// Entries that were asked for: they come next.
+    asked: VecDeque<(usize, What)>,
 }
 
 impl Schedule {
     /// A group that has just started, with its schedule.
     pub fn start(rng: &mut Rng, records: usize) -> (Run, Schedule) {
-        let numbers = some_numbers(rng);
+        let size = [2, 3, 3, 4, 4, 5, 7][rng.below(7)];
+        Schedule::start_of(rng, size, records)
+    }
+
+    /// The same with so many laptops, 2 to 16.
+    pub fn start_of(rng: &mut Rng, size: usize, records: usize) -> (Run, Schedule) {
+        let numbers = some_numbers(rng, size);
         let mut view = numbers.iter().fold(0, |set, &number| set | bit(number));
         if rng.chance(1, 10) {
             // A number that no laptop has may stand in the first view.
@@ -47,6 +57,7 @@ impl Schedule {
             id: 0,
             hot,
             last: None,
+            asked: VecDeque::new(),
         };
         let run = Run {
             numbers,
@@ -57,13 +68,24 @@ impl Schedule {
         (run, schedule)
     }
 
+    /// Asks for an entry. Gives its id.
+    pub fn ask(&mut self, at: usize, what: What) -> usize {
+        self.asked.push_back((at, what));
+        self.id + self.asked.len() - 1
+    }
+
     /// The next entry, and the place of the laptop that it comes to.
     pub fn next(&mut self, rng: &mut Rng, group: &Group) -> (usize, What) {
         self.take_up(group);
-        if self.issued < self.views.len() && rng.chance(1, self.pace) {
-            self.issued += 1;
-        }
-        let (at, what) = self.choose(rng, group);
+        let (at, what) = match self.asked.pop_front() {
+            Some(asked) => asked,
+            None => {
+                if self.issued < self.views.len() && rng.chance(1, self.pace) {
+                    self.issued += 1;
+                }
+                self.choose(rng, group)
+            }
+        };
         self.last = Some(self.id);
         self.id += 1;
         (at, what)
@@ -259,8 +281,7 @@ impl Schedule {
 }
 
 /// Different laptop numbers, in any order.
-fn some_numbers(rng: &mut Rng) -> Vec<u8> {
-    let size = [2, 3, 3, 4, 4, 5, 7][rng.below(7)];
+fn some_numbers(rng: &mut Rng, size: usize) -> Vec<u8> {
     let mut numbers: Vec<u8> = Vec::new();
     while numbers.len() < size {
         let number = rng.below(16) as u8;

@@ -1,0 +1,157 @@
+//! How a record settles (document 02, Wish 3).
+//!
+//! All k laptops of a view are at its epoch, and one record gets no further
+//! write. Whatever was lost before, and whoever died, at most 3k - 2 events on
+//! that record leave it valid on all k, with the latest timestamp that any of
+//! them held, and with the bytes that went with it. All of them are accepted,
+//! and each message that is delivered left one of these very events.
+//!
+//! [`recipe`] gives the list, from what the laptops hold at the outset, and
+//! [`follow`] has the laptops do it. No hut sees what all others hold, so hut
+//! software gets there by its clocks instead, with more events (docs/GUIDE.md).
+//!
+//! ```
+//! use cetskobi::{Laptop, Refusal};
+//! use settle::{by_packet, follow, held, recipe};
+//!
+//! # fn main() -> Result<(), Refusal> {
+//! let start = |number| Laptop::start(number, 0b111, 1);
+//! let mut laptops = [start(0)?, start(1)?, start(2)?];
+//! // Laptop 1 saves, and its INV is lost.
+//! let _lost = laptops[1].write(0, b"Wren")?;
+//!
+//! let steps = recipe(&held(&laptops, 0)).expect("somebody can begin");
+//! assert_eq!(steps.len(), 3 * 3 - 2);
+//! assert_eq!(follow(&steps, &mut laptops, 0, by_packet), Ok(()));
+//! for laptop in &laptops {
+//!     assert_eq!(laptop.read(0)?, b"Wren");
+//! }
+//! # Ok(())
+//! # }
+//! ```
+
+#![forbid(unsafe_code)]
+#![warn(missing_docs)]
+
+mod follow;
+
+pub use follow::{by_hand, by_packet, follow, Carry, Halt, Left};
+
+use cetskobi::{Laptop, Members, Record, State, Timestamp};
+
+/// A laptop of the view, and its record at the outset.
+pub type Held = (u8, Record);
+
+/// An event of the list.
+#[derive(Clone, Copy, Debug, PartialEq, Eq)]
+pub enum Event {
+    /// Every other laptop has acknowledged: a VAL leaves.
+    Validate,
+    /// From write or replay an INV leaves, from valid a VAL.
+    Resend,
+    /// An INV leaves.
+    Replay,
+    /// The message that left this step of the list comes in.
+    Deliver {
+        /// The place of that step, from 0.
+        left: usize,
+    },
+}
+
+/// An event, and the laptop that does it.
+#[derive(Clone, Copy, Debug, PartialEq, Eq)]
+pub struct Step {
+    /// The laptop's number.
+    pub at: u8,
+    /// The event.
+    pub event: Event,
+}
+
+/// The most events that so many laptops need: 3k - 2.
+pub const fn most(laptops: usize) -> usize {
+    (3 * laptops).saturating_sub(2)
+}
+
+/// What the laptops hold of record `i`. One that does not have it is left out.
+pub fn held<T: AsRef<[u8]>, S: AsRef<[u8]>>(laptops: &[Laptop<T, S>], i: usize) -> Vec<Held> {
+    let held = |l: &Laptop<T, S>| Some((l.number(), l.record(i)?));
+    let mut held: Vec<Held> = laptops.iter().filter_map(held).collect();
+    held.sort_by_key(|h| h.0);
+    held
+}
+
+/// The events that settle a record which the laptops of a view hold so, in rising
+/// order of their numbers. None if nobody can begin: that never happens in a
+/// group that keeps to the premises.
+pub fn recipe(held: &[Held]) -> Option<Vec<Step>> {
+    if held.iter().all(|(_, r)| r.state == State::Valid) {
+        return Some(Vec::new());
+    }
+    let latest = held.iter().map(|(_, r)| r.timestamp).max()?;
+    let first = driver(held, latest)?;
+    Some(steps(held, latest, first))
+}
+
+/// Who drives the record, and by which event: one of those that hold this
+/// timestamp.
+pub fn driver(held: &[Held], latest: Timestamp) -> Option<Step> {
+    let find = |fits: fn(&Held) -> bool| {
+        let mut holders = held.iter().filter(|(_, r)| r.timestamp == latest);
+        holders.find(|h| fits(h)).copied()
+    };
+    // Who writes or replays goes on with it.
+    if let Some((at, r)) = find(|(_, r)| matches!(r.state, State::Write | State::Replay)) {
+        let event = match missing(held, at, r.acks).is_empty() {
+            true => Event::Validate,
+            false => Event::Resend,
+        };
+        return Some(Step { at, event });
+    }
+    // The save is finished; not all have heard of it.
+    if let Some((at, _)) = find(|(n, r)| r.state == State::Valid && r.writer == *n) {
+        let event = Event::Resend;
+        return Some(Step { at, event });
+    }
+    // Its last writer is not in the view, or would be one of those above.
+    let waits = find(|(_, r)| matches!(r.state, State::Invalid | State::InvalidWrite));
+    waits.map(|(at, _)| Step {
+        at,
+        event: Event::Replay,
+    })
+}
+
+/// The whole list, from the driver's event on.
+pub fn steps(held: &[Held], latest: Timestamp, first: Step) -> Vec<Step> {
+    let driver = first.at;
+    let of_driver = held.iter().find(|(n, _)| *n == driver);
+    let invs = match (first.event, of_driver) {
+        // It empties the acknowledgements.
+        (Event::Replay, _) => missing(held, driver, Members::default()),
+        (Event::Resend, Some((_, r))) if r.state != State::Valid => missing(held, driver, r.acks),
+        // A VAL left.
+        _ => Vec::new(),
+    };
+    let mut steps = vec![first];
+    let deliver = |at, left| Step {
+        at,
+        event: Event::Deliver { left },
+    };
+    steps.extend(invs.iter().map(|n| deliver(*n, 0)));
+    let acks = 1..1 + invs.len();
+    steps.extend(acks.map(|left| deliver(driver, left)));
+    // The VAL leaves with the last ACK, or left at once: in either case it is the
+    // last message so far.
+    let val = steps.len() - 1;
+    let shown = |r: &Record| r.state == State::Valid && r.timestamp == latest;
+    let waiting = held.iter().filter(|(n, r)| *n != driver && !shown(r));
+    steps.extend(waiting.map(|(n, _)| deliver(*n, val)));
+    steps
+}
+
+/// The other laptops that have not acknowledged.
+fn missing(held: &[Held], driver: u8, acks: Members) -> Vec<u8> {
+    let numbers = held.iter().map(|(n, _)| *n);
+    numbers
+        .filter(|n| *n != driver && !acks.contains(*n))
+        .collect()
+}

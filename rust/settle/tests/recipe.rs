@@ -1,0 +1,180 @@
+//! The list for each kind of driver, at three laptops of four.
+
+use cetskobi::{Laptop, Leaving, Members, Record, Refusal, State, Timestamp};
+use settle::{by_hand, by_packet, follow, held, most, recipe, Event, Halt, Step};
+
+const TEXT: &[u8] = b"Robin, wing 73";
+
+/// Laptops 0 to 3 with one record, all in the view.
+fn four() -> Vec<Laptop> {
+    let start = |n| Laptop::start(n, 0b1111, 1).expect("a fresh start");
+    (0..4).map(start).collect()
+}
+
+/// Laptop `n` saves.
+fn save(laptops: &mut [Laptop], n: usize) -> Leaving<'static> {
+    let inv = laptops[n].write(0, TEXT).expect("a save");
+    inv.into_owned()
+}
+
+/// A message comes to laptop `n`; what leaves.
+fn comes(laptops: &mut [Laptop], n: usize, message: &Leaving) -> Option<Leaving<'static>> {
+    by_hand(&mut laptops[n], message).expect("accepted")
+}
+
+/// One laptop is struck off; those that are left hear of it.
+fn strike(laptops: &mut Vec<Laptop>, off: u8) {
+    laptops.retain(|l| l.number() != off);
+    let view: Members = laptops.iter().map(Laptop::number).collect();
+    for laptop in laptops {
+        laptop.change_view(1, view).expect("a smaller view");
+    }
+}
+
+/// The list as one would write it down: `0 resends`, `1 takes 0`.
+fn list(laptops: &[Laptop]) -> Vec<String> {
+    let steps = recipe(&held(laptops, 0)).expect("somebody can begin");
+    let line = |Step { at, event }: &Step| match event {
+        Event::Validate => format!("{at} validates"),
+        Event::Resend => format!("{at} resends"),
+        Event::Replay => format!("{at} replays"),
+        Event::Deliver { left } => format!("{at} takes {left}"),
+    };
+    steps.iter().map(line).collect()
+}
+
+/// The list is this, and after it all show the text.
+fn settles(laptops: &[Laptop], lines: &[&str]) {
+    assert_eq!(list(laptops), lines);
+    let steps = recipe(&held(laptops, 0)).expect("somebody can begin");
+    assert!(steps.len() <= most(laptops.len()));
+    for carry in [by_hand, by_packet] {
+        let mut laptops = laptops.to_vec();
+        assert_eq!(follow(&steps, &mut laptops, 0, carry), Ok(()));
+        for laptop in &laptops {
+            assert_eq!(laptop.read(0), Ok(TEXT), "{laptop:?}");
+        }
+        assert!(list(&laptops).is_empty());
+    }
+}
+
+#[test]
+fn a_save_that_nobody_heard_of() {
+    let mut laptops = four();
+    let _lost = save(&mut laptops, 1);
+    strike(&mut laptops, 3);
+    let invs = ["1 resends", "0 takes 0", "2 takes 0"];
+    let acks = ["1 takes 1", "1 takes 2"];
+    // The VAL left with the last ACK.
+    let vals = ["0 takes 4", "2 takes 4"];
+    settles(&laptops, &[&invs[..], &acks, &vals].concat());
+}
+
+#[test]
+fn a_save_that_one_has_acknowledged() {
+    let mut laptops = four();
+    let inv = save(&mut laptops, 1);
+    let ack = comes(&mut laptops, 2, &inv).expect("an ACK");
+    comes(&mut laptops, 1, &ack);
+    strike(&mut laptops, 3);
+    let inv = ["1 resends", "0 takes 0", "1 takes 1"];
+    settles(&laptops, &[&inv[..], &["0 takes 2", "2 takes 2"]].concat());
+}
+
+#[test]
+fn a_save_that_waited_for_the_dead_alone() {
+    let mut laptops = four();
+    let inv = save(&mut laptops, 1);
+    for n in [0, 2] {
+        let ack = comes(&mut laptops, n, &inv).expect("an ACK");
+        comes(&mut laptops, 1, &ack);
+    }
+    strike(&mut laptops, 3);
+    settles(&laptops, &["1 validates", "0 takes 0", "2 takes 0"]);
+}
+
+/// Its VAL reached 2 alone.
+#[test]
+fn a_finished_save() {
+    let mut laptops = four();
+    let inv = save(&mut laptops, 1);
+    let mut val = None;
+    for n in [0, 2, 3] {
+        let ack = comes(&mut laptops, n, &inv).expect("an ACK");
+        val = comes(&mut laptops, 1, &ack);
+    }
+    comes(&mut laptops, 2, &val.expect("a VAL"));
+    strike(&mut laptops, 3);
+    settles(&laptops, &["1 resends", "0 takes 0"]);
+}
+
+/// 1 died; 2 and 3 have its save, and 0 has not.
+#[test]
+fn a_dead_laptops_save() {
+    let mut laptops = four();
+    let inv = save(&mut laptops, 1);
+    for n in [2, 3] {
+        comes(&mut laptops, n, &inv);
+    }
+    strike(&mut laptops, 1);
+    let invs = ["2 replays", "0 takes 0", "3 takes 0"];
+    let acks = ["2 takes 1", "2 takes 2"];
+    let vals = ["0 takes 4", "3 takes 4"];
+    settles(&laptops, &[&invs[..], &acks, &vals].concat());
+
+    // 3 has begun to replay it, and 0 has acknowledged: that goes on.
+    let inv = laptops[2].replay(0).expect("a replay").into_owned();
+    let ack = comes(&mut laptops, 0, &inv).expect("an ACK");
+    comes(&mut laptops, 2, &ack);
+    let inv = ["3 resends", "2 takes 0", "3 takes 1"];
+    settles(&laptops, &[&inv[..], &["0 takes 2", "2 takes 2"]].concat());
+}
+
+/// 2's save overtook that of 0, which 1 had acknowledged, and 2 died.
+#[test]
+fn an_overtaken_save() {
+    let mut laptops = four();
+    let lesser = save(&mut laptops, 0);
+    let inv = save(&mut laptops, 2);
+    comes(&mut laptops, 0, &inv);
+    // It does not count for the replay.
+    let ack = comes(&mut laptops, 1, &lesser).expect("an ACK");
+    comes(&mut laptops, 0, &ack);
+    strike(&mut laptops, 2);
+    let invs = ["0 replays", "1 takes 0", "3 takes 0"];
+    let acks = ["0 takes 1", "0 takes 2"];
+    let vals = ["1 takes 4", "3 takes 4"];
+    settles(&laptops, &[&invs[..], &acks, &vals].concat());
+}
+
+/// What no event leaves: the latest is valid where it is, its last writer is away,
+/// and 1 waits with an older one.
+#[test]
+fn nobody_can_begin() {
+    let record = |state, version| Record {
+        state,
+        timestamp: Timestamp { version, tie: 2 },
+        writer: 2,
+        written: Timestamp::default(),
+        acks: Members::default(),
+        len: 0,
+    };
+    let held = [(0, record(State::Valid, 2)), (1, record(State::Invalid, 1))];
+    assert_eq!(recipe(&held), None);
+}
+
+#[test]
+fn a_list_that_does_not_fit_comes_to_a_halt() {
+    let mut laptops = four();
+    let _lost = save(&mut laptops, 1);
+    let mut halts = |at, event| {
+        let steps = [Step { at, event }];
+        follow(&steps, &mut laptops, 0, by_hand).expect_err("a wrong list")
+    };
+    let refusal = Refusal::NotFinished;
+    let refused = Halt::Refused { step: 0, refusal };
+    assert_eq!(halts(1, Event::Validate), refused);
+    let nothing = Event::Deliver { left: 0 };
+    assert_eq!(halts(1, nothing), Halt::NoMessage { step: 0 });
+    assert_eq!(halts(4, Event::Resend), Halt::NoLaptop { step: 0 });
+}
