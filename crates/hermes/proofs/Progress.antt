@@ -3,7 +3,7 @@
 use Prim.Native.Nat.{ℕ, zero, suc, _+_, _≤_, _<_}
 use mathlib.Core.Path.{_≡_, refl, sym, ap, subst, _∙_}
 use mathlib.Core.Bool.{Bool, true, false, cond}
-use mathlib.Core.Logic.{_≢_}
+use mathlib.Core.Logic.{_⊎_, inl, inr, ⊎-map, _≢_}
 use mathlib.Core.List.{List, [], _∷_, _++_}
 use native.Mathlib.Omega.{arith}
 use native.Mathlib.Decide.{ℕ-discrete}
@@ -47,6 +47,13 @@ find-old (y ∷ xs) ys (suc k) x e = find-old xs ys k x e
 find-new : (xs : List Logged) (x : Logged) → find (xs ++ (x ∷ [])) (length xs) ≡ found x
 find-new [] x = refl
 find-new (y ∷ xs) x = find-new xs x
+
+-- what is found was there before, or is the new one
+find-either : (xs : List Logged) (y : Logged) (k : ℕ) (x : Logged) → find (xs ++ (y ∷ [])) k ≡ found x → (find xs k ≡ found x) ⊎ (y ≡ x)
+find-either [] y zero x e = inr cc
+find-either [] y (suc k) x e = let z : _≡_ {A = ℕ} 0 1 = cc in absurd (omega arith)
+find-either (z ∷ xs) y zero x e = inl e
+find-either (z ∷ xs) y (suc k) x e = find-either xs y k x e
 
 -- a value that leaves fits
 value-short : (i n : ℕ) (store : List ℕ) → n ≤ 192 → length (valueAt i n store) ≤ 192
@@ -115,6 +122,7 @@ pub record Did (T : Task) (g : Group) (a : Entry) (s : Step) : Type 0 where
   pub keeps : (k sender : ℕ) (m : Message) → Post T (g .log) k sender m → Post T (advance (T .wins) g a .log) k sender m
   pub left : (m : Message) → s .sent ≡ Sent m (record { sender = a .who; epoch = T .e; index = T .i }) → stampOf m .tie ≤ 15 → Post T (advance (T .wins) g a .log) (length (g .log)) (a .who) m
   pub longer : (m : Message) (h : Header) → s .sent ≡ Sent m h → length (advance (T .wins) g a .log) ≡ suc (length (g .log))
+  pub before : (k : ℕ) (x : Logged) → find (advance (T .wins) g a .log) k ≡ found x → (find (g .log) k ≡ found x) ⊎ (s .sent ≡ Sent (x .message) (x .header))
   pub silent : s .sent ≡ None → length (advance (T .wins) g a .log) ≡ length (g .log)
 
 identity : (T : Task) (m : ℕ) (n : Node) → Live T m n → n .me ≡ self T m
@@ -191,6 +199,10 @@ module _ (T : Task) (inside : T .i < T .count) (g : Group) (all : Alive T g) (m 
     shape = shaped p _ t (value-short i (recordOf i after .len) (after .store) (sound-passed (after .me) (recordOf i after) (rw at-m at (live-after m h .sound .fifth i inside)) .short));
   }
 
+  earlier : (o : Outgoing) (log : List Logged) → log ≡ logged (g .log) after o → (k : ℕ) (x : Logged) → find log k ≡ found x → (find (g .log) k ≡ found x) ⊎ (o ≡ Sent (x .message) (x .header))
+  earlier None log q k x f = inl (rw q at f)
+  earlier (Sent p d) log q k x f = ⊎-map (λ z. z) (λ z. ap (λ (y : Logged). Sent (y .message) (y .header)) z) (find-either (g .log) _ k x (rw q at f))
+
   pub did : Did T g a s
   did = record {
     accepted = rw what-it-is;
@@ -199,6 +211,7 @@ module _ (T : Task) (inside : T .i < T .count) (g : Group) (all : Alive T g) (m 
     others = λ u d. rw (at-other wins g a u d);
     keeps = keep (s .sent) (advance wins g a .log) log-is;
     left = post;
+    before = earlier (s .sent) (advance wins g a .log) log-is;
     longer = λ p d q. rw (log-is, q, length-append) (omega arith);
     silent = λ q. rw (log-is, q);
   }
