@@ -28,9 +28,9 @@
 #include <stddef.h>
 #include <stdint.h>
 
-#define CETSKOBI_VERSION "0.4.0"
+#define CETSKOBI_VERSION "0.5.0"
 #define CETSKOBI_VERSION_MAJOR 0
-#define CETSKOBI_VERSION_MINOR 4
+#define CETSKOBI_VERSION_MINOR 5
 #define CETSKOBI_VERSION_PATCH 0
 
 /* Bytes of stack that are enough for a call. */

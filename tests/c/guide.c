@@ -391,29 +391,62 @@ static size_t overtaken_by_five(const struct hut *h) {
     return count;
 }
 
+/* A tick of those awake, over the poor link. Until tick 1,900 they save, from 1,890 on the same rings. */
+static void a_tick(int now, size_t awake) {
+    struct hut *huts[] = {&one, &two, &five};
+    poor_link(awake);
+    for (size_t k = 0; k < awake; k++) {
+        int together = now >= 1890;
+        size_t i = (together ? (size_t)now : (size_t)now / 12 + 5 * k) % 30, len;
+        struct stamp seen, saved;
+        const int text[] = {now, huts[k]->me.number};
+        if (now < 1900 && (together || (size_t)now % 12 == 4 * k) && open_ring(huts[k], i, &len, &seen) == 0)
+            CHECK(save(huts[k], i, seen, (const uint8_t *)text, sizeof text, &saved) == 0);
+        tick(huts[k]);
+    }
+}
+
+/* Record i is valid at 1 and 2, with one stamp. */
+static int settled(size_t i) {
+    const struct cetskobi_record *r = &one.table[i], *s = &two.table[i];
+    return r->version > 0 && r->state == CETSKOBI_VALID && s->state == CETSKOBI_VALID && r->version == s->version && r->tie == s->tie;
+}
+
 /* 5 dies amid saves of the same rings by all three. */
 static void ticks_alone_settle_every_record(void) {
     fresh();
-    struct hut *huts[] = {&one, &two, &five};
     for (int now = 0; now < 6000; now++) {
         if (now == 2000) CHECK(overtaken_by_five(&one) > 0 && view_came(&one, 1, SET_1 | SET_2) == 0);
         if (now == 2100) CHECK(overtaken_by_five(&two) > 0 && view_came(&two, 1, SET_1 | SET_2) == 0);
-        size_t awake = now < 1900 ? 3 : 2;
-        poor_link(awake);
-        for (size_t k = 0; k < awake; k++) {
-            int together = now >= 1890;
-            size_t i = (together ? (size_t)now : (size_t)now / 12 + 5 * k) % 30, len;
-            struct stamp seen, saved;
-            const int text[] = {now, huts[k]->me.number};
-            if (now < 1900 && (together || (size_t)now % 12 == 4 * k) && open_ring(huts[k], i, &len, &seen) == 0)
-                CHECK(save(huts[k], i, seen, (const uint8_t *)text, sizeof text, &saved) == 0);
-            tick(huts[k]);
-        }
+        a_tick(now, now < 1900 ? 3 : 2);
     }
-    for (size_t i = 0; i < 30; i++) {
-        const struct cetskobi_record *r = &one.table[i], *s = &two.table[i];
-        CHECK(r->version > 0 && r->state == CETSKOBI_VALID && s->state == CETSKOBI_VALID && r->version == s->version && r->tie == s->tie);
+    for (size_t i = 0; i < 30; i++) CHECK(settled(i));
+    CHECK(memcmp(one.store, two.store, sizeof one.store) == 0);
+}
+
+/* The same, but the morning breaks off there, and what is in the air is lost. 1 and 2 take the view and try nothing at first. Then each goes
+ * over once, and no packet is lost any more. */
+static void going_over_once_settles_every_record(void) {
+    fresh();
+    for (int now = 0; now < 1900; now++) a_tick(now, 3);
+    in_air = 0;
+    struct hut *huts[] = {&one, &two};
+    for (size_t k = 0; k < 2; k++) {
+        struct cetskobi_admission a = cetskobi_view(huts[k]->me, 1, SET_1 | SET_2);
+        CHECK(a.number == 0);
+        huts[k]->me = a.replica;
     }
+    size_t open = 0;
+    for (size_t i = 0; i < 30; i++) open += !settled(i);
+    CHECK(open > 0);
+    for (size_t k = 0; k < 2; k++) go_over(huts[k]);
+    while (in_air > 0) {
+        struct packet p = air[0];
+        memmove(air, air + 1, --in_air * sizeof *air);
+        for (size_t k = 0; k < 2; k++)
+            if (p.to >> huts[k]->me.number & 1) came(huts[k], p);
+    }
+    for (size_t i = 0; i < 30; i++) CHECK(settled(i));
     CHECK(memcmp(one.store, two.store, sizeof one.store) == 0);
 }
 
@@ -427,5 +460,6 @@ int main(void) {
     waits();
     packets_are_shared();
     ticks_alone_settle_every_record();
+    going_over_once_settles_every_record();
     return failed;
 }
