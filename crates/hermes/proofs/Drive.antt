@@ -28,7 +28,6 @@ use Rattle.hermes.specs.Recipe.{each, underWay, isValid, other, due}
 use Rattle.hermes_record.proofs.Tests.{both, and-both, is-false}
 use Rattle.hermes.proofs.Members.{Has, has-small, others-members, members-others, with-members, members-with}
 use Rattle.hermes_record.proofs.Order.{equal-same, notAfter-antisym, notAfter-total, later-apart}
-use Rattle.hermes.proofs.Words.{is-state, state-is}
 use Rattle.hermes.proofs.Progress.{Task, self, Post, incoming, stepBy, Alive, Did, did, delivers, Plays, none, one, next, for-each}
 
 -- ---- the others of the view

@@ -5,7 +5,7 @@ use Prim.Native.Nat.{ℕ, zero, suc, _+_, _*_, _≤_, _<_}
 use mathlib.Core.Path.{_≡_, refl, sym, ap, subst, _∙_}
 use mathlib.Core.Bool.{Bool, true, false, cond, not, _&&_, _||_, false≢true}
 use mathlib.Core.Logic.{_⊎_, inl, inr, _≢_}
-use mathlib.Core.List.{List, [], _∷_, _++_}
+use mathlib.Core.List.{List, [], _∷_}
 use native.Mathlib.Omega.{arith}
 use native.Mathlib.Decide.{ℕ-discrete}
 use lib.Dec.{leb, eqb}
@@ -18,7 +18,7 @@ use Rattle.hermes_record.specs.declared.record.State.the-variants as state
 use Rattle.hermes.specs.declared.message.Message.the-variants.{Inv, Val}
 use Rattle.hermes.specs.declared.event.Replica.{Replica}
 use Rattle.hermes.specs.declared.event.Event.the-variants.{Replay, Validate, Resend}
-use Rattle.hermes_record.specs.Members.{has, allBelow, countBelow, size, othersIn}
+use Rattle.hermes_record.specs.Members.{has, countBelow, size, othersIn}
 use Rattle.hermes_record.specs.Order.{TieOrder, later, NotAfter, equal, rises}
 use Rattle.hermes_record.specs.Record.{oneOf}
 use Rattle.hermes.specs.Event.{Step, resent, send}
@@ -26,8 +26,8 @@ use Rattle.hermes.specs.Node.{recordOf}
 use Rattle.hermes.specs.Run as run
 use Rattle.hermes.specs.Run.{Action, Entry, by, Group, advance}
 use Rattle.hermes.specs.Settling.{Helps}
-use Rattle.hermes.specs.Recipe.{Choice, nobody, laptop, orElse, first, each, underWay, isValid, isInvalid, other, due, leads, allShow, driver, late, tell, ask, finish, drive, driven, recipe}
-use Rattle.hermes_record.proofs.Tests.{both, and-both, is-false, implied, implies}
+use Rattle.hermes.specs.Recipe.{Choice, nobody, laptop, orElse, first, each, underWay, isValid, isInvalid, other, due, leads, allShow, goesOn, saysAgain, takesOver, driver, late, tell, ask, finish, drive, driven, recipe}
+use Rattle.hermes_record.proofs.Tests.{both, and-both, is-false, implied}
 use Rattle.hermes.proofs.Members.{Has, has-small, has-zero, all-at, all-of, others-members}
 use Rattle.hermes_record.proofs.Order.{notAfter-refl, notAfter-trans, notAfter-antisym, notAfter-total, not-later}
 use Rattle.hermes.proofs.Words.{is-state, state-is, Two, count-le, count-without, size-two}
@@ -94,7 +94,7 @@ module _ (wins : ℕ → ℕ → Bool) (set i : ℕ) (g : Group) (d : ℕ) where
 -- ---- how many
 
 module _ (wins : ℕ → ℕ → Bool) (set i : ℕ) (g : Group) (d : ℕ) (hd : Has set d) where
-  others-size : countBelow 16 (other set d) + 1 ≡ size set
+  pub others-size : countBelow 16 (other set d) + 1 ≡ size set
   unfolding size
   others-size = count-without 16 d (has set) (has-small set d hd) hd
 
@@ -340,17 +340,8 @@ module _ (T : Task) (inside : T .i < T .count) (ord : TieOrder (T .wins)) (g : G
           two = subst (λ (x : ℕ). leb 2 (size x) ≡ true) (o .alive .live d hd .view) (both (leb (g .at d .me .number) 15) (leb 2 (size (g .at d .me .view))) (o .alive .live d hd .sound .first) .1)
 
     -- ---- there is a driver, or all is done
-    abbrev isWorking : ℕ → Bool
-    isWorking u = leads wins set i g u && underWay (r u)
-
-    abbrev isWriter : ℕ → Bool
-    isWriter u = leads wins set i g u && (isValid (r u) && eqb (r u .writer) u)
-
-    abbrev isWaiting : ℕ → Bool
-    isWaiting u = leads wins set i g u && isInvalid (r u)
-
     -- nobody who leads has a save or replay under way, or is valid and its own last writer: so the last writer of who leads is not in the view
-    gone : ((u : ℕ) → u < 16 → isWorking u ≡ false) → ((u : ℕ) → u < 16 → isWriter u ≡ false) → (d : ℕ) → Has set d → r d .timestamp ≡ M → has set (r d .writer) ≡ false
+    gone : ((u : ℕ) → u < 16 → goesOn wins set i g u ≡ false) → ((u : ℕ) → u < 16 → saysAgain wins set i g u ≡ false) → (d : ℕ) → Has set d → r d .timestamp ≡ M → has set (r d .writer) ≡ false
     gone a b d hd t = is-false (has set (r d .writer)) (λ h. never h (o .writers d (r d .writer) hd h refl))
       where
         w : ℕ
@@ -373,7 +364,7 @@ module _ (T : Task) (inside : T .i < T .count) (ord : TieOrder (T .wins)) (g : G
     by-recipe = go (allShow wins set i g) refl
       where
         -- none of the three: all who lead show the record valid, so all hold M
-        rest : ((u : ℕ) → u < 16 → isWorking u ≡ false) → ((u : ℕ) → u < 16 → isWaiting u ≡ false) → (u : ℕ) → Has set u → r u .state ≡ state.Valid
+        rest : ((u : ℕ) → u < 16 → goesOn wins set i g u ≡ false) → ((u : ℕ) → u < 16 → takesOver wins set i g u ≡ false) → (u : ℕ) → Has set u → r u .state ≡ state.Valid
         rest a c u h = shows u h (all u h)
           where
             shows : (v : ℕ) → Has set v → r v .timestamp ≡ M → r v .state ≡ state.Valid
@@ -383,18 +374,18 @@ module _ (T : Task) (inside : T .i < T .count) (ord : TieOrder (T .wins)) (g : G
             all : (v : ℕ) → Has set v → r v .timestamp ≡ M
             all v k = at-most v k (subst (λ (t : Timestamp). NotAfter wins t (r v .timestamp)) held (o .settled holder v hh k (state-is _ state.Valid (shows holder hh held))))
 
-        third : ((u : ℕ) → u < 16 → isWorking u ≡ false) → ((u : ℕ) → u < 16 → isWriter u ≡ false) → (c : Choice) → Picked 16 isWaiting c → Wins (driven wins set i g c)
+        third : ((u : ℕ) → u < 16 → goesOn wins set i g u ≡ false) → ((u : ℕ) → u < 16 → saysAgain wins set i g u ≡ false) → (c : Choice) → Picked 16 (takesOver wins set i g) c → Wins (driven wins set i g c)
         third a b c (some d h e) = rw e (let (p, q) = both (leads wins set i g d) (isInvalid (r d)) h in let (k, t) = leads-yes d p in waiting d k t q (gone a b d k t))
         third a b c (none-of f e) = rw e (all-hold (rest a f))
 
-        second : ((u : ℕ) → u < 16 → isWorking u ≡ false) → (c : Choice) → Picked 16 isWriter c → Wins (driven wins set i g (orElse c (first 16 isWaiting)))
+        second : ((u : ℕ) → u < 16 → goesOn wins set i g u ≡ false) → (c : Choice) → Picked 16 (saysAgain wins set i g) c → Wins (driven wins set i g (orElse c (first 16 (takesOver wins set i g))))
         second a c (some d h e) = rw e (let (p, q) = both (leads wins set i g d) _ h in let (k, t) = leads-yes d p in let (v, w) = both (isValid (r d)) (eqb (r d .writer) d) q in writer d k t v (eqb-true _ _ w))
-        second a c (none-of f e) = rw e (third a f (first 16 isWaiting) (picked 16 isWaiting))
+        second a c (none-of f e) = rw e (third a f (first 16 (takesOver wins set i g)) (picked 16 (takesOver wins set i g)))
 
-        start : (c : Choice) → Picked 16 isWorking c → Wins (driven wins set i g (orElse c (orElse (first 16 isWriter) (first 16 isWaiting))))
+        start : (c : Choice) → Picked 16 (goesOn wins set i g) c → Wins (driven wins set i g (orElse c (orElse (first 16 (saysAgain wins set i g)) (first 16 (takesOver wins set i g)))))
         start c (some d h e) = rw e (let (p, q) = both (leads wins set i g d) (underWay (r d)) h in let (k, t) = leads-yes d p in working d k t q)
-        start c (none-of f e) = rw e (second f (first 16 isWriter) (picked 16 isWriter))
+        start c (none-of f e) = rw e (second f (first 16 (saysAgain wins set i g)) (picked 16 (saysAgain wins set i g)))
 
         go : (b : Bool) → allShow wins set i g ≡ b → Wins (cond b [] (driven wins set i g (driver wins set i g)))
         go true q = all-hold (λ u h. is-state (r u .state) state.Valid (implied (has set u) (isValid (r u)) (all-at 16 (λ (x : ℕ). not (has set x) || isValid (r x)) q u (has-small set u h)) h))
-        go false q = start (first 16 isWorking) (picked 16 isWorking)
+        go false q = start (first 16 (goesOn wins set i g)) (picked 16 (goesOn wins set i g))

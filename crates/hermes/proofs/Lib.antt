@@ -20,6 +20,9 @@ pub mod Progress
 pub mod Drive
 pub mod Driver
 pub mod Settling
+pub mod Missing
+pub mod Mending
+pub mod Tight
 pub mod SecondReading
 pub mod SecondPremises
 pub mod Premises

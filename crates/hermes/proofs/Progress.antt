@@ -125,7 +125,7 @@ pub record Did (T : Task) (g : Group) (a : Entry) (s : Step) : Type 0 where
   pub before : (k : ℕ) (x : Logged) → find (advance (T .wins) g a .log) k ≡ found x → (find (g .log) k ≡ found x) ⊎ (s .sent ≡ Sent (x .message) (x .header))
   pub silent : s .sent ≡ None → length (advance (T .wins) g a .log) ≡ length (g .log)
 
-identity : (T : Task) (m : ℕ) (n : Node) → Live T m n → n .me ≡ self T m
+pub identity : (T : Task) (m : ℕ) (n : Node) → Live T m n → n .me ≡ self T m
 identity T m n l = λ t. record { number = l .sound .number t; epoch = l .epoch t; view = l .view t }
 
 -- an event of replica m whose own questions say yes

@@ -12,7 +12,7 @@ use Rattle.hermes_record.specs.Order.{TieOrder, higher, later, NotAfter}
 use Rattle.hermes.specs.Node.{recordOf}
 use Rattle.hermes.specs.Run as run
 use Rattle.hermes.specs.Run.{Action, Entry, Group, Logged, advance, run}
-use Rattle.hermes.specs.Agreement.{AsIssued, Entries, Alike}
+use Rattle.hermes.specs.Agreement.{AsIssued, Entries}
 use Rattle.hermes.specs.Reads.{Sound}
 use Rattle.hermes.specs.Settling.{Helps, AllHelp, Settled, Gathered, SettlingAny, Settling}
 use Rattle.hermes.specs.Recipe.{recipe, RecipeSettles}
@@ -90,7 +90,7 @@ module _ (wins : ℕ → ℕ → Bool) (ord : TieOrder wins) (member : ℕ → B
   -- m is somebody in the view
   settles : (m : ℕ) → Has set m → Settled wins set i g (recipe wins set i g)
   settles m hm = record {
-    few = w .few;
+    few = omega (arith, w .few);
     help = w .plays .help;
     holder = t .who;
     held = t .seen;

@@ -1,11 +1,11 @@
 -- The premises of settling can be met, and the recipe computes.
-use Prim.Native.Nat.{ℕ, zero, suc}
+use Prim.Native.Nat.{ℕ, zero, suc, _+_, _*_, _≤_}
 use mathlib.Core.Path.{_≡_, refl, subst}
 use mathlib.Core.Bool.{Bool, true, not, _||_, false≢true}
 use mathlib.Core.Logic.{_⊎_, inl, inr}
 use mathlib.Core.List.{List, [], _∷_, List·Memᴰ, List·Memᴰ·cases-cons, List·Memᴰ·not-nil}
 use native.Mathlib.Omega.{arith}
-use lib.ListN.{take, drop}
+use lib.ListN.{length, take, drop}
 use borrow.Author.Tests.{ltb-true}
 use Rattle.hermes_record.specs.Members.{has, size, lowest, within, othersIn, with}
 use Rattle.hermes_record.specs.Order.{higher, later, sameTimestamp}
@@ -13,8 +13,8 @@ use Rattle.hermes.specs.Store.{padded, place}
 use Rattle.hermes.specs.Event.{refusal, effect}
 use Rattle.hermes.specs.Node.{start, apply, view, viewed, valueOf}
 use Rattle.hermes.specs.Run as run
-use Rattle.hermes.specs.Run.{Action, Entry, Group, Logged, result, advance, run}
-use Rattle.hermes.specs.Agreement.{Entries, after}
+use Rattle.hermes.specs.Run.{Action, Entry, Group, Logged, result, advance, run, by}
+use Rattle.hermes.specs.Agreement.{Entries, Shows, IsAccepted, after}
 use Rattle.hermes.specs.Settling.{Helps, Gathered, AllHelp, Settled}
 use Rattle.hermes.specs.Recipe.{first, each, leads, allShow, driver, recipe}
 use Rattle.hermes.specs.Played.{three, issued, group, story}
@@ -24,6 +24,7 @@ use Rattle.hermes_record.proofs.Tests.{implied}
 use Rattle.hermes.proofs.Members.{all-at, has-small}
 use Rattle.hermes.proofs.Agreement.{entries-append}
 use Rattle.hermes.proofs.Settling.{recipe-settles}
+use Rattle.hermes.proofs.Tight.{tight}
 use Rattle.hermes.proofs.Premises.{started, story-entries}
 
 -- what holds of 0, 1 and 2 holds of everybody in a view of these
@@ -115,6 +116,24 @@ unfolding has
 zero-in zero = refl
 zero-in (suc e) = refl
 
+-- the group as it has started, and its first save
+started-here : Gathered three issued 0 group
+started-here = in-view (λ m. (three m ≡ true) × (group .at m .me .epoch ≡ 0)) 0 (refl, refl) (refl, refl) (λ h. (refl, refl))
+
+accepted : IsAccepted (result higher group (by 0 (run.write 0 (65 ∷ 48 ∷ []))))
+unfolding result advance apply effect refusal start has size lowest within othersIn with padded place later sameTimestamp view viewed
+accepted = refl
+
+no-fewer : (entries : List Entry) → AllHelp higher (issued 0) 0 (length (run higher group lostSave .log)) (run higher group lostSave) entries
+    → ((m : ℕ) → has (issued 0) m ≡ true → Shows (after higher (run higher group lostSave) entries m) 0) → length lostSaveRecipe ≤ length entries
+no-fewer entries h shown = count (tight higher higher-order three 1 issued group started started-here 0 0 (65 ∷ 48 ∷ []) (omega arith) (zero-in 0) accepted entries h shown) nine
+  where
+    nine : 3 * size (issued 0) ≡ 9
+    nine = unfold size has in refl
+
+    count : {a n : ℕ} → a ≤ n + 2 → a ≡ 9 → 7 ≤ n
+    count l e = omega (arith, l, e)
+
 -- the theorem at a list that is computed
 brings : {before : List Entry} {e : ℕ} {list : List Entry} {text : List ℕ} → Entries three issued before → Computed before e list text → Brings before e list text
 brings {before} {e} {list} c x = record {
@@ -132,6 +151,7 @@ settling-witness = record {
   fresh = brings tt fresh;
   reachedByTwo = unfold size has in refl;
   reachedByThree = unfold size has in refl;
+  noFewer = no-fewer;
   met = (met, recipe-settles higher higher-order three 1 issued group started (take 36 story) (entries-append three issued (take 36 story) (drop 36 story) story-entries .0) 0 1 0 (omega arith) (zero-in 1) met);
   only = only-these;
 }

@@ -138,6 +138,27 @@ count-above : (k d : ℕ) (p : ℕ → Bool) → k ≤ d → countBelow k (λ m.
 count-above zero d p l = refl
 count-above (suc k) d p l = rw (ne-eqb k d (omega arith), and-true (p k), count-above k d p (omega arith))
 
+pub count-same : (k : ℕ) (p q : ℕ → Bool) → ((m : ℕ) → m < k → p m ≡ q m) → countBelow k p ≡ countBelow k q
+count-same zero p q h = refl
+count-same (suc k) p q h = rw (h k (omega arith), count-same k p q (λ m l. h m (omega arith)))
+
+pub count-none : (k : ℕ) (p : ℕ → Bool) → ((m : ℕ) → p m ≡ false) → countBelow k p ≡ 0
+count-none zero p h = refl
+count-none (suc k) p h = rw (h k, count-none k p h)
+
+-- tests that differ in one place
+pub count-near : (k w : ℕ) (p q : ℕ → Bool) → ((m : ℕ) → m ≢ w → p m ≡ q m) → countBelow k p ≤ countBelow k q + 1
+count-near zero w p q h = omega arith
+count-near (suc k) w p q h = go (ℕ-discrete k w) (count-near k w p q h)
+  where
+    at-most-one : (b : Bool) → cond b 1 0 ≤ 1
+    at-most-one true = omega arith
+    at-most-one false = omega arith
+
+    go : Dec (k ≡ w) → countBelow k p ≤ countBelow k q + 1 → cond (p k) 1 0 + countBelow k p ≤ cond (q k) 1 0 + countBelow k q + 1
+    go (yes e) l = rw (count-same k p q (λ m b. h m (λ z. omega (arith, z, e)))) (omega (arith, at-most-one (p k)))
+    go (no d) l = rw (h k d) (omega (arith, l))
+
 pub count-without : (k d : ℕ) (p : ℕ → Bool) → d < k → p d ≡ true → countBelow k (λ m. p m && not (eqb m d)) + 1 ≡ countBelow k p
 count-without zero d p l h = absurd (omega arith)
 count-without (suc k) d p l h = go (ℕ-discrete d k) (λ (t : d < k). count-without k d p t h)

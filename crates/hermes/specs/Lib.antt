@@ -17,6 +17,7 @@ pub mod Overtaken
 pub mod Reads
 pub mod Settling
 pub mod Recipe
+pub mod Tight
 pub mod Played
 pub mod Witness
 pub mod SecondWitness

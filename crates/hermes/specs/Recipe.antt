@@ -73,11 +73,20 @@ module _ (wins : ℕ → ℕ → Bool) (set i : ℕ) (g : Group) where
   unfoldable pub allShow : Bool
   allShow = allBelow 16 (λ u. not (has set u) || isValid (at u))
 
-  -- of those that lead, the lowest number with a save or replay under way; or else one that shows the record valid and is its last writer; or
-  -- else one that is invalid: the last writer is not in the view then
+  -- three ways to drive, for those that lead: a save or replay is under way, and goes on; the record is valid, and its last writer says so again; it is
+  -- invalid, and is taken over
+  abbrev pub goesOn : ℕ → Bool
+  goesOn u = leads u && underWay (at u)
+
+  abbrev pub saysAgain : ℕ → Bool
+  saysAgain u = leads u && (isValid (at u) && eqb (at u .writer) u)
+
+  abbrev pub takesOver : ℕ → Bool
+  takesOver u = leads u && isInvalid (at u)
+
+  -- in that order: who takes over has then a last writer that is not in the view
   unfoldable pub driver : Choice
-  driver = orElse (first 16 (λ u. leads u && underWay (at u)))
-      (orElse (first 16 (λ u. leads u && (isValid (at u) && eqb (at u .writer) u))) (first 16 (λ u. leads u && isInvalid (at u))))
+  driver = orElse (first 16 goesOn) (orElse (first 16 saysAgain) (first 16 takesOver))
 
   module _ (d : ℕ) where
     -- those that do not show the greatest timestamp
