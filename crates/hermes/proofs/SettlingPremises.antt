@@ -1,6 +1,6 @@
 -- The premises of settling can be met, and the recipe computes.
 use Prim.Native.Nat.{ℕ, zero, suc, _+_, _*_, _≤_}
-use mathlib.Core.Path.{_≡_, refl, subst}
+use mathlib.Core.Path.{_≡_, refl, ap, subst}
 use mathlib.Core.Bool.{Bool, true, not, _||_, false≢true}
 use mathlib.Core.Logic.{_⊎_, inl, inr}
 use mathlib.Core.List.{List, [], _∷_, List·Memᴰ, List·Memᴰ·cases-cons, List·Memᴰ·not-nil}
@@ -8,13 +8,14 @@ use native.Mathlib.Omega.{arith}
 use lib.ListN.{length, take, drop}
 use borrow.Author.Tests.{ltb-true}
 use Rattle.hermes_record.specs.Members.{has, size, lowest, within, othersIn, with}
-use Rattle.hermes_record.specs.Order.{higher, later, sameTimestamp}
+use Rattle.hermes_record.specs.declared.timestamp.Timestamp.{Timestamp}
+use Rattle.hermes_record.specs.Order.{higher, later, sameTimestamp, NotAfter, equal, rises}
 use Rattle.hermes.specs.Store.{padded, place}
 use Rattle.hermes.specs.Event.{refusal, effect}
-use Rattle.hermes.specs.Node.{start, apply, view, viewed, valueOf}
+use Rattle.hermes.specs.Node.{start, apply, view, viewed, recordOf, valueOf}
 use Rattle.hermes.specs.Run as run
 use Rattle.hermes.specs.Run.{Action, Entry, Group, Logged, result, advance, run, by}
-use Rattle.hermes.specs.Agreement.{Entries, Shows, IsAccepted, after}
+use Rattle.hermes.specs.Agreement.{Entries, Shows, Alike, IsAccepted, after}
 use Rattle.hermes.specs.Settling.{Helps, Gathered, AllHelp, Settled}
 use Rattle.hermes.specs.Recipe.{first, each, leads, allShow, driver, recipe}
 use Rattle.hermes.specs.Played.{three, issued, group, story}
@@ -124,15 +125,33 @@ accepted : IsAccepted (result higher group (by 0 (run.write 0 (65 ∷ 48 ∷ [])
 unfolding result advance apply effect refusal start has size lowest within othersIn with padded place later sameTimestamp view viewed
 accepted = refl
 
+nine : 3 * size (issued 0) ≡ 9
+nine = unfold size has in refl
+
 no-fewer : (entries : List Entry) → AllHelp higher (issued 0) 0 (length (run higher group lostSave .log)) (run higher group lostSave) entries
     → ((m : ℕ) → has (issued 0) m ≡ true → Shows (after higher (run higher group lostSave) entries m) 0) → length lostSaveRecipe ≤ length entries
 no-fewer entries h shown = count (tight higher higher-order three 1 issued group started started-here 0 0 (65 ∷ 48 ∷ []) (omega arith) (zero-in 0) accepted entries h shown) nine
   where
-    nine : 3 * size (issued 0) ≡ 9
-    nine = unfold size has in refl
-
     count : {a n : ℕ} → a ≤ n + 2 → a ≡ 9 → 7 ≤ n
     count l e = omega (arith, l, e)
+
+-- 0 alone holds the greatest timestamp
+only-zero : (h : ℕ) → has (issued 0) h ≡ true
+    → ((m : ℕ) → has (issued 0) m ≡ true → NotAfter higher (recordOf 0 (run higher group lostSave .at m) .timestamp) (recordOf 0 (run higher group lostSave .at h) .timestamp)) → h ≡ 0
+unfolding result advance apply effect refusal start has size lowest within othersIn with padded place later sameTimestamp view viewed
+only-zero = in-view (λ h. ((m : ℕ) → has (issued 0) m ≡ true → NotAfter higher (recordOf 0 (run higher group lostSave .at m) .timestamp) (recordOf 0 (run higher group lostSave .at h) .timestamp)) → h ≡ 0) 0
+    (λ f. refl) (λ f. absurd (behind (f 0 refl))) (λ h f. absurd (behind (f 0 refl)))
+  where
+    behind : NotAfter higher (record { version = 1; tie = 0 }) (record { version = 0; tie = 0 }) → ⊥
+    behind (equal e) = omega (arith, ap (λ (t : Timestamp). t .version) e)
+    behind (rises g) = false≢true g
+
+claims : (entries : List Entry) → Settled higher (issued 0) 0 (run higher group lostSave) entries → (length entries ≡ length lostSaveRecipe)
+    × ((m : ℕ) → has (issued 0) m ≡ true → Shows (after higher (run higher group lostSave) entries m) 0 × Alike 0 (after higher (run higher group lostSave) entries m) (run higher group lostSave .at 0))
+claims entries s = (count (s .few) (no-fewer entries (s .help) (λ m h. s .shown m h .0)) nine, λ m h. (s .shown m h .0, subst (λ (x : ℕ). Alike 0 (after higher (run higher group lostSave) entries m) (run higher group lostSave .at x)) (only-zero (s .holder) (s .held) (s .greatest)) (s .shown m h .1)))
+  where
+    count : {n k : ℕ} → n + 2 ≤ k → 7 ≤ n → k ≡ 9 → n ≡ 7
+    count a b c = omega (arith, a, b, c)
 
 -- the theorem at a list that is computed
 brings : {before : List Entry} {e : ℕ} {list : List Entry} {text : List ℕ} → Entries three issued before → Computed before e list text → Brings before e list text
@@ -152,6 +171,7 @@ settling-witness = record {
   reachedByTwo = unfold size has in refl;
   reachedByThree = unfold size has in refl;
   noFewer = no-fewer;
+  claims = claims;
   met = (met, recipe-settles higher higher-order three 1 issued group started (take 36 story) (entries-append three issued (take 36 story) (drop 36 story) story-entries .0) 0 1 0 (omega arith) (zero-in 1) met);
   only = only-these;
 }
