@@ -66,45 +66,37 @@ only-these wins set i old g (x ∷ rest) (h, k, c, p) a m = go (List·Memᴰ·ca
 
 -- ---- the cases
 
+-- laptop m is at epoch e, and after the list it shows that text
+abbrev Ends : (before : List Entry) (e : ℕ) (list : List Entry) (text : List ℕ) → ℕ → Type 0
+Ends before e list text m =
+    (run higher group before .at m .me .epoch ≡ e) × Shows (after higher (run higher group before) list m) 0 × (valueOf 0 (after higher (run higher group before) list m) ≡ text)
+
+computed : (before : List Entry) (e : ℕ) (list : List Entry) (text : List ℕ) → recipe higher (issued e) 0 (run higher group before) ≡ list
+    → Ends before e list text 0 → Ends before e list text 1 → (has (issued e) 2 ≡ true → Ends before e list text 2) → Computed before e list text
+computed before e list text g a b c = record { gathered = λ m h. (view-in-three e m h, ends m h .0); gives = g; shown = λ m h. (ends m h .1, ends m h .2) }
+  where
+    ends : (m : ℕ) → has (issued e) m ≡ true → Ends before e list text m
+    ends = in-view (Ends before e list text) e a b c
+
 lost : Computed lostVal 0 lostValRecipe (66 ∷ 50 ∷ [])
 unfolding result advance apply effect refusal start has size lowest within othersIn with padded place later sameTimestamp view viewed first each leads allShow driver recipe
-lost = record {
-  gathered = in-view (λ m. (three m ≡ true) × (run higher group lostVal .at m .me .epoch ≡ 0)) 0 (refl, refl) (refl, refl) (λ h. (refl, refl));
-  gives = refl;
-  shown = in-view (λ m. valueOf 0 (after higher (run higher group lostVal) lostValRecipe m) ≡ (66 ∷ 50 ∷ [])) 0 refl refl (λ h. refl);
-}
+lost = computed lostVal 0 lostValRecipe (66 ∷ 50 ∷ []) refl (refl, refl, refl) (refl, refl, refl) (λ h. (refl, refl, refl))
 
 dead : Computed deadWinner 1 deadWinnerRecipe (66 ∷ 50 ∷ [])
 unfolding result advance apply effect refusal start has size lowest within othersIn with padded place later sameTimestamp view viewed first each leads allShow driver recipe
-dead = record {
-  gathered = in-view (λ m. (three m ≡ true) × (run higher group deadWinner .at m .me .epoch ≡ 1)) 1 (refl, refl) (refl, refl) (λ h. absurd (false≢true h));
-  gives = refl;
-  shown = in-view (λ m. valueOf 0 (after higher (run higher group deadWinner) deadWinnerRecipe m) ≡ (66 ∷ 50 ∷ [])) 1 refl refl (λ h. absurd (false≢true h));
-}
+dead = computed deadWinner 1 deadWinnerRecipe (66 ∷ 50 ∷ []) refl (refl, refl, refl) (refl, refl, refl) (λ h. absurd (false≢true h))
 
 unheard : Computed lostSave 0 lostSaveRecipe (65 ∷ 48 ∷ [])
 unfolding result advance apply effect refusal start has size lowest within othersIn with padded place later sameTimestamp view viewed first each leads allShow driver recipe
-unheard = record {
-  gathered = in-view (λ m. (three m ≡ true) × (run higher group lostSave .at m .me .epoch ≡ 0)) 0 (refl, refl) (refl, refl) (λ h. (refl, refl));
-  gives = refl;
-  shown = in-view (λ m. valueOf 0 (after higher (run higher group lostSave) lostSaveRecipe m) ≡ (65 ∷ 48 ∷ [])) 0 refl refl (λ h. refl);
-}
+unheard = computed lostSave 0 lostSaveRecipe (65 ∷ 48 ∷ []) refl (refl, refl, refl) (refl, refl, refl) (λ h. (refl, refl, refl))
 
 vain : Computed vainSave 1 vainSaveRecipe (67 ∷ 49 ∷ [])
 unfolding result advance apply effect refusal start has size lowest within othersIn with padded place later sameTimestamp view viewed first each leads allShow driver recipe
-vain = record {
-  gathered = in-view (λ m. (three m ≡ true) × (run higher group vainSave .at m .me .epoch ≡ 1)) 1 (refl, refl) (refl, refl) (λ h. absurd (false≢true h));
-  gives = refl;
-  shown = in-view (λ m. valueOf 0 (after higher (run higher group vainSave) vainSaveRecipe m) ≡ (67 ∷ 49 ∷ [])) 1 refl refl (λ h. absurd (false≢true h));
-}
+vain = computed vainSave 1 vainSaveRecipe (67 ∷ 49 ∷ []) refl (refl, refl, refl) (refl, refl, refl) (λ h. absurd (false≢true h))
 
 fresh : Computed [] 0 [] []
 unfolding result advance apply effect refusal start has size lowest within othersIn with padded place later sameTimestamp view viewed first each leads allShow driver recipe
-fresh = record {
-  gathered = in-view (λ m. (three m ≡ true) × (run higher group [] .at m .me .epoch ≡ 0)) 0 (refl, refl) (refl, refl) (λ h. (refl, refl));
-  gives = refl;
-  shown = in-view (λ m. valueOf 0 (after higher (run higher group []) [] m) ≡ []) 0 refl refl (λ h. refl);
-}
+fresh = computed [] 0 [] [] refl (refl, refl, refl) (refl, refl, refl) (λ h. (refl, refl, refl))
 
 -- 1's last save of `struckOff`
 met : Gathered three issued 1 (run higher group (take 36 story))

@@ -51,11 +51,11 @@ vainSaveRecipe = by 1 (validate 0) ∷ by 0 (deliver 2) ∷ []
 
 -- ---- what is shown of them
 
--- after these entries all laptops of epoch e's view are at that epoch, the recipe is that list, and after it they all show that text
+-- after these entries all laptops of epoch e's view are at that epoch, the recipe is that list, and after it they all show the record valid with that text
 pub record Computed (before : List Entry) (e : ℕ) (list : List Entry) (text : List ℕ) : Type 0 where
   pub gathered : Gathered three issued e (run higher group before)
   pub gives : recipe higher (issued e) 0 (run higher group before) ≡ list
-  pub shown : (m : ℕ) → has (issued e) m ≡ true → valueOf 0 (after higher (run higher group before) list m) ≡ text
+  pub shown : (m : ℕ) → has (issued e) m ≡ true → Shows (after higher (run higher group before) list m) 0 × (valueOf 0 (after higher (run higher group before) list m) ≡ text)
 
 -- and so that list is one of which Wish 3 speaks
 pub record Brings (before : List Entry) (e : ℕ) (list : List Entry) (text : List ℕ) : Type 0 where
