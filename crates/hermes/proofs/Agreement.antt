@@ -110,7 +110,7 @@ module _ (wins : ℕ → ℕ → Bool) (ord : TieOrder wins) (member : ℕ → B
     unfolding advance
     left i p k = rw (here i) (subst (λ (x : ℕ). Known i (g .log) p ⊎ Honest (setting wins issued) x (copy i (nodeAfter (result wins g a) (g .at (a .who)))) p) (ok .numbers (a .who) mem) (fine i .left p k))
 
-    pub one-step : (i : ℕ) → Step (setting wins issued) (copies i g) (copies i (advance wins g a)) (Known i (g .log)) (Known i (advance wins g a .log))
+    one-step : (i : ℕ) → Step (setting wins issued) (copies i g) (copies i (advance wins g a)) (Known i (g .log)) (Known i (advance wins g a .log))
     one-step i = record {
       who = a .who;
       move = rw (copies-member i g (a .who) mem, here i) (subst (λ (x : ℕ). Move (setting wins issued) x (Known i (g .log)) (copy i (g .at (a .who))) (copy i (nodeAfter (result wins g a) (g .at (a .who))))) (ok .numbers (a .who) mem) (fine i .moves));
@@ -118,7 +118,7 @@ module _ (wins : ℕ → ℕ → Bool) (ord : TieOrder wins) (member : ℕ → B
       left = left i;
     }
 
-    pub next-ok : Ok (advance wins g a)
+    next-ok : Ok (advance wins g a)
     next-ok = record { numbers = λ m k. go m k (ℕ-discrete m (a .who)); holds = λ i h. preserve (setting wins issued) ord (one-step i) (ok .holds i h); stands = λ i h. standing (setting wins issued) ord (one-step i) (ok .stands i h) }
       where
         go : (m : ℕ) → member m ≡ true → Dec (m ≡ a .who) → advance wins g a .at m .me .number ≡ m
@@ -130,7 +130,7 @@ module _ (wins : ℕ → ℕ → Bool) (ord : TieOrder wins) (member : ℕ → B
   run-ok g ok [] c = ok
   run-ok g ok (a ∷ rest) c = run-ok (advance wins g a) (next-ok g ok a (c .0) (c .1)) rest (c .2)
 
-  pub run-rises : (g : Group) → Ok g → (entries : List Entry) → Entries member issued entries → (i m : ℕ) → NotAfter wins (copies i g m .timestamp) (copies i (run wins g entries) m .timestamp)
+  run-rises : (g : Group) → Ok g → (entries : List Entry) → Entries member issued entries → (i m : ℕ) → NotAfter wins (copies i g m .timestamp) (copies i (run wins g entries) m .timestamp)
   run-rises g ok [] c i m = notAfter-refl wins (copies i g m .timestamp)
   run-rises g ok (a ∷ rest) c i m =
       notAfter-trans wins ord (rises (setting wins issued) ord (one-step g ok a (c .0) (c .1) i) m) (run-rises (advance wins g a) (next-ok g ok a (c .0) (c .1)) rest (c .2) i m)

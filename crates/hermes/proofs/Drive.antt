@@ -123,10 +123,6 @@ module _ (T : Task) (inside : T .i < T .count) (ord : TieOrder (T .wins)) (d : �
   eleven : (u v : ℕ) → Has set v → v ≢ u → (has set v && not (eqb v u)) ≡ true
   eleven u v h n = rw (h, ne-eqb v u n)
 
-  -- the driver is not late
-  punctual : late d ≡ false
-  punctual = is-false (late d) (λ h. lates d h .1 refl)
-
   -- ---- the VAL goes to those that are late
   module _ (v : ℕ) where
     tell-one : (k : ℕ) → k < 16 → (g : Group) → Told T d M late v k g → Plays T g (cond (late k) (by k (deliver v) ∷ []) []) (Told T d M late v (suc k))

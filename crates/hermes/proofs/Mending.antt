@@ -2,7 +2,7 @@
 -- what it shows, and the saver is in the view.
 use Prim.Native.Nat.{ℕ, _+_, _≤_, _<_}
 use mathlib.Core.Path.{_≡_, refl, sym, ap, subst, _∙_}
-use mathlib.Core.Bool.{Bool, true, false, cond, not, false≢true}
+use mathlib.Core.Bool.{Bool, true, false, cond, false≢true}
 use mathlib.Core.Logic.{_⊎_, inl, inr, _≢_}
 use mathlib.Core.List.{[], _∷_}
 use native.Mathlib.Omega.{arith}
@@ -134,7 +134,7 @@ module _ (T : Task) (inside : T .i < T .count) (ord : TieOrder (T .wins)) (d : �
       same-counted e = keeps (count-same 16 (uncounted T d M t0 g) (uncounted T d M t0 (advance wins g (by d what))) (λ u z. rw (D .here, e)))
 
     -- what the saver may do
-    abbrev pub Next : Entry → Type 0
+    abbrev Next : Entry → Type 0
     Next a = Nearer T d M t0 sent g (advance wins g a)
 
     saver-replays : IsAccepted (result wins g (by d (run.replay i))) → Next (by d (run.replay i))

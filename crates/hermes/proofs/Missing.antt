@@ -18,14 +18,13 @@ use Rattle.hermes.specs.declared.event.Replica.{Replica}
 use Rattle.hermes.specs.declared.event.Event.{Event}
 use Rattle.hermes.specs.declared.event.Event.the-variants.{Write}
 use Rattle.hermes_record.specs.Members.{has, countBelow, othersIn}
-use Rattle.hermes_record.specs.Order.{later, sameTimestamp}
+use Rattle.hermes_record.specs.Order.{sameTimestamp}
 use Rattle.hermes.specs.Guards.{AllYes}
 use Rattle.hermes.specs.Event.{own, numberOf}
 use Rattle.hermes.specs.Node.{Outcome, recordOf, apply}
 use Rattle.hermes.specs.Run.{Action, by, Group, Logged, find, found, event, perform, result}
 use Rattle.hermes.specs.Agreement.{IsAccepted}
 use Rattle.hermes.specs.Recipe.{isValid, other}
-use Rattle.hermes.specs.Tight.{saved}
 use Rattle.hermes.proofs.Members.{Has}
 use Rattle.hermes.proofs.Apply.{Applied, refused, accepted, applied, its-own}
 use Rattle.hermes.proofs.Progress.{Task, self, Alive, identity}
