@@ -6,8 +6,9 @@
 //! them held, and with the bytes that went with it. All of them are accepted,
 //! and each message that is delivered left one of these very events.
 //!
-//! [`recipe`] gives the list, from what the laptops hold at the outset, and
-//! [`follow`] has the laptops do it. No hut sees what all others hold, so hut
+//! [`recipe`] gives the list, from what the laptops hold at the outset: that of
+//! `recipe` in crates/hermes/specs/Recipe.antt, of which this is proved. [`follow`]
+//! has the laptops do it. No hut sees what all others hold, so hut
 //! software gets there by its clocks instead, with more events (docs/GUIDE.md).
 //!
 //! ```

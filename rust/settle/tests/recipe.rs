@@ -147,6 +147,43 @@ fn an_overtaken_save() {
     settles(&laptops, &[&invs[..], &acks, &vals].concat());
 }
 
+/// The cases that crates/hermes/specs/SettlingWitness.antt computes: the lists are
+/// the same.
+#[test]
+fn the_lists_that_are_computed_in_the_logic() {
+    let start = |n| Laptop::start(n, 0b111, 1).expect("a fresh start");
+    let three = || (0..3).map(start).collect::<Vec<_>>();
+
+    // `lostVal`, then `deadWinner`
+    let mut laptops = three();
+    let _overtaken = save(&mut laptops, 0);
+    let inv = save(&mut laptops, 2);
+    for n in [0, 1] {
+        let ack = comes(&mut laptops, n, &inv).expect("an ACK");
+        comes(&mut laptops, 2, &ack);
+    }
+    settles(&laptops, &["2 resends", "0 takes 0", "1 takes 0"]);
+    strike(&mut laptops, 2);
+    let replay = ["0 replays", "1 takes 0", "0 takes 1", "1 takes 2"];
+    settles(&laptops, &replay);
+
+    // `lostSave`
+    let mut laptops = three();
+    let _lost = save(&mut laptops, 0);
+    let invs = ["0 resends", "1 takes 0", "2 takes 0"];
+    let acks = ["0 takes 1", "0 takes 2"];
+    let vals = ["1 takes 4", "2 takes 4"];
+    settles(&laptops, &[&invs[..], &acks, &vals].concat());
+
+    // `vainSave`
+    let mut laptops = three();
+    let inv = save(&mut laptops, 1);
+    let ack = comes(&mut laptops, 0, &inv).expect("an ACK");
+    comes(&mut laptops, 1, &ack);
+    strike(&mut laptops, 2);
+    settles(&laptops, &["1 validates", "0 takes 0"]);
+}
+
 /// What no event leaves: the latest is valid where it is, its last writer is away,
 /// and 1 waits with an older one.
 #[test]
