@@ -19,7 +19,7 @@ use Rattle.hermes.specs.Agreement.{Entries, Shows, Alike, IsAccepted, af
 use Rattle.hermes.specs.Settling.{Helps, Gathered, AllHelp, Settled}
 use Rattle.hermes.specs.Recipe.{first, each, leads, allShow, driver, recipe}
 use Rattle.hermes.specs.Played.{three, issued, group, story}
-use Rattle.hermes.specs.SettlingWitness.{lostVal, lostValRecipe, deadWinner, deadWinnerRecipe, lostSave, lostSaveRecipe, vainSave, vainSaveRecipe, Computed, Brings, Only, SettlingWitness}
+use Rattle.hermes.specs.SettlingWitness.{lostVal, lostValRecipe, halfTold, halfToldRecipe, deadWinner, deadWinnerRecipe, lostSave, lostSaveRecipe, halfHeard, halfHeardRecipe, vainSave, vainSaveRecipe, Computed, Brings, Only, SettlingWitness}
 use Rattle.hermes_record.proofs.Order.{higher-order}
 use Rattle.hermes_record.proofs.Tests.{implied}
 use Rattle.hermes.proofs.Members.{all-at, has-small}
@@ -98,6 +98,14 @@ fresh : Computed [] 0 [] []
 unfolding result advance apply effect refusal start has size lowest within othersIn with padded place later sameTimestamp view viewed first each leads allShow driver recipe
 fresh = computed [] 0 [] [] refl (refl, refl, refl) (refl, refl, refl) (λ h. (refl, refl, refl))
 
+told : Computed halfTold 0 halfToldRecipe (66 ∷ 50 ∷ [])
+unfolding result advance apply effect refusal start has size lowest within othersIn with padded place later sameTimestamp view viewed first each leads allShow driver recipe
+told = computed halfTold 0 halfToldRecipe (66 ∷ 50 ∷ []) refl (refl, refl, refl) (refl, refl, refl) (λ h. (refl, refl, refl))
+
+heard : Computed halfHeard 0 halfHeardRecipe (65 ∷ 48 ∷ [])
+unfolding result advance apply effect refusal start has size lowest within othersIn with padded place later sameTimestamp view viewed first each leads allShow driver recipe
+heard = computed halfHeard 0 halfHeardRecipe (65 ∷ 48 ∷ []) refl (refl, refl, refl) (refl, refl, refl) (λ h. (refl, refl, refl))
+
 -- 1's last save of `struckOff`
 met : Gathered three issued 1 (run higher group (take 36 story))
 unfolding result advance apply effect refusal start has size lowest within othersIn with padded place later sameTimestamp view viewed
@@ -160,6 +168,8 @@ settling-witness = record {
   unheard = brings (refl, tt, tt) unheard;
   vain = brings (refl, tt, (refl, tt, (refl, tt, (refl, refl, (refl, refl, tt))))) vain;
   fresh = brings tt fresh;
+  told = brings (refl, tt, (refl, tt, (refl, tt, (refl, tt, (refl, tt, (refl, tt, (refl, tt, tt))))))) told;
+  heard = brings (refl, tt, (refl, tt, (refl, tt, tt))) heard;
   reachedByTwo = unfold size has in refl;
   reachedByThree = unfold size has in refl;
   noFewer = no-fewer;

@@ -33,6 +33,13 @@ deadWinner = lostVal ++ by 0 (view 1 3) ∷ by 1 (view 1 3) ∷ []
 abbrev pub deadWinnerRecipe : List Entry
 deadWinnerRecipe = by 0 (replay 0) ∷ by 1 (deliver 5) ∷ by 0 (deliver 6) ∷ by 1 (deliver 7) ∷ []
 
+-- `lostVal`, but the VAL reaches 1: the next one goes to 0 alone
+abbrev pub halfTold : List Entry
+halfTold = lostVal ++ by 1 (deliver 4) ∷ []
+
+abbrev pub halfToldRecipe : List Entry
+halfToldRecipe = by 2 (resend 0) ∷ by 0 (deliver 5) ∷ []
+
 -- 0 saves, and nobody hears of it
 abbrev pub lostSave : List Entry
 lostSave = by 0 (write 0 (65 ∷ 48 ∷ [])) ∷ []
@@ -40,6 +47,13 @@ lostSave = by 0 (write 0 (65 ∷ 48 ∷ [])) ∷ []
 -- 0 sends its INV again, message 1; ACKs 2 and 3, VAL 4
 abbrev pub lostSaveRecipe : List Entry
 lostSaveRecipe = by 0 (resend 0) ∷ by 1 (deliver 1) ∷ by 2 (deliver 1) ∷ by 0 (deliver 2) ∷ by 0 (deliver 3) ∷ by 1 (deliver 4) ∷ by 2 (deliver 4) ∷ []
+
+-- 1 has heard of it and is counted: the INV, now message 2, goes to 2 alone. ACK 3, VAL 4
+abbrev pub halfHeard : List Entry
+halfHeard = lostSave ++ by 1 (deliver 0) ∷ by 0 (deliver 1) ∷ []
+
+abbrev pub halfHeardRecipe : List Entry
+halfHeardRecipe = by 0 (resend 0) ∷ by 2 (deliver 2) ∷ by 0 (deliver 3) ∷ by 1 (deliver 4) ∷ by 2 (deliver 4) ∷ []
 
 -- 1 saves, 0 replies, and 2 is struck off before it does: everyone has replied to 1, and no ACK is left to come
 abbrev pub vainSave : List Entry
@@ -75,6 +89,9 @@ pub record SettlingWitness : Type 0 where
   pub unheard : Brings lostSave 0 lostSaveRecipe (65 ∷ 48 ∷ [])
   pub vain : Brings vainSave 1 vainSaveRecipe (67 ∷ 49 ∷ [])
   pub fresh : Brings [] 0 [] []
+  -- no message goes where it would be refused: no VAL to who shows the record, no INV to who is counted
+  pub told : Brings halfTold 0 halfToldRecipe (66 ∷ 50 ∷ [])
+  pub heard : Brings halfHeard 0 halfHeardRecipe (65 ∷ 48 ∷ [])
   -- 3k − 2 is reached, with two laptops and with three
   pub reachedByTwo : length deadWinnerRecipe + 2 ≡ 3 * size (issued 1)
   pub reachedByThree : length lostSaveRecipe + 2 ≡ 3 * size (issued 0)
