@@ -8,6 +8,7 @@ pub mod Steps
 pub mod Apply
 pub mod Start
 pub mod Filling
+pub mod Log
 pub mod Protocol
 pub mod Standing
 pub mod Refine

@@ -3,7 +3,7 @@
 use Prim.Native.Nat.{ℕ, zero, suc, _+_, _≤_, _<_}
 use mathlib.Core.Path.{_≡_, refl, sym, ap, subst, _∙_}
 use mathlib.Core.Bool.{Bool, true, false, cond}
-use mathlib.Core.Logic.{_⊎_, inl, inr, ⊎-map, _≢_}
+use mathlib.Core.Logic.{_⊎_, inl, ⊎-map, _≢_}
 use mathlib.Core.List.{List, [], _∷_, _++_}
 use native.Mathlib.Omega.{arith}
 use native.Mathlib.Decide.{ℕ-discrete}
@@ -33,27 +33,12 @@ use Rattle.hermes.specs.Settling.{Helps, AllHelp}
 use Rattle.hermes.specs.Recipe.{each}
 use Rattle.hermes.proofs.Members.{Has}
 use Rattle.hermes.proofs.Guards.{sound-passed}
+use Rattle.hermes.proofs.Log.{find-front, find-last, find-either}
 use Rattle.hermes.proofs.Apply.{questionsOf, passed-zero, done, Applied, refused, accepted, applied}
 use Rattle.hermes.proofs.Agreement.{at-who, at-other, run-append}
 use Rattle.hermes.proofs.Sound.{advance-sound, five-say-yes}
 
--- ---- log numbers
-
-find-old : (xs ys : List Logged) (k : ℕ) (x : Logged) → find xs k ≡ found x → find (xs ++ ys) k ≡ found x
-find-old [] ys k x e = let z : _≡_ {A = ℕ} 0 1 = cc in absurd (omega arith)
-find-old (y ∷ xs) ys zero x e = e
-find-old (y ∷ xs) ys (suc k) x e = find-old xs ys k x e
-
-find-new : (xs : List Logged) (x : Logged) → find (xs ++ (x ∷ [])) (length xs) ≡ found x
-find-new [] x = refl
-find-new (y ∷ xs) x = find-new xs x
-
--- what is found was there before, or is the new one
-find-either : (xs : List Logged) (y : Logged) (k : ℕ) (x : Logged) → find (xs ++ (y ∷ [])) k ≡ found x → (find xs k ≡ found x) ⊎ (y ≡ x)
-find-either [] y zero x e = inr cc
-find-either [] y (suc k) x e = let z : _≡_ {A = ℕ} 0 1 = cc in absurd (omega arith)
-find-either (z ∷ xs) y zero x e = inl e
-find-either (z ∷ xs) y (suc k) x e = find-either xs y k x e
+-- ---- what leaves
 
 -- a value that leaves fits
 value-short : (i n : ℕ) (store : List ℕ) → n ≤ 192 → length (valueAt i n store) ≤ 192
@@ -189,13 +174,13 @@ module _ (T : Task) (inside : T .i < T .count) (g : Group) (all : Alive T g) (m 
 
   keep : (o : Outgoing) (log : List Logged) → log ≡ logged (g .log) after o → (k sender : ℕ) (p : Message) → Post T (g .log) k sender p → Post T log k sender p
   keep None log q k sender p x = rw q x
-  keep (Sent p′ d) log q k sender p x = record { since = x .since; body = x .body; there = rw q (find-old (g .log) _ k _ (x .there)); shape = x .shape }
+  keep (Sent p′ d) log q k sender p x = record { since = x .since; body = x .body; there = rw q (find-front (g .log) _ k _ (x .there)); shape = x .shape }
 
   post : (p : Message) → s .sent ≡ Sent p (record { sender = m; epoch = e; index = i }) → stampOf p .tie ≤ 15 → Post T (advance wins g a .log) (length (g .log)) m p
   post p q t = record {
     since = all .since;
     body = leaving (Sent p (record { sender = m; epoch = e; index = i })) (after .table) (after .store);
-    there = rw (log-is, q) (find-new (g .log) _);
+    there = rw (log-is, q) (find-last (g .log) _);
     shape = shaped p _ t (value-short i (recordOf i after .len) (after .store) (sound-passed (after .me) (recordOf i after) (rw at-m at (live-after m h .sound .fifth i inside)) .short));
   }
 

@@ -4,7 +4,7 @@ use Prim.Native.Nat.{ℕ, zero, suc, _*_, _≤_}
 use mathlib.Core.Path.{_≡_, refl, sym, ap, ap₂, _∙_}
 use mathlib.Core.Bool.{Bool, true, false, false≢true}
 use mathlib.Core.Logic.{_⊎_, inl, inr, _≢_}
-use mathlib.Core.List.{List, [], _∷_, List·Memᴰ, List·Memᴰ·head, List·Memᴰ·tail, List·Memᴰ·append-cases, List·Memᴰ·eq-of-singleton}
+use mathlib.Core.List.{List, [], _∷_, List·Memᴰ, List·Memᴰ·append-cases, List·Memᴰ·eq-of-singleton}
 use native.Mathlib.Omega.{arith}
 use native.Mathlib.Decide.{ℕ-discrete}
 use lib.ListN.{length, take}
@@ -34,6 +34,7 @@ use Rattle.hermes.specs.Run.{Logged, Action, Result, Found, find, receiv
 use Rattle.hermes.specs.Frame.{bytesAfter, Changed}
 use Rattle.hermes.specs.Agreement.{AsIssued}
 use Rattle.hermes_record.proofs.Tests.{both}
+use Rattle.hermes.proofs.Log.{found-in}
 use Rattle.hermes.proofs.Members.{Has, within-members, others-members, has-zero, with-members}
 use Rattle.hermes_record.proofs.Order.{notAfter-refl, notAfter-total}
 use Rattle.hermes.proofs.Store.{take-padded, value-slot, slot-elsewhere}
@@ -180,12 +181,6 @@ module _ (wins : ℕ → ℕ → Bool) (issued : ℕ → ℕ) where
           move (no d) = stay (copy-there j n s c (omega (arith, slot-fits (first-five n j e v y))) i d)
 
 -- ---- the events
-
--- what is found is in the log
-found-in : (log : List Logged) (k : ℕ) (x : Logged) → find log k ≡ run.found x → List·Memᴰ x log
-found-in [] k x e = let z : _≡_ {A = ℕ} 0 1 = cc in absurd (omega arith)
-found-in (y ∷ log) zero x e = let p : x ≡ y = cc in List·Memᴰ·head p
-found-in (y ∷ log) (suc k) x e = List·Memᴰ·tail (found-in log k x e)
 
 module _ (wins : ℕ → ℕ → Bool) (ord : TieOrder wins) (issued : ℕ → ℕ) (log : List Logged) (n : Node) where
   resent-says : (j : ℕ) (s : State) → recordOf j n .state ≡ s → Says wins issued (n .me) j (copy j n) (resent (n .me) j s (recordOf j n .timestamp))

@@ -1,6 +1,6 @@
 -- The second reading of demand 3 follows from the first (`agreement`) and from the laptops' staying sound. The idea: the entries of a history,
 -- oldest first, are a list of entries of the first reading, and a run of that list leaves every laptop as the history does.
-use Prim.Native.Nat.{ℕ, zero, suc, _+_, _*_, _<_}
+use Prim.Native.Nat.{ℕ, suc, _+_, _*_, _<_}
 use mathlib.Core.Path.{_≡_, refl, sym, ap, subst, _∙_}
 use mathlib.Core.Bool.{Bool, true, false, cond, _&&_}
 use mathlib.Core.Logic.{_⊎_, inl, inr, ⊎-elim, ⊎-map, _≢_}
@@ -33,6 +33,7 @@ use Rattle.hermes.specs.SecondReading.{Mail, Happening, read, write, rep
 use Rattle.hermes.specs.SecondReading.{Entry, outcome, Leaves, Left, Honest, Replaced, here, there, History, empty, next}
 use Rattle.hermes.specs.SecondReading.{FreshStart, Different, Premises, ShowsValid, Agree, Agreement, InWriteOrReplay, LastAck, Validates, Kept, SecondDemand3}
 use Rattle.hermes_record.proofs.Tests.{both, either}
+use Rattle.hermes.proofs.Log.{find-front, find-last}
 use Rattle.hermes.proofs.Members.{bit, bit-member, member-bit, has-small}
 use Rattle.hermes.proofs.LastAck.{does-complete}
 use Rattle.hermes.proofs.Start.{begun}
@@ -139,15 +140,6 @@ posted m = record { header = record { sender = m .sender; epoch = m .epoch; inde
 -- the log has the message, under some number
 abbrev In : List Logged → Mail → Type 0
 In log m = (j : ℕ) × (find log j ≡ found (posted m))
-
-find-front : (log more : List Logged) (j : ℕ) (x : Logged) → find log j ≡ found x → find (log ++ more) j ≡ found x
-find-front [] more j x e = let z : _≡_ {A = ℕ} 0 1 = cc in absurd (omega arith)
-find-front (y ∷ log) more zero x e = e
-find-front (y ∷ log) more (suc j) x e = find-front log more j x e
-
-find-last : (log : List Logged) (x : Logged) → find (log ++ x ∷ []) (length log) ≡ found x
-find-last [] x = refl
-find-last (y ∷ log) x = find-last log x
 
 module _ (m : Mail) (log : List Logged) (n : Node) where
   -- what the log has, it keeps

@@ -1,5 +1,5 @@
 -- The bound 3k − 2 cannot be bettered: so much is missing after a save that nobody has heard of, and nothing where all show it.
-use Prim.Native.Nat.{ℕ, zero, suc, _+_, _*_, _≤_, _<_}
+use Prim.Native.Nat.{ℕ, suc, _+_, _*_, _≤_, _<_}
 use mathlib.Core.Path.{_≡_, refl, sym, ap, subst, _∙_}
 use mathlib.Core.Bool.{Bool, true, false, not, _&&_, false≢true}
 use mathlib.Core.Logic.{inl}
@@ -22,7 +22,7 @@ use Rattle.hermes.specs.Guards.{AllYes}
 use Rattle.hermes.specs.Event.{own}
 use Rattle.hermes.specs.Node.{recordOf}
 use Rattle.hermes.specs.Run as run
-use Rattle.hermes.specs.Run.{Entry, by, Group, Logged, find, found, result, advance, run}
+use Rattle.hermes.specs.Run.{Entry, by, Group, result, advance, run}
 use Rattle.hermes.specs.Agreement.{Started, Shows, IsAccepted, after}
 use Rattle.hermes.specs.Settling.{Gathered, AllHelp}
 use Rattle.hermes.specs.Recipe.{isValid, other}
@@ -32,6 +32,7 @@ use Rattle.hermes_record.proofs.Order.{equal-same, greater-later}
 use Rattle.hermes.proofs.Members.{Has, has-zero, others-every}
 use Rattle.hermes.proofs.Words.{state-is, Two, size-two, count-same, count-none}
 use Rattle.hermes.proofs.Apply.{accepted}
+use Rattle.hermes.proofs.Log.{find-below}
 use Rattle.hermes.proofs.Start.{begun}
 use Rattle.hermes.proofs.Sound.{stay-sound}
 use Rattle.hermes.proofs.Along.{fresh-record}
@@ -100,12 +101,6 @@ module _ (T : Task) (inside : T .i < T .count) (ord : TieOrder (T .wins)) (d : �
       replied u = is-false _ (λ h. let (o, n) = both (other set d u) _ h in false≢true (sym (not-true _ n) ∙ acks u o))
 
 -- ---- the start, and the theorem
-
--- what is found stands before the log's end
-find-below : (log : List Logged) (k : ℕ) (x : Logged) → find log k ≡ found x → k < length log
-find-below [] k x e = let z : _≡_ {A = ℕ} 0 1 = cc in absurd (omega arith)
-find-below (y ∷ log) zero x e = omega arith
-find-below (y ∷ log) (suc k) x e = omega (arith, find-below log k x e)
 
 module _ (wins : ℕ → ℕ → Bool) (ord : TieOrder wins) (member : ℕ → Bool) (count : ℕ) (issued : ℕ → ℕ) (g : Group) (s : Started member count issued g) (all : Gathered member issued 0 g)
     (i d : ℕ) (v : List ℕ) (inside : i < count) (hd : has (issued 0) d ≡ true) (ok : IsAccepted (result wins g (by d (run.write i v)))) where
