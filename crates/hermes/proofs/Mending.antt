@@ -24,7 +24,7 @@ use Rattle.hermes.specs.Event.{Step, own, invStep, ackStep, valStep, com
 use Rattle.hermes.specs.Node.{recordOf, apply}
 use Rattle.hermes.specs.Run as run
 use Rattle.hermes.specs.Run.{Action, Entry, by, Group, Logged, Found, find, found, event, delivery, perform, result, advance, run, received}
-use Rattle.hermes.specs.Agreement.{IsAccepted, after}
+use Rattle.hermes.specs.Agreement.{IsAccepted}
 use Rattle.hermes.specs.Settling.{About, Helps}
 use Rattle.hermes.specs.Recipe.{underWay, isValid, other}
 use Rattle.hermes_record.proofs.Tests.{both, is-false, or-false}

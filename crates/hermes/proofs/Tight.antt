@@ -31,12 +31,11 @@ use Rattle.hermes_record.proofs.Tests.{both, and-both, is-false, and-true}
 use Rattle.hermes_record.proofs.Order.{equal-same, greater-later}
 use Rattle.hermes.proofs.Members.{Has, has-zero, others-every}
 use Rattle.hermes.proofs.Words.{state-is, Two, size-two, count-same, count-none}
-use Rattle.hermes.proofs.Apply.{accepted}
 use Rattle.hermes.proofs.Log.{find-below}
 use Rattle.hermes.proofs.Start.{begun}
 use Rattle.hermes.proofs.Sound.{stay-sound}
 use Rattle.hermes.proofs.Along.{fresh-record}
-use Rattle.hermes.proofs.Progress.{Task, self, stepBy, Alive, Did, did, identity}
+use Rattle.hermes.proofs.Progress.{Task, self, stepBy, Alive, Did, did}
 use Rattle.hermes.proofs.Drive.{other-yes, yes-other}
 use Rattle.hermes.proofs.Driver.{others-size}
 use Rattle.hermes.proofs.Missing.{asked, Falls, keeps, Saving, waits, done, Hears, unheard, heard, Stage, unaware, unshown, uncounted, missing}
