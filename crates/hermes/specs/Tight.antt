@@ -1,4 +1,4 @@
--- 02, Wish 3: the bound cannot be bettered. Of a save that nobody has heard of, no fewer than 3k − 2 events that help make all k show it.
+-- 02, Wish 3: the bound cannot be bettered. Of a first save that nobody has heard of, no fewer than 3k − 2 events that help make all k show it.
 use Prim.Native.Nat.{ℕ, _+_, _*_, _≤_, _<_}
 use mathlib.Core.Path.{_≡_}
 use mathlib.Core.Bool.{Bool, true}
