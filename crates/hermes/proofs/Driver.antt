@@ -27,7 +27,7 @@ use Rattle.hermes.specs.Run as run
 use Rattle.hermes.specs.Run.{Action, Entry, by, Group, advance}
 use Rattle.hermes.specs.Settling.{Helps}
 use Rattle.hermes.specs.Recipe.{Choice, nobody, laptop, orElse, first, each, underWay, isValid, isInvalid, other, due, leads, allShow, goesOn, saysAgain, takesOver, driver, late, tell, ask, finish, drive, driven, recipe}
-use Rattle.hermes_record.proofs.Tests.{both, and-both, is-false, implied}
+use Rattle.hermes_record.proofs.Tests.{both, and-both, either, is-false, implied, or-true}
 use Rattle.hermes.proofs.Members.{Has, has-small, has-zero, all-at, all-of, others-members}
 use Rattle.hermes_record.proofs.Order.{notAfter-refl, notAfter-trans, notAfter-antisym, notAfter-total, not-later}
 use Rattle.hermes.proofs.Words.{is-state, state-is, Two, count-le, count-without, size-two}
@@ -339,6 +339,18 @@ module _ (T : Task) (inside : T .i < T .count) (ord : TieOrder (T .wins)) (g : G
           two : leb 2 (size set) ≡ true
           two = subst (λ (x : ℕ). leb 2 (size x) ≡ true) (o .alive .live d hd .view) (both (leb (g .at d .me .number) 15) (leb 2 (size (g .at d .me .view))) (o .alive .live d hd .sound .first) .1)
 
+    -- whichever drives
+    pub by-driver : (d : ℕ) → (goesOn wins set i g d || (saysAgain wins set i g d || takesOver wins set i g d)) ≡ true → Wins (drive wins set i g d (r d .state))
+    by-driver d h = go (either (goesOn wins set i g d) _ h)
+      where
+        last : (saysAgain wins set i g d ≡ true) ⊎ (takesOver wins set i g d ≡ true) → Wins (drive wins set i g d (r d .state))
+        last (inl z) = let (p, q) = both (leads wins set i g d) _ z in let (k, t) = leads-yes d p in let (v, w) = both (isValid (r d)) (eqb (r d .writer) d) q in writer d k t v (eqb-true _ _ w)
+        last (inr z) = let (p, q) = both (leads wins set i g d) _ z in let (k, t) = leads-yes d p in let (v, w) = both (isInvalid (r d)) (not (has set (r d .writer))) q in waiting d k t v (not-true _ w)
+
+        go : (goesOn wins set i g d ≡ true) ⊎ ((saysAgain wins set i g d || takesOver wins set i g d) ≡ true) → Wins (drive wins set i g d (r d .state))
+        go (inl z) = let (p, q) = both (leads wins set i g d) (underWay (r d)) z in let (k, t) = leads-yes d p in working d k t q
+        go (inr z) = last (either (saysAgain wins set i g d) _ z)
+
     -- ---- there is a driver, or all is done
     -- nobody who leads has a save or replay under way, or is valid and its own last writer: so the last writer of who leads is not in the view
     gone : ((u : ℕ) → u < 16 → goesOn wins set i g u ≡ false) → ((u : ℕ) → u < 16 → saysAgain wins set i g u ≡ false) → (d : ℕ) → Has set d → r d .timestamp ≡ M → has set (r d .writer) ≡ false
@@ -363,27 +375,28 @@ module _ (T : Task) (inside : T .i < T .count) (ord : TieOrder (T .wins)) (g : G
     unfolding recipe allShow driver
     by-recipe = go (allShow wins set i g) refl
       where
-        -- none of the three: all who lead show the record valid, so all hold M
-        rest : ((u : ℕ) → u < 16 → goesOn wins set i g u ≡ false) → ((u : ℕ) → u < 16 → takesOver wins set i g u ≡ false) → (u : ℕ) → Has set u → r u .state ≡ state.Valid
-        rest a c u h = shows u h (all u h)
+        -- nobody can drive: all who lead show the record valid, so all hold M
+        rest : ((u : ℕ) → u < 16 → goesOn wins set i g u ≡ false) → ((u : ℕ) → u < 16 → saysAgain wins set i g u ≡ false) → ((u : ℕ) → u < 16 → takesOver wins set i g u ≡ false)
+            → (u : ℕ) → Has set u → r u .state ≡ state.Valid
+        rest a b c u h = shows u h (all u h)
           where
             shows : (v : ℕ) → Has set v → r v .timestamp ≡ M → r v .state ≡ state.Valid
             shows v k t = valid-else (r v) (is-false (underWay (r v)) (λ z. false≢true (sym (a v (has-small set v k)) ∙ and-both (leads wins set i g v) (underWay (r v)) (yes-leads v k t) z)))
-                (is-false (isInvalid (r v)) (λ z. false≢true (sym (c v (has-small set v k)) ∙ and-both (leads wins set i g v) (isInvalid (r v)) (yes-leads v k t) z)))
+                (is-false (isInvalid (r v)) (λ z. false≢true (sym (c v (has-small set v k)) ∙ and-both (leads wins set i g v) _ (yes-leads v k t) (rw (z, gone a b v k t)))))
 
             all : (v : ℕ) → Has set v → r v .timestamp ≡ M
             all v k = at-most v k (subst (λ (t : Timestamp). NotAfter wins t (r v .timestamp)) held (o .settled holder v hh k (state-is _ state.Valid (shows holder hh held))))
 
         third : ((u : ℕ) → u < 16 → goesOn wins set i g u ≡ false) → ((u : ℕ) → u < 16 → saysAgain wins set i g u ≡ false) → (c : Choice) → Picked 16 (takesOver wins set i g) c → Wins (driven wins set i g c)
-        third a b c (some d h e) = rw e (let (p, q) = both (leads wins set i g d) (isInvalid (r d)) h in let (k, t) = leads-yes d p in waiting d k t q (gone a b d k t))
-        third a b c (none-of f e) = rw e (all-hold (rest a f))
+        third a b c (some d h e) = rw e (by-driver d (rw (h, or-true (saysAgain wins set i g d), or-true (goesOn wins set i g d))))
+        third a b c (none-of f e) = rw e (all-hold (rest a b f))
 
         second : ((u : ℕ) → u < 16 → goesOn wins set i g u ≡ false) → (c : Choice) → Picked 16 (saysAgain wins set i g) c → Wins (driven wins set i g (orElse c (first 16 (takesOver wins set i g))))
-        second a c (some d h e) = rw e (let (p, q) = both (leads wins set i g d) _ h in let (k, t) = leads-yes d p in let (v, w) = both (isValid (r d)) (eqb (r d .writer) d) q in writer d k t v (eqb-true _ _ w))
+        second a c (some d h e) = rw e (by-driver d (rw (h, or-true (goesOn wins set i g d))))
         second a c (none-of f e) = rw e (third a f (first 16 (takesOver wins set i g)) (picked 16 (takesOver wins set i g)))
 
         start : (c : Choice) → Picked 16 (goesOn wins set i g) c → Wins (driven wins set i g (orElse c (orElse (first 16 (saysAgain wins set i g)) (first 16 (takesOver wins set i g)))))
-        start c (some d h e) = rw e (let (p, q) = both (leads wins set i g d) (underWay (r d)) h in let (k, t) = leads-yes d p in working d k t q)
+        start c (some d h e) = rw e (by-driver d (rw h))
         start c (none-of f e) = rw e (second f (first 16 (saysAgain wins set i g)) (picked 16 (saysAgain wins set i g)))
 
         go : (b : Bool) → allShow wins set i g ≡ b → Wins (cond b [] (driven wins set i g (driver wins set i g)))
