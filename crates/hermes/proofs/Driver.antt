@@ -26,7 +26,7 @@ use Rattle.hermes.specs.Node.{recordOf}
 use Rattle.hermes.specs.Run as run
 use Rattle.hermes.specs.Run.{Action, Entry, by, Group, advance}
 use Rattle.hermes.specs.Settling.{Helps}
-use Rattle.hermes.specs.Recipe.{Choice, nobody, laptop, orElse, first, each, underWay, isValid, isInvalid, other, due, leads, allShow, goesOn, saysAgain, takesOver, driver, late, tell, ask, finish, drive, driven, recipe}
+use Rattle.hermes.specs.Recipe.{Choice, nobody, laptop, orElse, first, each, underWay, isValid, isInvalid, other, due, leads, allShow, goesOn, saysAgain, takesOver, driver, late, vals, round, finish, drive, driven, recipe}
 use Rattle.hermes_record.proofs.Tests.{both, and-both, either, is-false, implied, or-true}
 use Rattle.hermes.proofs.Members.{Has, has-small, has-zero, all-at, all-of, others-members}
 use Rattle.hermes_record.proofs.Order.{notAfter-refl, notAfter-trans, notAfter-antisym, notAfter-total, not-later}
@@ -84,7 +84,7 @@ module _ (wins : ℕ → ℕ → Bool) (set i : ℕ) (g : Group) (d : ℕ) where
   drive-under-way state.Write h = refl
   drive-under-way state.Replay h = refl
 
-  drive-invalid : (s : State) → oneOf s (state.Invalid ∷ state.InvalidWrite ∷ []) ≡ true → drive wins set i g d s ≡ by d (run.replay i) ∷ ask wins set i g d (length (g .log)) 0
+  drive-invalid : (s : State) → oneOf s (state.Invalid ∷ state.InvalidWrite ∷ []) ≡ true → drive wins set i g d s ≡ by d (run.replay i) ∷ round wins set i g d (length (g .log)) 0
   drive-invalid state.Valid h = absurd (false≢true h)
   drive-invalid state.Invalid h = refl
   drive-invalid state.InvalidWrite h = refl
@@ -104,17 +104,17 @@ module _ (wins : ℕ → ℕ → Bool) (set i : ℕ) (g : Group) (d : ℕ) (hd :
   late-size : countBelow 16 (late wins set i g d) ≤ countBelow 16 (other set d)
   late-size = count-le 16 (late wins set i g d) (other set d) (λ u h. both (other set d u) _ h .0)
 
-  tell-length : (k : ℕ) → length (tell wins set i g d k) ≤ countBelow 16 (other set d)
-  tell-length k = rw (each-length 16 (late wins set i g d) (λ u. by u (run.deliver k))) late-size
+  vals-length : (k : ℕ) → length (vals wins set i g d k) ≤ countBelow 16 (other set d)
+  vals-length k = rw (each-length 16 (late wins set i g d) (λ u. by u (run.deliver k))) late-size
 
-  ask-length : (k acks : ℕ) → length (ask wins set i g d k acks) ≤ countBelow 16 (other set d) + countBelow 16 (other set d) + countBelow 16 (other set d)
-  ask-length k acks = rw (
-    length-append _ (tell wins set i g d (k + 1 + countBelow 16 (due set d acks))),
+  round-length : (k acks : ℕ) → length (round wins set i g d k acks) ≤ countBelow 16 (other set d) + countBelow 16 (other set d) + countBelow 16 (other set d)
+  round-length k acks = rw (
+    length-append _ (vals wins set i g d (k + 1 + countBelow 16 (due set d acks))),
     length-append (each 16 (due set d acks) (λ u. by u (run.deliver k))) _,
     each-length 16 (due set d acks) (λ u. by u (run.deliver k)),
     each-length 16 (due set d acks) (λ u. by d (run.deliver (k + 1 + countBelow u (due set d acks)))),
   )
-      (omega (arith, due-size acks, tell-length (k + 1 + countBelow 16 (due set d acks))))
+      (omega (arith, due-size acks, vals-length (k + 1 + countBelow 16 (due set d acks))))
 
   -- somebody else is in a set of two, and nobody has yet answered
   not-alone : leb 2 (size set) ≡ true → othersIn d set 0 ≡ false
@@ -243,10 +243,10 @@ module _ (T : Task) (inside : T .i < T .count) (ord : TieOrder (T .wins)) (g : G
       by-asking : (what : Action) (s : Step) → Helps i old (g .log) what → Did T g (by d what) s
           → s .after .timestamp ≡ M → s .after .written ≡ M → underWay (s .after) ≡ true → s .sent ≡ send (self T d) i (Inv M)
           → ((u : ℕ) → Has set u → Has (s .after .acks) u → r u .timestamp ≡ M) → othersIn d set (s .after .acks) ≡ false
-          → Wins (by d what ∷ ask wins set i g d (length (g .log)) (s .after .acks))
+          → Wins (by d what ∷ round wins set i g d (length (g .log)) (s .after .acks))
       by-asking what s k D t t′ c q counted n = record {
         plays = next T (one T g (by d what) hd k (D .accepted) start) (λ f p. asks T inside ord d hd M low lateOf lates (length (g .log)) (s .after .acks) (s .after) f p refl c t t′ n);
-        few = omega (arith, others-size wins set i g d hd, ask-length wins set i g d hd (length (g .log)) (s .after .acks));
+        few = omega (arith, others-size wins set i g d hd, round-length wins set i g d hd (length (g .log)) (s .after .acks));
       }
         where
           now : ℕ → Record
@@ -275,10 +275,10 @@ module _ (T : Task) (inside : T .i < T .count) (ord : TieOrder (T .wins)) (g : G
       -- after one entry of d, which leaves it valid at M, as all others hold M, and by which its VAL leaves
       by-telling : (what : Action) (s : Step) → Helps i old (g .log) what → Did T g (by d what) s
           → s .after .timestamp ≡ M → s .after .state ≡ state.Valid → s .sent ≡ send (self T d) i (Val M)
-          → ((u : ℕ) → Has set u → r u .timestamp ≡ M) → Wins (by d what ∷ tell wins set i g d (length (g .log)))
+          → ((u : ℕ) → Has set u → r u .timestamp ≡ M) → Wins (by d what ∷ vals wins set i g d (length (g .log)))
       by-telling what s k D t v q all = record {
         plays = next T (one T g (by d what) hd k (D .accepted) start) (tells T inside ord d hd M low lateOf lates (length (g .log)));
-        few = omega (arith, others-size wins set i g d hd, tell-length wins set i g d hd (length (g .log)));
+        few = omega (arith, others-size wins set i g d hd, vals-length wins set i g d hd (length (g .log)));
       }
         where
           now : ℕ → Record

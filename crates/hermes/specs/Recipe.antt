@@ -95,26 +95,26 @@ module _ (wins : ℕ → ℕ → Bool) (set i : ℕ) (g : Group) where
     late u = other set d u && not (leads u && isValid (at u))
 
     -- message k, d's VAL, goes to them
-    abbrev pub tell : ℕ → List Entry
-    tell k = each 16 late (λ u. by u (deliver k))
+    abbrev pub vals : ℕ → List Entry
+    vals k = each 16 late (λ u. by u (deliver k))
 
     -- message k, d's INV, goes to those that have not replied, and their ACKs come back, numbered as they left; with the last of them the VAL leaves
-    abbrev pub ask : (k acks : ℕ) → List Entry
-    ask k acks =
+    abbrev pub round : (k acks : ℕ) → List Entry
+    round k acks =
         each 16 (due set d acks) (λ u. by u (deliver k))
         ++ each 16 (due set d acks) (λ u. by d (deliver (k + 1 + countBelow u (due set d acks))))
-        ++ tell (k + 1 + countBelow 16 (due set d acks))
+        ++ vals (k + 1 + countBelow 16 (due set d acks))
 
     -- with a save or replay under way d validates if all others have replied, and else sends its INV again
     abbrev pub finish : Bool → List Entry
-    finish true = by d (validate i) ∷ tell (length (g .log))
-    finish false = by d (resend i) ∷ ask (length (g .log)) (at d .acks)
+    finish true = by d (validate i) ∷ vals (length (g .log))
+    finish false = by d (resend i) ∷ round (length (g .log)) (at d .acks)
 
     -- by the state of d; what leaves d first is the log's next message
     abbrev pub drive : State → List Entry
-    drive Valid = by d (resend i) ∷ tell (length (g .log))
-    drive Invalid = by d (replay i) ∷ ask (length (g .log)) 0
-    drive InvalidWrite = by d (replay i) ∷ ask (length (g .log)) 0
+    drive Valid = by d (resend i) ∷ vals (length (g .log))
+    drive Invalid = by d (replay i) ∷ round (length (g .log)) 0
+    drive InvalidWrite = by d (replay i) ∷ round (length (g .log)) 0
     drive Write = finish (othersIn d set (at d .acks))
     drive Replay = finish (othersIn d set (at d .acks))
 
