@@ -26,8 +26,8 @@ use Rattle.hermes.specs.Node.{recordOf}
 use Rattle.hermes.specs.Run as run
 use Rattle.hermes.specs.Run.{Action, Entry, by, Group, advance}
 use Rattle.hermes.specs.Settling.{Helps}
-use Rattle.hermes.specs.Recipe.{Choice, nobody, laptop, orElse, first, each, underWay, isValid, isInvalid, other, due, leads, allShow, goesOn, saysAgain, takesOver, driver, late, tell, ask, finish, drive, driven, recipe}
-use Rattle.hermes_record.proofs.Tests.{both, and-both, is-false, implied}
+use Rattle.hermes.specs.Recipe.{Choice, nobody, laptop, orElse, first, each, underWay, isValid, isInvalid, other, due, leads, allShow, goesOn, saysAgain, takesOver, driver, late, vals, round, finish, drive, driven, recipe}
+use Rattle.hermes_record.proofs.Tests.{both, and-both, either, is-false, implied, or-true}
 use Rattle.hermes.proofs.Members.{Has, has-small, has-zero, all-at, all-of, others-members}
 use Rattle.hermes_record.proofs.Order.{notAfter-refl, notAfter-trans, notAfter-antisym, notAfter-total, not-later}
 use Rattle.hermes.proofs.Words.{is-state, state-is, Two, count-le, count-without, size-two}
@@ -84,7 +84,7 @@ module _ (wins : ℕ → ℕ → Bool) (set i : ℕ) (g : Group) (d : ℕ) where
   drive-under-way state.Write h = refl
   drive-under-way state.Replay h = refl
 
-  drive-invalid : (s : State) → oneOf s (state.Invalid ∷ state.InvalidWrite ∷ []) ≡ true → drive wins set i g d s ≡ by d (run.replay i) ∷ ask wins set i g d (length (g .log)) 0
+  drive-invalid : (s : State) → oneOf s (state.Invalid ∷ state.InvalidWrite ∷ []) ≡ true → drive wins set i g d s ≡ by d (run.replay i) ∷ round wins set i g d (length (g .log)) 0
   drive-invalid state.Valid h = absurd (false≢true h)
   drive-invalid state.Invalid h = refl
   drive-invalid state.InvalidWrite h = refl
@@ -104,17 +104,17 @@ module _ (wins : ℕ → ℕ → Bool) (set i : ℕ) (g : Group) (d : ℕ) (hd :
   late-size : countBelow 16 (late wins set i g d) ≤ countBelow 16 (other set d)
   late-size = count-le 16 (late wins set i g d) (other set d) (λ u h. both (other set d u) _ h .0)
 
-  tell-length : (k : ℕ) → length (tell wins set i g d k) ≤ countBelow 16 (other set d)
-  tell-length k = rw (each-length 16 (late wins set i g d) (λ u. by u (run.deliver k))) late-size
+  vals-length : (k : ℕ) → length (vals wins set i g d k) ≤ countBelow 16 (other set d)
+  vals-length k = rw (each-length 16 (late wins set i g d) (λ u. by u (run.deliver k))) late-size
 
-  ask-length : (k acks : ℕ) → length (ask wins set i g d k acks) ≤ countBelow 16 (other set d) + countBelow 16 (other set d) + countBelow 16 (other set d)
-  ask-length k acks = rw (
-    length-append _ (tell wins set i g d (k + 1 + countBelow 16 (due set d acks))),
+  round-length : (k acks : ℕ) → length (round wins set i g d k acks) ≤ countBelow 16 (other set d) + countBelow 16 (other set d) + countBelow 16 (other set d)
+  round-length k acks = rw (
+    length-append _ (vals wins set i g d (k + 1 + countBelow 16 (due set d acks))),
     length-append (each 16 (due set d acks) (λ u. by u (run.deliver k))) _,
     each-length 16 (due set d acks) (λ u. by u (run.deliver k)),
     each-length 16 (due set d acks) (λ u. by d (run.deliver (k + 1 + countBelow u (due set d acks)))),
   )
-      (omega (arith, due-size acks, tell-length (k + 1 + countBelow 16 (due set d acks))))
+      (omega (arith, due-size acks, vals-length (k + 1 + countBelow 16 (due set d acks))))
 
   -- somebody else is in a set of two, and nobody has yet answered
   not-alone : leb 2 (size set) ≡ true → othersIn d set 0 ≡ false
@@ -243,10 +243,10 @@ module _ (T : Task) (inside : T .i < T .count) (ord : TieOrder (T .wins)) (g : G
       by-asking : (what : Action) (s : Step) → Helps i old (g .log) what → Did T g (by d what) s
           → s .after .timestamp ≡ M → s .after .written ≡ M → underWay (s .after) ≡ true → s .sent ≡ send (self T d) i (Inv M)
           → ((u : ℕ) → Has set u → Has (s .after .acks) u → r u .timestamp ≡ M) → othersIn d set (s .after .acks) ≡ false
-          → Wins (by d what ∷ ask wins set i g d (length (g .log)) (s .after .acks))
+          → Wins (by d what ∷ round wins set i g d (length (g .log)) (s .after .acks))
       by-asking what s k D t t′ c q counted n = record {
         plays = next T (one T g (by d what) hd k (D .accepted) start) (λ f p. asks T inside ord d hd M low lateOf lates (length (g .log)) (s .after .acks) (s .after) f p refl c t t′ n);
-        few = omega (arith, others-size wins set i g d hd, ask-length wins set i g d hd (length (g .log)) (s .after .acks));
+        few = omega (arith, others-size wins set i g d hd, round-length wins set i g d hd (length (g .log)) (s .after .acks));
       }
         where
           now : ℕ → Record
@@ -275,10 +275,10 @@ module _ (T : Task) (inside : T .i < T .count) (ord : TieOrder (T .wins)) (g : G
       -- after one entry of d, which leaves it valid at M, as all others hold M, and by which its VAL leaves
       by-telling : (what : Action) (s : Step) → Helps i old (g .log) what → Did T g (by d what) s
           → s .after .timestamp ≡ M → s .after .state ≡ state.Valid → s .sent ≡ send (self T d) i (Val M)
-          → ((u : ℕ) → Has set u → r u .timestamp ≡ M) → Wins (by d what ∷ tell wins set i g d (length (g .log)))
+          → ((u : ℕ) → Has set u → r u .timestamp ≡ M) → Wins (by d what ∷ vals wins set i g d (length (g .log)))
       by-telling what s k D t v q all = record {
         plays = next T (one T g (by d what) hd k (D .accepted) start) (tells T inside ord d hd M low lateOf lates (length (g .log)));
-        few = omega (arith, others-size wins set i g d hd, tell-length wins set i g d hd (length (g .log)));
+        few = omega (arith, others-size wins set i g d hd, vals-length wins set i g d hd (length (g .log)));
       }
         where
           now : ℕ → Record
@@ -339,6 +339,18 @@ module _ (T : Task) (inside : T .i < T .count) (ord : TieOrder (T .wins)) (g : G
           two : leb 2 (size set) ≡ true
           two = subst (λ (x : ℕ). leb 2 (size x) ≡ true) (o .alive .live d hd .view) (both (leb (g .at d .me .number) 15) (leb 2 (size (g .at d .me .view))) (o .alive .live d hd .sound .first) .1)
 
+    -- whichever drives
+    pub by-driver : (d : ℕ) → (goesOn wins set i g d || (saysAgain wins set i g d || takesOver wins set i g d)) ≡ true → Wins (drive wins set i g d (r d .state))
+    by-driver d h = go (either (goesOn wins set i g d) _ h)
+      where
+        last : (saysAgain wins set i g d ≡ true) ⊎ (takesOver wins set i g d ≡ true) → Wins (drive wins set i g d (r d .state))
+        last (inl z) = let (p, q) = both (leads wins set i g d) _ z in let (k, t) = leads-yes d p in let (v, w) = both (isValid (r d)) (eqb (r d .writer) d) q in writer d k t v (eqb-true _ _ w)
+        last (inr z) = let (p, q) = both (leads wins set i g d) _ z in let (k, t) = leads-yes d p in let (v, w) = both (isInvalid (r d)) (not (has set (r d .writer))) q in waiting d k t v (not-true _ w)
+
+        go : (goesOn wins set i g d ≡ true) ⊎ ((saysAgain wins set i g d || takesOver wins set i g d) ≡ true) → Wins (drive wins set i g d (r d .state))
+        go (inl z) = let (p, q) = both (leads wins set i g d) (underWay (r d)) z in let (k, t) = leads-yes d p in working d k t q
+        go (inr z) = last (either (saysAgain wins set i g d) _ z)
+
     -- ---- there is a driver, or all is done
     -- nobody who leads has a save or replay under way, or is valid and its own last writer: so the last writer of who leads is not in the view
     gone : ((u : ℕ) → u < 16 → goesOn wins set i g u ≡ false) → ((u : ℕ) → u < 16 → saysAgain wins set i g u ≡ false) → (d : ℕ) → Has set d → r d .timestamp ≡ M → has set (r d .writer) ≡ false
@@ -363,27 +375,28 @@ module _ (T : Task) (inside : T .i < T .count) (ord : TieOrder (T .wins)) (g : G
     unfolding recipe allShow driver
     by-recipe = go (allShow wins set i g) refl
       where
-        -- none of the three: all who lead show the record valid, so all hold M
-        rest : ((u : ℕ) → u < 16 → goesOn wins set i g u ≡ false) → ((u : ℕ) → u < 16 → takesOver wins set i g u ≡ false) → (u : ℕ) → Has set u → r u .state ≡ state.Valid
-        rest a c u h = shows u h (all u h)
+        -- nobody can drive: all who lead show the record valid, so all hold M
+        rest : ((u : ℕ) → u < 16 → goesOn wins set i g u ≡ false) → ((u : ℕ) → u < 16 → saysAgain wins set i g u ≡ false) → ((u : ℕ) → u < 16 → takesOver wins set i g u ≡ false)
+            → (u : ℕ) → Has set u → r u .state ≡ state.Valid
+        rest a b c u h = shows u h (all u h)
           where
             shows : (v : ℕ) → Has set v → r v .timestamp ≡ M → r v .state ≡ state.Valid
             shows v k t = valid-else (r v) (is-false (underWay (r v)) (λ z. false≢true (sym (a v (has-small set v k)) ∙ and-both (leads wins set i g v) (underWay (r v)) (yes-leads v k t) z)))
-                (is-false (isInvalid (r v)) (λ z. false≢true (sym (c v (has-small set v k)) ∙ and-both (leads wins set i g v) (isInvalid (r v)) (yes-leads v k t) z)))
+                (is-false (isInvalid (r v)) (λ z. false≢true (sym (c v (has-small set v k)) ∙ and-both (leads wins set i g v) _ (yes-leads v k t) (rw (z, gone a b v k t)))))
 
             all : (v : ℕ) → Has set v → r v .timestamp ≡ M
             all v k = at-most v k (subst (λ (t : Timestamp). NotAfter wins t (r v .timestamp)) held (o .settled holder v hh k (state-is _ state.Valid (shows holder hh held))))
 
         third : ((u : ℕ) → u < 16 → goesOn wins set i g u ≡ false) → ((u : ℕ) → u < 16 → saysAgain wins set i g u ≡ false) → (c : Choice) → Picked 16 (takesOver wins set i g) c → Wins (driven wins set i g c)
-        third a b c (some d h e) = rw e (let (p, q) = both (leads wins set i g d) (isInvalid (r d)) h in let (k, t) = leads-yes d p in waiting d k t q (gone a b d k t))
-        third a b c (none-of f e) = rw e (all-hold (rest a f))
+        third a b c (some d h e) = rw e (by-driver d (rw (h, or-true (saysAgain wins set i g d), or-true (goesOn wins set i g d))))
+        third a b c (none-of f e) = rw e (all-hold (rest a b f))
 
         second : ((u : ℕ) → u < 16 → goesOn wins set i g u ≡ false) → (c : Choice) → Picked 16 (saysAgain wins set i g) c → Wins (driven wins set i g (orElse c (first 16 (takesOver wins set i g))))
-        second a c (some d h e) = rw e (let (p, q) = both (leads wins set i g d) _ h in let (k, t) = leads-yes d p in let (v, w) = both (isValid (r d)) (eqb (r d .writer) d) q in writer d k t v (eqb-true _ _ w))
+        second a c (some d h e) = rw e (by-driver d (rw (h, or-true (goesOn wins set i g d))))
         second a c (none-of f e) = rw e (third a f (first 16 (takesOver wins set i g)) (picked 16 (takesOver wins set i g)))
 
         start : (c : Choice) → Picked 16 (goesOn wins set i g) c → Wins (driven wins set i g (orElse c (orElse (first 16 (saysAgain wins set i g)) (first 16 (takesOver wins set i g)))))
-        start c (some d h e) = rw e (let (p, q) = both (leads wins set i g d) (underWay (r d)) h in let (k, t) = leads-yes d p in working d k t q)
+        start c (some d h e) = rw e (by-driver d (rw h))
         start c (none-of f e) = rw e (second f (first 16 (saysAgain wins set i g)) (picked 16 (saysAgain wins set i g)))
 
         go : (b : Bool) → allShow wins set i g ≡ b → Wins (cond b [] (driven wins set i g (driver wins set i g)))

@@ -2,7 +2,7 @@
 -- starts from, and the text at the end is what the holder had.
 use Prim.Native.Nat.{ℕ, _<_}
 use mathlib.Core.Path.{_≡_, refl, sym, ap, subst, _∙_}
-use mathlib.Core.Bool.{Bool, true}
+use mathlib.Core.Bool.{Bool, true, _||_}
 use mathlib.Core.Logic.{_⊎_, inl, inr}
 use mathlib.Core.List.{List, [], _∷_}
 use native.Mathlib.Omega.{arith}
@@ -15,7 +15,7 @@ use Rattle.hermes.specs.Run.{Action, Entry, Group, Logged, advance, run}
 use Rattle.hermes.specs.Agreement.{AsIssued, Entries}
 use Rattle.hermes.specs.Reads.{Sound}
 use Rattle.hermes.specs.Settling.{Helps, AllHelp, Settled, Gathered, SettlingAny, Settling}
-use Rattle.hermes.specs.Recipe.{recipe, RecipeSettles}
+use Rattle.hermes.specs.Recipe.{goesOn, saysAgain, takesOver, drive, recipe, RecipeSettles, AnyDriverSettles}
 use Rattle.hermes_record.proofs.Order.{higher-order}
 use Rattle.hermes.proofs.Members.{Has, has-small}
 use Rattle.hermes.proofs.Protocol.{Copy, Booked}
@@ -24,7 +24,7 @@ use Rattle.hermes.proofs.Refine.{Cell, setting, copy}
 use Rattle.hermes.proofs.Agreement.{Ok, copies, copies-member, start-ok, run-ok, run-cells}
 use Rattle.hermes.proofs.Sound.{stay-sound}
 use Rattle.hermes.proofs.Progress.{Task}
-use Rattle.hermes.proofs.Driver.{Behind, Outset, Top, top, Wins, by-recipe}
+use Rattle.hermes.proofs.Driver.{Behind, Outset, Top, top, Wins, by-driver, by-recipe}
 
 -- ---- a list that helps is a list of entries of the group
 
@@ -85,65 +85,75 @@ module _ (wins : ℕ → ℕ → Bool) (ord : TieOrder wins) (member : ℕ → B
         subst (λ (c : Copy Cell). (c .valid ≡ true) ⊎ (c .coordinates ≡ true)) q z,
       )
 
-  -- ---- the recipe, and the text
+  -- ---- the driver's list, and the text
 
-  -- m is somebody in the view
-  settles : (m : ℕ) → Has set m → Settled wins set i g (recipe wins set i g)
-  settles m hm = record {
-    few = omega (arith, w .few);
-    help = w .plays .help;
-    holder = t .who;
-    held = t .seen;
-    greatest = most;
-    shown = λ u h. (w .plays .then u h .0, record { timestamps = w .plays .then u h .1; lengths = ap (λ (c : Cell). c .len) (cell u h); bytes = ap (λ (c : Cell). c .bytes) (cell u h) });
-  }
-    where
-      t : Top task g 16
-      t = top task inside ord g m hm 16
+  -- m is somebody in the view; the greatest timestamp is that of the first who holds it
+  module _ (m : ℕ) (hm : Has set m) where
+    abbrev t : Top task g 16
+    t = top task inside ord g m hm 16
 
-      M : Timestamp
-      M = recordOf i (g .at (t .who)) .timestamp
+    abbrev M : Timestamp
+    M = recordOf i (g .at (t .who)) .timestamp
 
-      most : (u : ℕ) → Has set u → NotAfter wins (recordOf i (g .at u) .timestamp) M
-      most u h = t .most u (has-small set u h) h
+    most : (u : ℕ) → Has set u → NotAfter wins (recordOf i (g .at u) .timestamp) M
+    most u h = t .most u (has-small set u h) h
 
-      w : Wins task inside ord g outset M (t .who) (t .seen) refl most (recipe wins set i g)
-      w = by-recipe task inside ord g outset M (t .who) (t .seen) refl most
+    settles : (entries : List Entry) → Wins task inside ord g outset M (t .who) (t .seen) refl most entries → Settled wins set i g entries
+    settles entries w = record {
+      few = omega (arith, w .few);
+      help = w .plays .help;
+      holder = t .who;
+      held = t .seen;
+      greatest = most;
+      shown = λ u h. (w .plays .then u h .0, record { timestamps = w .plays .then u h .1; lengths = ap (λ (c : Cell). c .len) (cell u h); bytes = ap (λ (c : Cell). c .bytes) (cell u h) });
+    }
+      where
+        end : Group
+        end = run wins g entries
 
-      end : Group
-      end = run wins g (recipe wins set i g)
+        theirs : Entries member issued entries
+        theirs = are-entries wins member issued set i (length (g .log)) (λ u h. gathered u h .0) g entries (w .plays .help)
 
-      theirs : Entries member issued (recipe wins set i g)
-      theirs = are-entries wins member issued set i (length (g .log)) (λ u h. gathered u h .0) g (recipe wins set i g) (w .plays .help)
+        ok2 : Ok wins ord member count issued end
+        ok2 = run-ok wins ord member count issued g ok entries theirs
 
-      ok2 : Ok wins ord member count issued end
-      ok2 = run-ok wins ord member count issued g ok (recipe wins set i g) theirs
+        last : ℕ → Copy Cell
+        last = copies wins ord member count issued i end
 
-      last : ℕ → Copy Cell
-      last = copies wins ord member count issued i end
+        copy-end : (u : ℕ) → Has set u → last u ≡ copy i (end .at u)
+        copy-end u h = copies-member wins ord member count issued i end u (gathered u h .0)
 
-      copy-end : (u : ℕ) → Has set u → last u ≡ copy i (end .at u)
-      copy-end u h = copies-member wins ord member count issued i end u (gathered u h .0)
+        -- the text of M at the end is the text of M at the outset
+        cell : (u : ℕ) → Has set u → copy i (end .at u) .cell ≡ copy i (g .at (t .who)) .cell
+        cell u h =
+            sym (ap (λ (c : Copy Cell). c .cell) (copy-end u h)) ∙ b u .entered ∙ ap (ok2 .holds i inside .book) (stamp u h ∙ sym (stamp (t .who) (t .seen))) ∙ sym (b (t .who) .entered)
+            ∙ run-cells wins ord member count issued g ok entries theirs i (t .who) (stamp (t .who) (t .seen) ∙ sym (ap (λ (c : Copy Cell). c .timestamp) (seen (t .who) (t .seen))))
+            ∙ ap (λ (c : Copy Cell). c .cell) (seen (t .who) (t .seen))
+          where
+            b : (u : ℕ) → Booked (setting wins issued) (λ m. last m .timestamp) (ok2 .holds i inside .book) (last u .timestamp) (last u .cell)
+            b u = ok2 .holds i inside .copies u .booked
 
-      -- the text of M at the end is the text of M at the outset
-      cell : (u : ℕ) → Has set u → copy i (end .at u) .cell ≡ copy i (g .at (t .who)) .cell
-      cell u h =
-          sym (ap (λ (c : Copy Cell). c .cell) (copy-end u h)) ∙ b u .entered ∙ ap (ok2 .holds i inside .book) (stamp u h ∙ sym (stamp (t .who) (t .seen))) ∙ sym (b (t .who) .entered)
-          ∙ run-cells wins ord member count issued g ok (recipe wins set i g) theirs i (t .who) (stamp (t .who) (t .seen) ∙ sym (ap (λ (c : Copy Cell). c .timestamp) (seen (t .who) (t .seen))))
-          ∙ ap (λ (c : Copy Cell). c .cell) (seen (t .who) (t .seen))
-        where
-          b : (u : ℕ) → Booked (setting wins issued) (λ m. last m .timestamp) (ok2 .holds i inside .book) (last u .timestamp) (last u .cell)
-          b u = ok2 .holds i inside .copies u .booked
+            stamp : (u : ℕ) → Has set u → last u .timestamp ≡ M
+            stamp u h = ap (λ (c : Copy Cell). c .timestamp) (copy-end u h) ∙ w .plays .then u h .1
 
-          stamp : (u : ℕ) → Has set u → last u .timestamp ≡ M
-          stamp u h = ap (λ (c : Copy Cell). c .timestamp) (copy-end u h) ∙ w .plays .then u h .1
+    settled-by-recipe : Settled wins set i g (recipe wins set i g)
+    settled-by-recipe = settles (recipe wins set i g) (by-recipe task inside ord g outset M (t .who) (t .seen) refl most)
+
+    settled-by-driver : (d : ℕ) → (goesOn wins set i g d || (saysAgain wins set i g d || takesOver wins set i g d)) ≡ true → Settled wins set i g (drive wins set i g d (recordOf i (g .at d) .state))
+    settled-by-driver d h = settles (drive wins set i g d (recordOf i (g .at d) .state)) (by-driver task inside ord g outset M (t .who) (t .seen) refl most d h)
 
 -- ---- the theorems
 
 -- the list is the recipe
 pub recipe-settles : RecipeSettles
 recipe-settles wins ord member count issued g s before c i e m inside hm gathered =
-    settles wins ord member count issued (run wins g before) (run-ok wins ord member count issued g (start-ok wins ord member count issued g s) before c)
+    settled-by-recipe wins ord member count issued (run wins g before) (run-ok wins ord member count issued g (start-ok wins ord member count issued g s) before c)
+    (stay-sound wins member count issued g s before c) i e inside gathered m hm
+
+-- or any other driver's
+pub any-driver-settles : AnyDriverSettles
+any-driver-settles wins ord member count issued g s before c i e m inside hm gathered =
+    settled-by-driver wins ord member count issued (run wins g before) (run-ok wins ord member count issued g (start-ok wins ord member count issued g s) before c)
     (stay-sound wins member count issued g s before c) i e inside gathered m hm
 
 -- over every strict total order of ties

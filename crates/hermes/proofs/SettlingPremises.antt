@@ -17,14 +17,14 @@ use Rattle.hermes.specs.Run as run
 use Rattle.hermes.specs.Run.{Action, Entry, Group, Logged, result, advance, run, by}
 use Rattle.hermes.specs.Agreement.{Entries, Shows, Alike, IsAccepted, after}
 use Rattle.hermes.specs.Settling.{Helps, Gathered, AllHelp, Settled}
-use Rattle.hermes.specs.Recipe.{first, each, leads, allShow, driver, recipe}
+use Rattle.hermes.specs.Recipe.{first, each, leads, allShow, goesOn, saysAgain, takesOver, driver, drive, recipe}
 use Rattle.hermes.specs.Played.{three, issued, group, story}
-use Rattle.hermes.specs.SettlingWitness.{lostVal, lostValRecipe, halfTold, halfToldRecipe, deadWinner, deadWinnerRecipe, lostSave, lostSaveRecipe, halfHeard, halfHeardRecipe, vainSave, vainSaveRecipe, Computed, Brings, Only, SettlingWitness}
+use Rattle.hermes.specs.SettlingWitness.{lostVal, lostValRecipe, halfTold, halfToldRecipe, deadWinner, deadWinnerRecipe, deadWinnerByOther, lostSave, lostSaveRecipe, halfHeard, halfHeardRecipe, vainSave, vainSaveRecipe, Computed, Brings, Only, SettlingWitness}
 use Rattle.hermes_record.proofs.Order.{higher-order}
 use Rattle.hermes_record.proofs.Tests.{implied}
 use Rattle.hermes.proofs.Members.{all-at, has-small}
 use Rattle.hermes.proofs.Agreement.{entries-append}
-use Rattle.hermes.proofs.Settling.{recipe-settles}
+use Rattle.hermes.proofs.Settling.{recipe-settles, any-driver-settles}
 use Rattle.hermes.proofs.Tight.{tight}
 use Rattle.hermes.proofs.Premises.{started, story-entries}
 
@@ -161,15 +161,28 @@ brings {before} {e} {list} c x = record {
   settled = subst (Settled higher (issued e) 0 (run higher group before)) (x .gives) (recipe-settles higher higher-order three 1 issued group started before c 0 e 0 (omega arith) (zero-in e) (x .gathered));
 }
 
+-- 1 takes the dead winner's save over
+by-other : drive higher (issued 1) 0 (run higher group deadWinner) 1 (recordOf 0 (run higher group deadWinner .at 1) .state) ≡ deadWinnerByOther
+unfolding result advance apply effect refusal start has size lowest within othersIn with padded place later sameTimestamp view viewed first each leads allShow driver recipe
+by-other = refl
+
+may-drive : (goesOn higher (issued 1) 0 (run higher group deadWinner) 1 || (saysAgain higher (issued 1) 0 (run higher group deadWinner) 1 || takesOver higher (issued 1) 0 (run higher group deadWinner) 1)) ≡ true
+unfolding result advance apply effect refusal start has size lowest within othersIn with padded place later sameTimestamp view viewed first each leads allShow driver recipe
+may-drive = refl
+
+dead-entries : Entries three issued deadWinner
+dead-entries = (refl, tt, (refl, tt, (refl, tt, (refl, tt, (refl, tt, (refl, tt, (refl, refl, (refl, refl, tt))))))))
+
 pub settling-witness : SettlingWitness
 settling-witness = record {
   lost = brings (refl, tt, (refl, tt, (refl, tt, (refl, tt, (refl, tt, (refl, tt, tt)))))) lost;
-  dead = brings (refl, tt, (refl, tt, (refl, tt, (refl, tt, (refl, tt, (refl, tt, (refl, refl, (refl, refl, tt)))))))) dead;
+  dead = brings dead-entries dead;
   unheard = brings (refl, tt, tt) unheard;
   vain = brings (refl, tt, (refl, tt, (refl, tt, (refl, refl, (refl, refl, tt))))) vain;
   fresh = brings tt fresh;
   told = brings (refl, tt, (refl, tt, (refl, tt, (refl, tt, (refl, tt, (refl, tt, (refl, tt, tt))))))) told;
   heard = brings (refl, tt, (refl, tt, (refl, tt, tt))) heard;
+  other = (by-other, subst (Settled higher (issued 1) 0 (run higher group deadWinner)) by-other (any-driver-settles higher higher-order three 1 issued group started deadWinner dead-entries 0 1 0 (omega arith) (zero-in 1) (dead .gathered) 1 may-drive));
   reachedByTwo = unfold size has in refl;
   reachedByThree = unfold size has in refl;
   noFewer = no-fewer;

@@ -204,4 +204,4 @@ module _ (wins : ℕ → ℕ → Bool) (ord : TieOrder wins) (member : ℕ → B
 
 -- the bound 3k − 2 cannot be bettered
 pub tight : Tight
-tight wins ord member count issued g s all i d v inside hd ok entries h shown = bound wins ord member count issued g s all i d v inside hd ok entries h shown
+tight wins ord member count issued g s all i d v inside hd ok entries h shown = omega (arith, bound wins ord member count issued g s all i d v inside hd ok entries h shown)

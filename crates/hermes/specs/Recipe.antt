@@ -2,6 +2,7 @@
 -- greatest timestamp one drives. Its INV goes to those that have not replied, their ACKs come back, and its VAL goes to those that do not show
 -- that timestamp yet.
 use Prim.Native.Nat.{ℕ, zero, suc, _+_}
+use mathlib.Core.Path.{_≡_}
 use mathlib.Core.Bool.{Bool, true, false, cond, not, _&&_, _||_}
 use mathlib.Core.List.{List, [], _∷_, _++_}
 use lib.Dec.{eqb}
@@ -82,9 +83,9 @@ module _ (wins : ℕ → ℕ → Bool) (set i : ℕ) (g : Group) where
   saysAgain u = leads u && (isValid (at u) && eqb (at u .writer) u)
 
   abbrev pub takesOver : ℕ → Bool
-  takesOver u = leads u && isInvalid (at u)
+  takesOver u = leads u && (isInvalid (at u) && not (has set (at u .writer)))
 
-  -- in that order: who takes over has then a last writer that is not in the view
+  -- the lowest number, in that order
   unfoldable pub driver : Choice
   driver = orElse (first 16 goesOn) (orElse (first 16 saysAgain) (first 16 takesOver))
 
@@ -94,26 +95,26 @@ module _ (wins : ℕ → ℕ → Bool) (set i : ℕ) (g : Group) where
     late u = other set d u && not (leads u && isValid (at u))
 
     -- message k, d's VAL, goes to them
-    abbrev pub tell : ℕ → List Entry
-    tell k = each 16 late (λ u. by u (deliver k))
+    abbrev pub vals : ℕ → List Entry
+    vals k = each 16 late (λ u. by u (deliver k))
 
     -- message k, d's INV, goes to those that have not replied, and their ACKs come back, numbered as they left; with the last of them the VAL leaves
-    abbrev pub ask : (k acks : ℕ) → List Entry
-    ask k acks =
+    abbrev pub round : (k acks : ℕ) → List Entry
+    round k acks =
         each 16 (due set d acks) (λ u. by u (deliver k))
         ++ each 16 (due set d acks) (λ u. by d (deliver (k + 1 + countBelow u (due set d acks))))
-        ++ tell (k + 1 + countBelow 16 (due set d acks))
+        ++ vals (k + 1 + countBelow 16 (due set d acks))
 
     -- with a save or replay under way d validates if all others have replied, and else sends its INV again
     abbrev pub finish : Bool → List Entry
-    finish true = by d (validate i) ∷ tell (length (g .log))
-    finish false = by d (resend i) ∷ ask (length (g .log)) (at d .acks)
+    finish true = by d (validate i) ∷ vals (length (g .log))
+    finish false = by d (resend i) ∷ round (length (g .log)) (at d .acks)
 
     -- by the state of d; what leaves d first is the log's next message
     abbrev pub drive : State → List Entry
-    drive Valid = by d (resend i) ∷ tell (length (g .log))
-    drive Invalid = by d (replay i) ∷ ask (length (g .log)) 0
-    drive InvalidWrite = by d (replay i) ∷ ask (length (g .log)) 0
+    drive Valid = by d (resend i) ∷ vals (length (g .log))
+    drive Invalid = by d (replay i) ∷ round (length (g .log)) 0
+    drive InvalidWrite = by d (replay i) ∷ round (length (g .log)) 0
     drive Write = finish (othersIn d set (at d .acks))
     drive Replay = finish (othersIn d set (at d .acks))
 
@@ -124,6 +125,11 @@ module _ (wins : ℕ → ℕ → Bool) (set i : ℕ) (g : Group) where
   unfoldable pub recipe : List Entry
   recipe = cond allShow [] (driven driver)
 
--- it settles the record, so that the list of `Settling` can be computed; `proofs/Settling` proves it
+-- it settles the record, so that the list of `Settling` can be computed
 abbrev pub RecipeSettles : Type 0
 RecipeSettles = (wins : ℕ → ℕ → Bool) → TieOrder wins → FromEvery wins (λ set i g. Settled wins set i g (recipe wins set i g))
+
+-- and so does any other driver's list; `proofs/Settling` proves both
+abbrev pub AnyDriverSettles : Type 0
+AnyDriverSettles = (wins : ℕ → ℕ → Bool) → TieOrder wins → FromEvery wins (λ set i g. (d : ℕ)
+    → (goesOn wins set i g d || (saysAgain wins set i g d || takesOver wins set i g d)) ≡ true → Settled wins set i g (drive wins set i g d (recordOf i (g .at d) .state)))

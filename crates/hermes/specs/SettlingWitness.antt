@@ -8,11 +8,11 @@ use mathlib.Core.List.{List, [], _∷_, _++_, List·Memᴰ}
 use lib.ListN.{length, take}
 use Rattle.hermes_record.specs.Members.{has, size}
 use Rattle.hermes_record.specs.Order.{higher}
-use Rattle.hermes.specs.Node.{valueOf}
+use Rattle.hermes.specs.Node.{recordOf, valueOf}
 use Rattle.hermes.specs.Run.{write, replay, deliver, validate, resend, view, Entry, by, Group, run}
 use Rattle.hermes.specs.Agreement.{Entries, Shows, Alike, after}
 use Rattle.hermes.specs.Settling.{Gathered, AllHelp, Settled}
-use Rattle.hermes.specs.Recipe.{recipe}
+use Rattle.hermes.specs.Recipe.{drive, recipe}
 use Rattle.hermes.specs.Played.{three, issued, group, story}
 
 -- ---- situations, and what the recipe gives there; messages are numbered as they leave
@@ -32,6 +32,10 @@ deadWinner = lostVal ++ by 0 (view 1 3) ∷ by 1 (view 1 3) ∷ []
 -- 0 gives its own save up and replays 2's: INV 5, ACK 6, VAL 7
 abbrev pub deadWinnerRecipe : List Entry
 deadWinnerRecipe = by 0 (replay 0) ∷ by 1 (deliver 5) ∷ by 0 (deliver 6) ∷ by 1 (deliver 7) ∷ []
+
+-- or 1 does
+abbrev pub deadWinnerByOther : List Entry
+deadWinnerByOther = by 1 (replay 0) ∷ by 0 (deliver 5) ∷ by 1 (deliver 6) ∷ by 0 (deliver 7) ∷ []
 
 -- `lostVal`, but the VAL reaches 1: the next one goes to 0 alone
 abbrev pub halfTold : List Entry
@@ -92,6 +96,9 @@ pub record SettlingWitness : Type 0 where
   -- no message goes where it would be refused: no VAL to who shows the record, no INV to who is counted
   pub told : Brings halfTold 0 halfToldRecipe (66 ∷ 50 ∷ [])
   pub heard : Brings halfHeard 0 halfHeardRecipe (65 ∷ 48 ∷ [])
+  -- another driver than the recipe's
+  pub other : (drive higher (issued 1) 0 (run higher group deadWinner) 1 (recordOf 0 (run higher group deadWinner .at 1) .state) ≡ deadWinnerByOther)
+      × Settled higher (issued 1) 0 (run higher group deadWinner) deadWinnerByOther
   -- 3k − 2 is reached, with two laptops and with three
   pub reachedByTwo : length deadWinnerRecipe + 2 ≡ 3 * size (issued 1)
   pub reachedByThree : length lostSaveRecipe + 2 ≡ 3 * size (issued 0)

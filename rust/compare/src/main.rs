@@ -32,7 +32,7 @@ const PARTS: [(&str, Part); 9] = [
     }),
     ("settling", |settings| {
         shown(
-            settling::compare(settings, settle::recipe),
+            settling::compare(settings, settling::Rules::RIGHT),
             ToString::to_string,
         )
     }),

@@ -29,7 +29,7 @@ fn groups_by_packet() {
     match group::compare(&settings, by_packet, on_table) {
         Ok(tally) => {
             // 02, Wish 2: replays from invalid-write, whose INVs come in packets, and what
-            // comes back. 1,179, 278 and 109 were counted.
+            // comes back. 1,229, 255 and 131 were counted.
             for (name, floor) in [
                 ("Replay at InvalidWrite", 800),
                 ("given up: the last Ack, Valid", 120),

@@ -55,7 +55,7 @@ const NAMES: [&str; 44] = [
     "valid pairs",
 ];
 
-/// Document 02, Wish 2, more often: 1,179 replays from invalid-write, and what
+/// Document 02, Wish 2, more often: 1,229 replays from invalid-write, and what
 /// became of them and of the saves that they gave up, were counted.
 const MANY: [(&str, u64); 7] = [
     ("Replay at Invalid answers 16", 8000),

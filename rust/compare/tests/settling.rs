@@ -1,12 +1,12 @@
 //! Document 02, Wish 3: from any situation a record settles by at most 3k - 2
-//! events, and by no fewer in the worst.
+//! events, whoever drives of those that can, and by no fewer in the worst.
 
 use std::collections::HashSet;
 
 use cetskobi::{Laptop, Leaving, State, Timestamp};
 use compare::settings::Settings;
-use compare::settling::{compare, Kind, Recipe, Tally};
-use settle::{by_hand, by_packet, driver, follow, held, recipe, steps};
+use compare::settling::{compare, Kind, Rules, Tally};
+use settle::{by_hand, by_packet, driver, drivers, follow, held, recipe, steps};
 use settle::{Event, Held, Step};
 
 /// How the list begins, the views of how many laptops that can be so at, and how
@@ -24,6 +24,30 @@ const KINDS: [(Kind, std::ops::RangeInclusive<usize>, u64); 7] = [
 
 /// Two views came: of 14 laptops at most, and rare in such.
 const VALIDATE_AT_REPLAY: u64 = 300;
+
+/// How the recipe's list begins, how that of another driver does, and how often it
+/// came, at least. No others come: beside a write nobody else can drive, and what
+/// is valid on all can only be said again.
+const OTHERS: [(Kind, Kind, u64); 18] = [
+    (Kind::Nothing, Kind::ResendAtValid, 100_000),
+    (Kind::ResendAtReplay, Kind::ResendAtReplay, 800),
+    (Kind::ResendAtReplay, Kind::ValidateAtReplay, 30),
+    (Kind::ResendAtReplay, Kind::ResendAtValid, 200),
+    (Kind::ResendAtReplay, Kind::ReplayAtInvalid, 3000),
+    (Kind::ResendAtReplay, Kind::ReplayAtInvalidWrite, 500),
+    (Kind::ValidateAtReplay, Kind::ResendAtReplay, 80),
+    (Kind::ValidateAtReplay, Kind::ValidateAtReplay, 10),
+    (Kind::ValidateAtReplay, Kind::ResendAtValid, 15),
+    (Kind::ValidateAtReplay, Kind::ReplayAtInvalid, 100),
+    (Kind::ValidateAtReplay, Kind::ReplayAtInvalidWrite, 20),
+    (Kind::ResendAtValid, Kind::ResendAtValid, 5),
+    (Kind::ResendAtValid, Kind::ReplayAtInvalid, 150),
+    (Kind::ResendAtValid, Kind::ReplayAtInvalidWrite, 20),
+    (Kind::ReplayAtInvalid, Kind::ReplayAtInvalid, 30_000),
+    (Kind::ReplayAtInvalid, Kind::ReplayAtInvalidWrite, 3000),
+    (Kind::ReplayAtInvalidWrite, Kind::ReplayAtInvalid, 3000),
+    (Kind::ReplayAtInvalidWrite, Kind::ReplayAtInvalidWrite, 800),
+];
 
 fn often(tally: &Tally) {
     for (kind, sizes, floor) in KINDS {
@@ -45,12 +69,29 @@ fn often(tally: &Tally) {
         );
     }
     assert!(tally.outside > 0 && tally.late > 0);
+
+    let mut beside = tally.beside();
+    for (recipe, other, floor) in OTHERS {
+        let times = beside.remove(&(recipe, other)).unwrap_or(0);
+        assert!(
+            times >= floor,
+            "{other:?} beside {recipe:?}: only {times} times"
+        );
+    }
+    assert!(beside.is_empty(), "{beside:?}");
+    // Somebody was struck off before.
+    for k in 2..=15 {
+        assert!(
+            tally.others_with(k) > 0,
+            "no other drivers with {k} laptops"
+        );
+    }
 }
 
 #[test]
 fn random_situations() {
     let settings = Settings::from_env();
-    match compare(&settings, recipe) {
+    match compare(&settings, Rules::RIGHT) {
         Ok(tally) => {
             println!("{tally}");
             often(&tally);
@@ -174,54 +215,130 @@ fn no_shorter_list_settles() {
     }
 }
 
-/// A wrong recipe is found, by what this says, after so few entries.
-fn caught(wrong: Recipe, says: &str, entries: usize) {
-    let found = compare(&Settings::USUAL, wrong).expect_err("it is wrong");
+/// Wrong rules are found, by what this says, after so few entries.
+fn caught(wrong: Rules, says: &str, entries: usize) {
+    let found = compare(&Settings::USUAL, wrong).expect_err("they are wrong");
     println!("{found}");
     assert!(found.what.contains(says), "{says}");
     assert!(found.shrunk.run.entries.len() <= entries);
 }
 
-fn latest(held: &[Held]) -> Option<Timestamp> {
-    held.iter().map(|(_, r)| r.timestamp).max()
+/// The recipe is wrong.
+fn lists(recipe: fn(&[Held]) -> Option<Vec<Step>>) -> Rules {
+    let drivers = Rules::RIGHT.drivers;
+    Rules { recipe, drivers }
+}
+
+/// The other drivers are wrong.
+fn driven(drivers: fn(&[Held]) -> Vec<Step>) -> Rules {
+    let recipe = Rules::RIGHT.recipe;
+    Rules { recipe, drivers }
 }
 
 fn all_valid(held: &[Held]) -> bool {
     held.iter().all(|(_, r)| r.state == State::Valid)
 }
 
+/// All that hold the latest timestamp in such a state, by this event.
+fn holders(held: &[Held], event: Event, fits: fn(State) -> bool) -> Vec<Step> {
+    let latest = held.iter().map(|(_, r)| r.timestamp).max();
+    let holders = held.iter().filter(|(_, r)| Some(r.timestamp) == latest);
+    let fit = holders.filter(|(_, r)| fits(r.state));
+    fit.map(|(at, _)| Step { at: *at, event }).collect()
+}
+
+fn waits(state: State) -> bool {
+    matches!(state, State::Invalid | State::InvalidWrite)
+}
+
 #[test]
 fn the_lowest_holder_in_any_state_is_no_driver() {
     fn wrong(held: &[Held]) -> Option<Vec<Step>> {
-        let latest = latest(held)?;
-        let (at, r) = held.iter().find(|(_, r)| r.timestamp == latest)?;
-        let first = match (driver(held, latest)?, r.state) {
-            _ if all_valid(held) => return recipe(held),
-            (first, _) if first.at == *at => first,
-            (_, State::Invalid | State::InvalidWrite) => Step {
-                at: *at,
-                event: Event::Replay,
-            },
-            _ => Step {
-                at: *at,
-                event: Event::Resend,
-            },
-        };
-        Some(steps(held, latest, first))
+        let replay = holders(held, Event::Replay, waits);
+        let resend = holders(held, Event::Resend, |state| !waits(state));
+        let any = replay.into_iter().chain(resend);
+        let lowest = any.min_by_key(|step| step.at)?;
+        let first = driver(held)?;
+        match all_valid(held) || first.at == lowest.at {
+            true => recipe(held),
+            false => Some(steps(held, lowest)),
+        }
     }
-    caught(wrong, "refused (16)", 2);
+    caught(lists(wrong), "refused (16)", 2);
+}
+
+/// Whoever waits, though the last writer is in the view.
+#[test]
+fn the_living_are_not_taken_over() {
+    fn wrong(held: &[Held]) -> Vec<Step> {
+        let mut drivers = drivers(held);
+        drivers.retain(|step| step.event != Event::Replay);
+        drivers.extend(holders(held, Event::Replay, waits));
+        drivers
+    }
+    caught(driven(wrong), "refused (16)", 2);
+}
+
+/// Whoever shows it, though another was the last writer.
+#[test]
+fn the_last_writer_alone_says_it_again() {
+    fn wrong(held: &[Held]) -> Vec<Step> {
+        let mut drivers = drivers(held);
+        if !all_valid(held) {
+            let valid = |state| state == State::Valid;
+            drivers.extend(holders(held, Event::Resend, valid));
+        }
+        drivers
+    }
+    caught(driven(wrong), "refused (17)", 7);
+}
+
+/// A save or a replay that was overtaken elsewhere.
+#[test]
+fn a_lesser_save_does_not_go_on() {
+    fn wrong(held: &[Held]) -> Vec<Step> {
+        let mut drivers = drivers(held);
+        let under_way = |(_, r): &&Held| matches!(r.state, State::Write | State::Replay);
+        let lesser = held.iter().filter(under_way).map(|(at, _)| *at);
+        let lesser = lesser.filter(|at| drivers.iter().all(|step| step.at != *at));
+        let event = Event::Resend;
+        let lesser: Vec<Step> = lesser.map(|at| Step { at, event }).collect();
+        drivers.extend(lesser);
+        drivers
+    }
+    caught(driven(wrong), "refused (14)", 2);
+}
+
+#[test]
+fn the_recipes_driver_is_one_of_them() {
+    fn wrong(held: &[Held]) -> Vec<Step> {
+        let skipped = usize::from(!all_valid(held));
+        drivers(held).into_iter().skip(skipped).collect()
+    }
+    caught(driven(wrong), "is none of []", 1);
+}
+
+/// The recipe's driver alone.
+#[test]
+fn no_driver_is_left_out() {
+    fn wrong(held: &[Held]) -> Vec<Step> {
+        drivers(held).into_iter().take(1).collect()
+    }
+    caught(driven(wrong), "can drive too", 4);
 }
 
 #[test]
 fn the_earliest_timestamp_is_not_driven() {
     fn wrong(held: &[Held]) -> Option<Vec<Step>> {
-        if all_valid(held) {
-            return recipe(held);
+        let mut reversed = held.to_vec();
+        for (_, r) in &mut reversed {
+            let Timestamp { version, tie } = r.timestamp;
+            r.timestamp.version = u32::MAX - version;
+            r.timestamp.tie = u8::MAX - tie;
         }
-        let earliest = held.iter().map(|(_, r)| r.timestamp).min()?;
-        Some(steps(held, earliest, driver(held, earliest)?))
+        recipe(&reversed)
     }
-    caught(wrong, "refused (14)", 1);
+    caught(lists(wrong), "refused (14)", 1);
 }
 
 #[test]
@@ -233,7 +350,7 @@ fn every_val_is_needed() {
         }
         Some(steps)
     }
-    caught(wrong, "state: Invalid,", 1);
+    caught(lists(wrong), "state: Invalid,", 1);
 }
 
 /// An INV to those that have acknowledged: their second ACK is refused.
@@ -246,7 +363,7 @@ fn acknowledgements_are_not_asked_for_again() {
             .for_each(|(_, r)| r.acks = Default::default());
         recipe(&forgotten)
     }
-    caught(wrong, "refused (13)", 4);
+    caught(lists(wrong), "refused (13)", 4);
 }
 
 /// All that are left have acknowledged: no ACK comes that would settle the record.
@@ -259,7 +376,7 @@ fn a_validation_is_needed() {
         }
         Some(steps)
     }
-    caught(wrong, "state: Invalid,", 4);
+    caught(lists(wrong), "state: Invalid,", 4);
 }
 
 /// One more event than the bound, all accepted.
@@ -271,7 +388,7 @@ fn a_resend_too_many_is_found() {
         steps.extend(first.filter(|_| steps.len() == 3 * held.len() - 2));
         Some(steps)
     }
-    caught(wrong, "too many", 1);
+    caught(lists(wrong), "too many", 1);
 }
 
 /// What all show valid needs no event.
@@ -286,5 +403,5 @@ fn a_valid_record_is_left_alone() {
         last.map(|(at, _)| vec![resend(*at)])
             .or_else(|| recipe(held))
     }
-    caught(wrong, "1 steps", 0);
+    caught(lists(wrong), "1 steps", 0);
 }

@@ -6,9 +6,10 @@
 //! them held, and with the bytes that went with it. All of them are accepted,
 //! and each message that is delivered left one of these very events.
 //!
-//! [`recipe`] gives the list, from what the laptops hold at the outset: that of
-//! `recipe` in crates/hermes/specs/Recipe.antt, of which this is proved. [`follow`]
-//! has the laptops do it. No hut sees what all others hold, so hut
+//! One of the laptops drives. [`recipe`] gives the list, from what they hold at the
+//! outset, and [`follow`] has them do it. It takes the first of the [`drivers`]; any
+//! other settles the record as well. Lists and drivers are those of
+//! crates/hermes/specs/Recipe.antt, of which all this is proved. No hut sees what all others hold, so hut
 //! software gets there by its clocks instead, with more events (docs/GUIDE.md).
 //!
 //! ```
@@ -88,41 +89,78 @@ pub fn recipe(held: &[Held]) -> Option<Vec<Step>> {
     if held.iter().all(|(_, r)| r.state == State::Valid) {
         return Some(Vec::new());
     }
-    let latest = held.iter().map(|(_, r)| r.timestamp).max()?;
-    let first = driver(held, latest)?;
-    Some(steps(held, latest, first))
+    driver(held).map(|first| steps(held, first))
 }
 
-/// Who drives the record, and by which event: one of those that hold this
-/// timestamp.
-pub fn driver(held: &[Held], latest: Timestamp) -> Option<Step> {
-    let find = |fits: fn(&Held) -> bool| {
-        let mut holders = held.iter().filter(|(_, r)| r.timestamp == latest);
-        holders.find(|h| fits(h)).copied()
-    };
-    // Who writes or replays goes on with it.
-    if let Some((at, r)) = find(|(_, r)| matches!(r.state, State::Write | State::Replay)) {
-        let event = match missing(held, at, r.acks).is_empty() {
-            true => Event::Validate,
-            false => Event::Resend,
-        };
-        return Some(Step { at, event });
+/// Who drives the record by the [`recipe`], and by which event: the first of the
+/// [`drivers`].
+pub fn driver(held: &[Held]) -> Option<Step> {
+    drivers(held).first().copied()
+}
+
+/// All that can drive the record, each with its event: any one of them settles it,
+/// by its own [`steps`]. They hold the latest timestamp, and
+///
+/// - go on with a write or replay, or
+/// - are valid and the last writer, and say so again, or
+/// - are invalid or invalid-write, their last writer is not in the view, and they
+///   take its save over,
+///
+/// in this order, and in each as in `held`. There is one at least, unless all show
+/// the record valid; and then too its last writer can say so again, though nobody
+/// needs it.
+///
+/// ```
+/// use cetskobi::{Laptop, Refusal};
+/// use settle::{by_packet, drivers, follow, held, steps};
+///
+/// # fn main() -> Result<(), Refusal> {
+/// let start = |number| Laptop::start(number, 0b111, 1);
+/// let mut laptops = vec![start(0)?, start(1)?, start(2)?];
+/// // Laptop 2 saves, the others hear of it, and it dies.
+/// let inv = laptops[2].write(0, b"Wren")?.into_owned();
+/// laptops.pop();
+/// for laptop in &mut laptops {
+///     let _lost = laptop.deliver(inv.arriving())?;
+///     laptop.change_view(1, 0b011)?;
+/// }
+///
+/// let held = held(&laptops, 0);
+/// let either = drivers(&held);
+/// assert_eq!(either.iter().map(|first| first.at).collect::<Vec<_>>(), [0, 1]);
+/// for first in either {
+///     let mut laptops = laptops.clone();
+///     let steps = steps(&held, first);
+///     assert_eq!(follow(&steps, &mut laptops, 0, by_packet), Ok(()));
+///     assert_eq!(laptops[0].read(0)?, b"Wren");
+///     assert_eq!(laptops[1].read(0)?, b"Wren");
+/// }
+/// # Ok(())
+/// # }
+/// ```
+pub fn drivers(held: &[Held]) -> Vec<Step> {
+    let latest = latest(held);
+    let in_view = |number| held.iter().any(|(n, _)| *n == number);
+    let [mut go_on, mut say_again, mut take_over] = [const { Vec::new() }; 3];
+    for &(at, r) in held.iter().filter(|(_, r)| Some(r.timestamp) == latest) {
+        let by = |event| Step { at, event };
+        match r.state {
+            State::Write | State::Replay if missing(held, at, r.acks).is_empty() => {
+                go_on.push(by(Event::Validate));
+            }
+            State::Write | State::Replay => go_on.push(by(Event::Resend)),
+            State::Valid if r.writer == at => say_again.push(by(Event::Resend)),
+            State::Invalid | State::InvalidWrite if !in_view(r.writer) => {
+                take_over.push(by(Event::Replay));
+            }
+            _ => {}
+        }
     }
-    // The save is finished; not all have heard of it.
-    if let Some((at, _)) = find(|(n, r)| r.state == State::Valid && r.writer == *n) {
-        let event = Event::Resend;
-        return Some(Step { at, event });
-    }
-    // Its last writer is not in the view, or would be one of those above.
-    let waits = find(|(_, r)| matches!(r.state, State::Invalid | State::InvalidWrite));
-    waits.map(|(at, _)| Step {
-        at,
-        event: Event::Replay,
-    })
+    [go_on, say_again, take_over].concat()
 }
 
 /// The whole list, from the driver's event on.
-pub fn steps(held: &[Held], latest: Timestamp, first: Step) -> Vec<Step> {
+pub fn steps(held: &[Held], first: Step) -> Vec<Step> {
     let driver = first.at;
     let of_driver = held.iter().find(|(n, _)| *n == driver);
     let invs = match (first.event, of_driver) {
@@ -143,10 +181,16 @@ pub fn steps(held: &[Held], latest: Timestamp, first: Step) -> Vec<Step> {
     // The VAL leaves with the last ACK, or left at once: in either case it is the
     // last message so far.
     let val = steps.len() - 1;
-    let shown = |r: &Record| r.state == State::Valid && r.timestamp == latest;
+    let latest = latest(held);
+    let shown = |r: &Record| r.state == State::Valid && Some(r.timestamp) == latest;
     let waiting = held.iter().filter(|(n, r)| *n != driver && !shown(r));
     steps.extend(waiting.map(|(n, _)| deliver(*n, val)));
     steps
+}
+
+/// The latest timestamp that any of them holds.
+fn latest(held: &[Held]) -> Option<Timestamp> {
+    held.iter().map(|(_, r)| r.timestamp).max()
 }
 
 /// The other laptops that have not acknowledged.

@@ -1,7 +1,8 @@
-//! The list for each kind of driver, at three laptops of four.
+//! The list for each kind of driver, at three laptops of four, or two.
 
 use cetskobi::{Laptop, Leaving, Members, Record, Refusal, State, Timestamp};
-use settle::{by_hand, by_packet, follow, held, most, recipe, Event, Halt, Step};
+use settle::{by_hand, by_packet, drivers, follow, held, most, recipe, steps};
+use settle::{Event, Halt, Step};
 
 const TEXT: &[u8] = b"Robin, wing 73";
 
@@ -22,18 +23,17 @@ fn comes(laptops: &mut [Laptop], n: usize, message: &Leaving) -> Option<Leaving<
     by_hand(&mut laptops[n], message).expect("accepted")
 }
 
-/// One laptop is struck off; those that are left hear of it.
-fn strike(laptops: &mut Vec<Laptop>, off: u8) {
-    laptops.retain(|l| l.number() != off);
+/// These are struck off; those that are left hear of it.
+fn strike(laptops: &mut Vec<Laptop>, off: &[u8]) {
+    laptops.retain(|l| !off.contains(&l.number()));
     let view: Members = laptops.iter().map(Laptop::number).collect();
     for laptop in laptops {
         laptop.change_view(1, view).expect("a smaller view");
     }
 }
 
-/// The list as one would write it down: `0 resends`, `1 takes 0`.
-fn list(laptops: &[Laptop]) -> Vec<String> {
-    let steps = recipe(&held(laptops, 0)).expect("somebody can begin");
+/// A list as one would write it down: `0 resends`, `1 takes 0`.
+fn lines(steps: &[Step]) -> Vec<String> {
     let line = |Step { at, event }: &Step| match event {
         Event::Validate => format!("{at} validates"),
         Event::Resend => format!("{at} resends"),
@@ -43,26 +43,37 @@ fn list(laptops: &[Laptop]) -> Vec<String> {
     steps.iter().map(line).collect()
 }
 
-/// The list is this, and after it all show the text.
-fn settles(laptops: &[Laptop], lines: &[&str]) {
-    assert_eq!(list(laptops), lines);
-    let steps = recipe(&held(laptops, 0)).expect("somebody can begin");
-    assert!(steps.len() <= most(laptops.len()));
-    for carry in [by_hand, by_packet] {
-        let mut laptops = laptops.to_vec();
-        assert_eq!(follow(&steps, &mut laptops, 0, carry), Ok(()));
-        for laptop in &laptops {
-            assert_eq!(laptop.read(0), Ok(TEXT), "{laptop:?}");
+/// The lists of all that can drive are these, in this order, and after each all show
+/// the text. The first is the recipe's.
+fn each_settles(laptops: &[Laptop], lists: &[&[&str]]) {
+    let held = held(laptops, 0);
+    let all = drivers(&held).into_iter().map(|first| steps(&held, first));
+    let all: Vec<Vec<Step>> = all.collect();
+    assert_eq!(all.iter().map(|l| lines(l)).collect::<Vec<_>>(), lists);
+    assert_eq!(recipe(&held).as_ref(), all.first());
+    for steps in all {
+        assert!(steps.len() <= most(laptops.len()));
+        for carry in [by_hand, by_packet] {
+            let mut laptops = laptops.to_vec();
+            assert_eq!(follow(&steps, &mut laptops, 0, carry), Ok(()));
+            for laptop in &laptops {
+                assert_eq!(laptop.read(0), Ok(TEXT), "{laptop:?}");
+            }
+            assert_eq!(recipe(&self::held(&laptops, 0)), Some(Vec::new()));
         }
-        assert!(list(&laptops).is_empty());
     }
+}
+
+/// One alone can drive, by this list.
+fn settles(laptops: &[Laptop], lines: &[&str]) {
+    each_settles(laptops, &[lines]);
 }
 
 #[test]
 fn a_save_that_nobody_heard_of() {
     let mut laptops = four();
     let _lost = save(&mut laptops, 1);
-    strike(&mut laptops, 3);
+    strike(&mut laptops, &[3]);
     let invs = ["1 resends", "0 takes 0", "2 takes 0"];
     let acks = ["1 takes 1", "1 takes 2"];
     // The VAL left with the last ACK.
@@ -76,7 +87,7 @@ fn a_save_that_one_has_acknowledged() {
     let inv = save(&mut laptops, 1);
     let ack = comes(&mut laptops, 2, &inv).expect("an ACK");
     comes(&mut laptops, 1, &ack);
-    strike(&mut laptops, 3);
+    strike(&mut laptops, &[3]);
     let inv = ["1 resends", "0 takes 0", "1 takes 1"];
     settles(&laptops, &[&inv[..], &["0 takes 2", "2 takes 2"]].concat());
 }
@@ -89,7 +100,7 @@ fn a_save_that_waited_for_the_dead_alone() {
         let ack = comes(&mut laptops, n, &inv).expect("an ACK");
         comes(&mut laptops, 1, &ack);
     }
-    strike(&mut laptops, 3);
+    strike(&mut laptops, &[3]);
     settles(&laptops, &["1 validates", "0 takes 0", "2 takes 0"]);
 }
 
@@ -104,7 +115,7 @@ fn a_finished_save() {
         val = comes(&mut laptops, 1, &ack);
     }
     comes(&mut laptops, 2, &val.expect("a VAL"));
-    strike(&mut laptops, 3);
+    strike(&mut laptops, &[3]);
     settles(&laptops, &["1 resends", "0 takes 0"]);
 }
 
@@ -116,18 +127,63 @@ fn a_dead_laptops_save() {
     for n in [2, 3] {
         comes(&mut laptops, n, &inv);
     }
-    strike(&mut laptops, 1);
-    let invs = ["2 replays", "0 takes 0", "3 takes 0"];
-    let acks = ["2 takes 1", "2 takes 2"];
-    let vals = ["0 takes 4", "3 takes 4"];
-    settles(&laptops, &[&invs[..], &acks, &vals].concat());
+    strike(&mut laptops, &[1]);
+    let by_2 = [
+        &["2 replays", "0 takes 0", "3 takes 0"][..],
+        &["2 takes 1", "2 takes 2"],
+        &["0 takes 4", "3 takes 4"],
+    ];
+    let by_3 = [
+        &["3 replays", "0 takes 0", "2 takes 0"][..],
+        &["3 takes 1", "3 takes 2"],
+        &["0 takes 4", "2 takes 4"],
+    ];
+    each_settles(&laptops, &[&by_2.concat(), &by_3.concat()]);
 
-    // 3 has begun to replay it, and 0 has acknowledged: that goes on.
+    // 3 has begun to replay it, and 0 has acknowledged: that goes on, or 2 begins.
     let inv = laptops[2].replay(0).expect("a replay").into_owned();
     let ack = comes(&mut laptops, 0, &inv).expect("an ACK");
     comes(&mut laptops, 2, &ack);
-    let inv = ["3 resends", "2 takes 0", "3 takes 1"];
-    settles(&laptops, &[&inv[..], &["0 takes 2", "2 takes 2"]].concat());
+    let by_3 = ["3 resends", "2 takes 0", "3 takes 1"];
+    let by_3 = [&by_3[..], &["0 takes 2", "2 takes 2"]];
+    each_settles(&laptops, &[&by_3.concat(), &by_2.concat()]);
+}
+
+/// 2's save overtook that of 0, and 1 has it too. 2 died, and so did 3: either of
+/// those that are left can drive.
+#[test]
+fn a_dead_winner_and_two_that_are_left() {
+    let mut laptops = four();
+    let lesser = laptops[0].write(0, b"Wren").expect("a save");
+    let _lost = lesser.into_owned();
+    let inv = save(&mut laptops, 2);
+    for n in [0, 1] {
+        comes(&mut laptops, n, &inv);
+    }
+    strike(&mut laptops, &[2, 3]);
+    let by_0 = ["0 replays", "1 takes 0", "0 takes 1", "1 takes 2"];
+    let by_1 = ["1 replays", "0 takes 0", "1 takes 1", "0 takes 2"];
+    each_settles(&laptops, &[&by_0, &by_1]);
+
+    // 1 has begun, and its INV is lost: who goes on comes first.
+    let inv = laptops[1].replay(0).expect("a replay").into_owned();
+    let goes_on = ["1 resends", "0 takes 0", "1 takes 1", "0 takes 2"];
+    each_settles(&laptops, &[&goes_on, &by_0]);
+
+    // It came. 0 had that timestamp from 2, and can still take over.
+    let ack = comes(&mut laptops, 0, &inv).expect("an ACK");
+    each_settles(&laptops, &[&goes_on, &by_0]);
+
+    // 1 is finished, and says so again; or 0 takes over, and need not tell 1.
+    let val = comes(&mut laptops, 1, &ack).expect("a VAL");
+    each_settles(&laptops, &[&["1 resends", "0 takes 0"], &by_0[..3]]);
+
+    // Now all show it. 1 could say so again, and the recipe has nothing to do.
+    comes(&mut laptops, 0, &val);
+    let held = held(&laptops, 0);
+    let all = drivers(&held).into_iter().map(|first| steps(&held, first));
+    assert_eq!(all.map(|l| lines(&l)).collect::<Vec<_>>(), [["1 resends"]]);
+    assert_eq!(recipe(&held), Some(Vec::new()));
 }
 
 /// 2's save overtook that of 0, which 1 had acknowledged, and 2 died.
@@ -140,7 +196,7 @@ fn an_overtaken_save() {
     // It does not count for the replay.
     let ack = comes(&mut laptops, 1, &lesser).expect("an ACK");
     comes(&mut laptops, 0, &ack);
-    strike(&mut laptops, 2);
+    strike(&mut laptops, &[2]);
     let invs = ["0 replays", "1 takes 0", "3 takes 0"];
     let acks = ["0 takes 1", "0 takes 2"];
     let vals = ["1 takes 4", "3 takes 4"];
@@ -154,7 +210,7 @@ fn the_lists_that_are_computed_in_the_logic() {
     let start = |n| Laptop::start(n, 0b111, 1).expect("a fresh start");
     let three = || (0..3).map(start).collect::<Vec<_>>();
 
-    // `lostVal`, then `deadWinner`
+    // `lostVal`, then `deadWinner` with `deadWinnerByOther`
     let mut laptops = three();
     let _overtaken = save(&mut laptops, 0);
     let inv = save(&mut laptops, 2);
@@ -163,9 +219,10 @@ fn the_lists_that_are_computed_in_the_logic() {
         comes(&mut laptops, 2, &ack);
     }
     settles(&laptops, &["2 resends", "0 takes 0", "1 takes 0"]);
-    strike(&mut laptops, 2);
+    strike(&mut laptops, &[2]);
     let replay = ["0 replays", "1 takes 0", "0 takes 1", "1 takes 2"];
-    settles(&laptops, &replay);
+    let by_other = ["1 replays", "0 takes 0", "1 takes 1", "0 takes 2"];
+    each_settles(&laptops, &[&replay, &by_other]);
 
     // `lostSave`
     let mut laptops = three();
@@ -180,7 +237,7 @@ fn the_lists_that_are_computed_in_the_logic() {
     let inv = save(&mut laptops, 1);
     let ack = comes(&mut laptops, 0, &inv).expect("an ACK");
     comes(&mut laptops, 1, &ack);
-    strike(&mut laptops, 2);
+    strike(&mut laptops, &[2]);
     settles(&laptops, &["1 validates", "0 takes 0"]);
 }
 
@@ -197,6 +254,7 @@ fn nobody_can_begin() {
         len: 0,
     };
     let held = [(0, record(State::Valid, 2)), (1, record(State::Invalid, 1))];
+    assert_eq!(drivers(&held), []);
     assert_eq!(recipe(&held), None);
 }
 

@@ -1,12 +1,13 @@
 //! Records settle (document 02, Wish 3). Random groups come to any situation;
-//! then the recipe of `rust/settle` is followed on a copy of their memory.
+//! then the recipe of `rust/settle` is followed on a copy of their memory, and so
+//! is the list of every other laptop that can drive.
 
 mod half;
 mod look;
 mod tally;
 mod view;
 
-pub use look::Recipe;
+pub use look::Rules;
 pub use tally::{Kind, Tally};
 
 use look::{settles, Copies};
@@ -36,8 +37,8 @@ pub struct Situation {
     pub view: u16,
 }
 
-/// Random groups in any situation. `recipe` is that of `rust/settle`.
-pub fn compare(settings: &Settings, recipe: Recipe) -> Result<Tally, Box<Found<Situation>>> {
+/// Random groups in any situation. The rules are those of `rust/settle`.
+pub fn compare(settings: &Settings, rules: Rules) -> Result<Tally, Box<Found<Situation>>> {
     let mut rng = settings.rng("settling");
     let mut tally = Tally::default();
     for size in SIZES {
@@ -60,13 +61,13 @@ pub fn compare(settings: &Settings, recipe: Recipe) -> Result<Tally, Box<Found<S
                     }
                     if rng.chance(1, LOOK) {
                         (at.epoch, at.view) = view::some(&mut rng, &group);
-                        at.look(&group, recipe, &mut tally)?;
+                        at.look(&group, rules, &mut tally)?;
                     }
                 }
                 Ok(())
             };
             if let Err(what) = play(&mut at) {
-                let again = |at: &Situation| at.play(recipe).err();
+                let again = |at: &Situation| at.play(rules).err();
                 return Err(Box::new(shrink(at, what, again)));
             }
         }
@@ -76,28 +77,28 @@ pub fn compare(settings: &Settings, recipe: Recipe) -> Result<Tally, Box<Found<S
 
 impl Situation {
     /// Plays the list, and settles every record.
-    pub fn play(&self, recipe: Recipe) -> Result<Tally, String> {
+    pub fn play(&self, rules: Rules) -> Result<Tally, String> {
         let mut group = Group::start(&self.run, by_hand, on_table)?;
         for entry in &self.run.entries {
             group.play(entry, &mut Default::default())?;
         }
         let mut tally = Tally::default();
-        self.look(&group, recipe, &mut tally)?;
+        self.look(&group, rules, &mut tally)?;
         Ok(tally)
     }
 
     /// Settles every record of the view's laptops, one after the other. Nothing
     /// to do if one of them is not there.
-    fn look(&self, group: &Group, recipe: Recipe, tally: &mut Tally) -> Result<(), String> {
+    fn look(&self, group: &Group, rules: Rules, tally: &mut Tally) -> Result<(), String> {
         let Some(mut copies) = Copies::of(group, self.epoch, self.view)? else {
             tally.absent += 1;
             return Ok(());
         };
         tally.group(&copies);
         for i in 0..group.records() {
-            let (kind, events) = settles(&mut copies, i, recipe)
+            let (recipe, others) = settles(&mut copies, i, rules)
                 .map_err(|what| format!("record {i} at epoch {}: {what}", self.epoch))?;
-            tally.record(self.view, kind, events);
+            tally.record(self.view, recipe, &others);
         }
         Ok(())
     }

@@ -4,7 +4,7 @@ use std::fmt;
 use cetskobi::State;
 use settle::{Event, Held, Step};
 
-use super::Copies;
+use super::look::{Copies, List};
 
 /// How a list begins: by the driver's event and its state before.
 #[derive(Clone, Copy, Debug, PartialEq, Eq, PartialOrd, Ord)]
@@ -63,6 +63,10 @@ pub struct Tally {
     pub at_bound: BTreeMap<usize, u64>,
     /// Events in all.
     pub events: u64,
+    /// Lists of other drivers, by how many laptops the view has, by the kind of the
+    /// recipe's list, and by kind; and their events in all.
+    pub others: BTreeMap<(usize, Kind, Kind), u64>,
+    pub other_events: u64,
     /// Groups looked at; with laptops outside the view; with laptops that were
     /// late and were told of it now.
     pub groups: u64,
@@ -79,16 +83,37 @@ impl Tally {
         self.late += u64::from(copies.told > 0);
     }
 
-    pub(super) fn record(&mut self, view: u16, kind: Kind, events: usize) {
+    pub(super) fn record(&mut self, view: u16, (kind, events): List, others: &[List]) {
         let k = view.count_ones() as usize;
         *self.kinds.entry((k, kind)).or_default() += 1;
         *self.at_bound.entry(k).or_default() += u64::from(events == 3 * k - 2);
         self.events += events as u64;
+        for (other, events) in others {
+            *self.others.entry((k, kind, *other)).or_default() += 1;
+            self.other_events += *events as u64;
+        }
     }
 
     /// How often this kind came, with k laptops.
     pub fn times(&self, k: usize, kind: Kind) -> u64 {
         self.kinds.get(&(k, kind)).copied().unwrap_or(0)
+    }
+
+    /// How many other drivers there were with k laptops, where not all showed the
+    /// record valid.
+    pub fn others_with(&self, k: usize) -> u64 {
+        let open = |key: &(usize, Kind, Kind)| key.0 == k && key.1 != Kind::Nothing;
+        let others = self.others.iter().filter(|(key, _)| open(key));
+        others.map(|(_, times)| times).sum()
+    }
+
+    /// How many other drivers there were of each kind, beside each kind of recipe.
+    pub fn beside(&self) -> BTreeMap<(Kind, Kind), u64> {
+        let mut beside = BTreeMap::new();
+        for ((_, recipe, other), times) in &self.others {
+            *beside.entry((*recipe, *other)).or_default() += times;
+        }
+        beside
     }
 
     pub fn situations(&self) -> u64 {
@@ -102,16 +127,21 @@ impl fmt::Display for Tally {
         for (_, name) in Kind::ALL {
             write!(f, "{name:>11}")?;
         }
-        writeln!(f, "{:>13}", "3k-2 events")?;
+        writeln!(f, "{:>13}{:>9}", "3k-2 events", "others")?;
         for (&k, at_bound) in &self.at_bound {
             write!(f, "{k:2}")?;
             for (kind, _) in Kind::ALL {
                 write!(f, "{:11}", self.times(k, kind))?;
             }
-            writeln!(f, "{at_bound:13}")?;
+            writeln!(f, "{at_bound:13}{:9}", self.others_with(k))?;
         }
         let (situations, events) = (self.situations(), self.events);
         writeln!(f, "{situations} situations, {events} events")?;
+        let (others, events) = (self.others.values().sum::<u64>(), self.other_events);
+        writeln!(f, "{others} lists of other drivers, {events} events")?;
+        for ((recipe, other), times) in self.beside() {
+            writeln!(f, "{times:9} {other:?} beside {recipe:?}")?;
+        }
         let (groups, outside, late) = (self.groups, self.outside, self.late);
         write!(
             f,
