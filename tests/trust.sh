@@ -23,7 +23,7 @@ cat >"$dir/roots" <<END
 Wish 1|what an ACK does, and that nobody waits once all have replied|hermes.LastAck.LastAckSettles hermes.LastAck.NobodyWaits|crates/hermes/proofs/LastAck.antt:last-ack-settles crates/hermes/proofs/LastAck.antt:nobody-waits
 Wish 2|that a replay gives an overtaken save up, and that no record hangs|hermes.Overtaken.GivenUp hermes.Overtaken.NobodyHangs|crates/hermes/proofs/Overtaken.antt:given-up crates/hermes/proofs/Overtaken.antt:nobody-hangs
 Wish 3|that a record settles|hermes.Settling.Settling|crates/hermes/proofs/Settling.antt:settling
-Wish 3|by which events, whoever drives, and that no fewer will do|hermes.Recipe.RecipeSettles hermes.Recipe.AnyDriverSettles hermes.Tight.Tight|crates/hermes/proofs/Settling.antt:recipe-settles crates/hermes/proofs/Settling.antt:any-driver-settles crates/hermes/proofs/Tight.antt:tight
+Wish 3|by which events, whoever drives, and that no fewer will do|hermes.Recipe.RecipeSettles hermes.Recipe.AnyDriverSettles hermes.Tight.Tight hermes.Tight.Exact|crates/hermes/proofs/Settling.antt:recipe-settles crates/hermes/proofs/Settling.antt:any-driver-settles crates/hermes/proofs/Tight.antt:tight crates/hermes/proofs/Tight.antt:exact
 END
 
 grep -nE '^(pub )?(struct|enum) ' crates/*/src/*.rt >"$dir/types"

@@ -210,7 +210,7 @@ module _ (T : Task) (inside : T .i < T .count) (ord : TieOrder (T .wins)) (g : G
         (λ k. let (p, q) = both (has set v) _ k in not-later wins ord (r v .timestamp) (r u .timestamp) (rw e (most v p)) q))))
 
     -- these entries leave all showing M, and are at most 3k − 2
-    pub record Wins (entries : List Entry) : Type 0 where
+    pub record Achieves (entries : List Entry) : Type 0 where
       pub plays : Plays T g entries (AllShow T M)
       pub few : length entries + 2 ≤ 3 * size set
 
@@ -243,7 +243,7 @@ module _ (T : Task) (inside : T .i < T .count) (ord : TieOrder (T .wins)) (g : G
       by-asking : (what : Action) (s : Step) → Helps i old (g .log) what → Did T g (by d what) s
           → s .after .timestamp ≡ M → s .after .written ≡ M → underWay (s .after) ≡ true → s .sent ≡ send (self T d) i (Inv M)
           → ((u : ℕ) → Has set u → Has (s .after .acks) u → r u .timestamp ≡ M) → othersIn d set (s .after .acks) ≡ false
-          → Wins (by d what ∷ round wins set i g d (length (g .log)) (s .after .acks))
+          → Achieves (by d what ∷ round wins set i g d (length (g .log)) (s .after .acks))
       by-asking what s k D t t′ c q counted n = record {
         plays = next T (one T g (by d what) hd k (D .accepted) start) (λ f p. asks T inside ord d hd M low lateOf lates (length (g .log)) (s .after .acks) (s .after) f p refl c t t′ n);
         few = omega (arith, others-size wins set i g d hd, round-length wins set i g d hd (length (g .log)) (s .after .acks));
@@ -275,7 +275,7 @@ module _ (T : Task) (inside : T .i < T .count) (ord : TieOrder (T .wins)) (g : G
       -- after one entry of d, which leaves it valid at M, as all others hold M, and by which its VAL leaves
       by-telling : (what : Action) (s : Step) → Helps i old (g .log) what → Did T g (by d what) s
           → s .after .timestamp ≡ M → s .after .state ≡ state.Valid → s .sent ≡ send (self T d) i (Val M)
-          → ((u : ℕ) → Has set u → r u .timestamp ≡ M) → Wins (by d what ∷ vals wins set i g d (length (g .log)))
+          → ((u : ℕ) → Has set u → r u .timestamp ≡ M) → Achieves (by d what ∷ vals wins set i g d (length (g .log)))
       by-telling what s k D t v q all = record {
         plays = next T (one T g (by d what) hd k (D .accepted) start) (tells T inside ord d hd M low lateOf lates (length (g .log)));
         few = omega (arith, others-size wins set i g d hd, vals-length wins set i g d hd (length (g .log)));
@@ -303,8 +303,8 @@ module _ (T : Task) (inside : T .i < T .count) (ord : TieOrder (T .wins)) (g : G
           }
 
       -- a save or replay is under way: it validates at once if all others are counted, and else resends its INV
-      working : underWay (r d) ≡ true → Wins (drive wins set i g d (r d .state))
-      working c = subst Wins (sym (drive-under-way wins set i g d (r d .state) c)) (go (othersIn d set (r d .acks)) refl)
+      working : underWay (r d) ≡ true → Achieves (drive wins set i g d (r d .state))
+      working c = subst Achieves (sym (drive-under-way wins set i g d (r d .state) c)) (go (othersIn d set (r d .acks)) refl)
         where
           counted : (u : ℕ) → Has set u → Has (r d .acks) u → r u .timestamp ≡ M
           counted u h k = at-most u h (subst (λ (t : Timestamp). NotAfter wins t (r u .timestamp)) (o .mine d hd c ∙ stamp) (o .acked d u hd h k))
@@ -313,7 +313,7 @@ module _ (T : Task) (inside : T .i < T .count) (ord : TieOrder (T .wins)) (g : G
           all u h (inl z) = rw z stamp
           all u h (inr z) = counted u h z
 
-          go : (b : Bool) → othersIn d set (r d .acks) ≡ b → Wins (finish wins set i g d b)
+          go : (b : Bool) → othersIn d set (r d .acks) ≡ b → Achieves (finish wins set i g d b)
           go true q = by-telling (run.validate i) (stepBy T d (r d) Validate []) refl
               (did T inside g (o .alive) d hd (run.validate i) Validate [] refl (and-both (underWay (r d)) (othersIn d set (r d .acks)) c q, tt))
               stamp refl (ap (λ (t : Timestamp). send (self T d) i (Val t)) stamp) (λ u h. all u h (others-members d set (r d .acks) q u h))
@@ -322,8 +322,8 @@ module _ (T : Task) (inside : T .i < T .count) (ord : TieOrder (T .wins)) (g : G
               stamp (o .mine d hd c ∙ stamp) c (resent-inv (self T d) i (r d .state) (r d .timestamp) c ∙ ap (λ (t : Timestamp). send (self T d) i (Inv t)) stamp) counted q
 
       -- it is valid and its own last writer: it resends its VAL
-      writer : isValid (r d) ≡ true → r d .writer ≡ d → Wins (drive wins set i g d (r d .state))
-      writer v w = subst (λ (s : State). Wins (drive wins set i g d s)) (sym is) (by-telling (run.resend i) (stepBy T d (r d) Resend []) refl
+      writer : isValid (r d) ≡ true → r d .writer ≡ d → Achieves (drive wins set i g d (r d .state))
+      writer v w = subst (λ (s : State). Achieves (drive wins set i g d s)) (sym is) (by-telling (run.resend i) (stepBy T d (r d) Resend []) refl
           (did T inside g (o .alive) d hd (run.resend i) Resend [] refl (rw (is, eq-eqb (r d .writer) d w), tt))
           stamp is (rw (is, stamp)) (λ u h. at-most u h (subst (λ (t : Timestamp). NotAfter wins t (r u .timestamp)) stamp (o .settled d u hd h v))))
         where
@@ -331,8 +331,8 @@ module _ (T : Task) (inside : T .i < T .count) (ord : TieOrder (T .wins)) (g : G
           is = is-state (r d .state) state.Valid v
 
       -- it is invalid or invalid-write, and its last writer is not in the view: it replays
-      waiting : isInvalid (r d) ≡ true → has set (r d .writer) ≡ false → Wins (drive wins set i g d (r d .state))
-      waiting v w = subst Wins (sym (drive-invalid wins set i g d (r d .state) v)) (by-asking (run.replay i) (stepBy T d (r d) Replay []) refl
+      waiting : isInvalid (r d) ≡ true → has set (r d .writer) ≡ false → Achieves (drive wins set i g d (r d .state))
+      waiting v w = subst Achieves (sym (drive-invalid wins set i g d (r d .state) v)) (by-asking (run.replay i) (stepBy T d (r d) Replay []) refl
           (did T inside g (o .alive) d hd (run.replay i) Replay [] refl (rw (v, w), tt))
           stamp stamp refl (ap (λ (t : Timestamp). send (self T d) i (Inv t)) stamp) (λ u h k. absurd (false≢true (sym (has-zero u) ∙ k))) (not-alone wins set i g d hd two))
         where
@@ -340,14 +340,14 @@ module _ (T : Task) (inside : T .i < T .count) (ord : TieOrder (T .wins)) (g : G
           two = subst (λ (x : ℕ). leb 2 (size x) ≡ true) (o .alive .live d hd .view) (both (leb (g .at d .me .number) 15) (leb 2 (size (g .at d .me .view))) (o .alive .live d hd .sound .first) .1)
 
     -- whichever drives
-    pub by-driver : (d : ℕ) → (goesOn wins set i g d || (saysAgain wins set i g d || takesOver wins set i g d)) ≡ true → Wins (drive wins set i g d (r d .state))
+    pub by-driver : (d : ℕ) → (goesOn wins set i g d || (saysAgain wins set i g d || takesOver wins set i g d)) ≡ true → Achieves (drive wins set i g d (r d .state))
     by-driver d h = go (either (goesOn wins set i g d) _ h)
       where
-        last : (saysAgain wins set i g d ≡ true) ⊎ (takesOver wins set i g d ≡ true) → Wins (drive wins set i g d (r d .state))
+        last : (saysAgain wins set i g d ≡ true) ⊎ (takesOver wins set i g d ≡ true) → Achieves (drive wins set i g d (r d .state))
         last (inl z) = let (p, q) = both (leads wins set i g d) _ z in let (k, t) = leads-yes d p in let (v, w) = both (isValid (r d)) (eqb (r d .writer) d) q in writer d k t v (eqb-true _ _ w)
         last (inr z) = let (p, q) = both (leads wins set i g d) _ z in let (k, t) = leads-yes d p in let (v, w) = both (isInvalid (r d)) (not (has set (r d .writer))) q in waiting d k t v (not-true _ w)
 
-        go : (goesOn wins set i g d ≡ true) ⊎ ((saysAgain wins set i g d || takesOver wins set i g d) ≡ true) → Wins (drive wins set i g d (r d .state))
+        go : (goesOn wins set i g d ≡ true) ⊎ ((saysAgain wins set i g d || takesOver wins set i g d) ≡ true) → Achieves (drive wins set i g d (r d .state))
         go (inl z) = let (p, q) = both (leads wins set i g d) (underWay (r d)) z in let (k, t) = leads-yes d p in working d k t q
         go (inr z) = last (either (saysAgain wins set i g d) _ z)
 
@@ -365,13 +365,13 @@ module _ (T : Task) (inside : T .i < T .count) (ord : TieOrder (T .wins)) (g : G
         never h (inr (p, q, inr v)) = false≢true (sym (a w (has-small set w h)) ∙ and-both (leads wins set i g w) (underWay (r w)) (yes-leads w h (p ∙ t)) v)
 
     -- who shows it valid at the outset holds M where all do
-    all-hold : ((u : ℕ) → Has set u → r u .state ≡ state.Valid) → Wins []
+    all-hold : ((u : ℕ) → Has set u → r u .state ≡ state.Valid) → Achieves []
     all-hold v = record {
       plays = none T g (λ u h. (v u h, at-most u h (subst (λ (t : Timestamp). NotAfter wins t (r u .timestamp)) held (o .settled holder u hh h (state-is _ state.Valid (v holder hh))))));
       few = omega (arith, others-size wins set i g holder hh);
     }
 
-    pub by-recipe : Wins (recipe wins set i g)
+    pub by-recipe : Achieves (recipe wins set i g)
     unfolding recipe allShow driver
     by-recipe = go (allShow wins set i g) refl
       where
@@ -387,18 +387,18 @@ module _ (T : Task) (inside : T .i < T .count) (ord : TieOrder (T .wins)) (g : G
             all : (v : ℕ) → Has set v → r v .timestamp ≡ M
             all v k = at-most v k (subst (λ (t : Timestamp). NotAfter wins t (r v .timestamp)) held (o .settled holder v hh k (state-is _ state.Valid (shows holder hh held))))
 
-        third : ((u : ℕ) → u < 16 → goesOn wins set i g u ≡ false) → ((u : ℕ) → u < 16 → saysAgain wins set i g u ≡ false) → (c : Choice) → Picked 16 (takesOver wins set i g) c → Wins (driven wins set i g c)
+        third : ((u : ℕ) → u < 16 → goesOn wins set i g u ≡ false) → ((u : ℕ) → u < 16 → saysAgain wins set i g u ≡ false) → (c : Choice) → Picked 16 (takesOver wins set i g) c → Achieves (driven wins set i g c)
         third a b c (some d h e) = rw e (by-driver d (rw (h, or-true (saysAgain wins set i g d), or-true (goesOn wins set i g d))))
         third a b c (none-of f e) = rw e (all-hold (rest a b f))
 
-        second : ((u : ℕ) → u < 16 → goesOn wins set i g u ≡ false) → (c : Choice) → Picked 16 (saysAgain wins set i g) c → Wins (driven wins set i g (orElse c (first 16 (takesOver wins set i g))))
+        second : ((u : ℕ) → u < 16 → goesOn wins set i g u ≡ false) → (c : Choice) → Picked 16 (saysAgain wins set i g) c → Achieves (driven wins set i g (orElse c (first 16 (takesOver wins set i g))))
         second a c (some d h e) = rw e (by-driver d (rw (h, or-true (goesOn wins set i g d))))
         second a c (none-of f e) = rw e (third a f (first 16 (takesOver wins set i g)) (picked 16 (takesOver wins set i g)))
 
-        start : (c : Choice) → Picked 16 (goesOn wins set i g) c → Wins (driven wins set i g (orElse c (orElse (first 16 (saysAgain wins set i g)) (first 16 (takesOver wins set i g)))))
+        start : (c : Choice) → Picked 16 (goesOn wins set i g) c → Achieves (driven wins set i g (orElse c (orElse (first 16 (saysAgain wins set i g)) (first 16 (takesOver wins set i g)))))
         start c (some d h e) = rw e (by-driver d (rw h))
         start c (none-of f e) = rw e (second f (first 16 (saysAgain wins set i g)) (picked 16 (saysAgain wins set i g)))
 
-        go : (b : Bool) → allShow wins set i g ≡ b → Wins (cond b [] (driven wins set i g (driver wins set i g)))
+        go : (b : Bool) → allShow wins set i g ≡ b → Achieves (cond b [] (driven wins set i g (driver wins set i g)))
         go true q = all-hold (λ u h. is-state (r u .state) state.Valid (implied (has set u) (isValid (r u)) (all-at 16 (λ (x : ℕ). not (has set x) || isValid (r x)) q u (has-small set u h)) h))
         go false q = start (first 16 (goesOn wins set i g)) (picked 16 (goesOn wins set i g))

@@ -179,7 +179,7 @@ module _ (T : Task) (inside : T .i < T .count) (ord : TieOrder (T .wins)) (d : �
 
         go : Saving T d M t0 (r d) → Next (by d (run.resend i))
         go (waits e) = to true (λ x. refl) (sent-once sent) (rw e (p .held, refl, refl))
-        go (done e o) = to sent (λ x. x) (record { by = omega arith }) (rw e (inl (p .held, refl)))
+        go (done e o) = to sent (λ x. x) (record { most = omega arith }) (rw e (inl (p .held, refl)))
 
     -- ---- a delivery to w
     module _ (w : ℕ) (hw : Has set w) (k : ℕ) (x : Logged) (since : old ≤ k) (e : find (g .log) k ≡ found x) (j : x .header .index ≡ i) (c : IsAccepted (result wins g (by w (run.deliver k)))) where
@@ -216,7 +216,7 @@ module _ (T : Task) (inside : T .i < T .count) (ord : TieOrder (T .wins)) (d : �
         counts b q D o f = record {
           sent′ = sent;
           stage = by-saver (run.deliver k) _ D sent (λ z. z) (held b) (own b) (saving b q) (counted b) (leaves b);
-          near = nearer (run.deliver k) _ D sent (keeps refl) (record { by = count-near 16 sender (uncounted T d M t0 g) (uncounted T d M t0 (advance wins g (by d (run.deliver k)))) (λ u n. rw (D .here, acks b) (rw (has-others (r d .acks) sender u n))) }) (omega arith);
+          near = nearer (run.deliver k) _ D sent (keeps refl) (record { most = count-near 16 sender (uncounted T d M t0 g) (uncounted T d M t0 (advance wins g (by d (run.deliver k)))) (λ u n. rw (D .here, acks b) (rw (has-others (r d .acks) sender u n))) }) (omega arith);
         }
           where
             acks : (b : Bool) → ackStep b (self T d) i (r d) sender .after .acks ≡ with (r d .acks) sender
@@ -289,10 +289,10 @@ module _ (T : Task) (inside : T .i < T .count) (ord : TieOrder (T .wins)) (d : �
         nearer-other x y l = total (keeps refl) x y (keeps (count-same 16 (uncounted T d M t0 g) (uncounted T d M t0 (advance wins g (by w what))) (λ u z. rw the-saver))) (omega arith)
 
         one-unaware : Falls 1 (countBelow 16 (unaware T d M t0 g)) (countBelow 16 (unaware T d M t0 (advance wins g (by w what))))
-        one-unaware = record { by = count-near 16 w (unaware T d M t0 g) (unaware T d M t0 (advance wins g (by w what))) (λ u n. rw (D .others u n)) }
+        one-unaware = record { most = count-near 16 w (unaware T d M t0 g) (unaware T d M t0 (advance wins g (by w what))) (λ u n. rw (D .others u n)) }
 
         one-unshown : Falls 1 (countBelow 16 (unshown T d M t0 g)) (countBelow 16 (unshown T d M t0 (advance wins g (by w what))))
-        one-unshown = record { by = count-near 16 w (unshown T d M t0 g) (unshown T d M t0 (advance wins g (by w what))) (λ u n. rw (D .others u n)) }
+        one-unshown = record { most = count-near 16 w (unshown T d M t0 g) (unshown T d M t0 (advance wins g (by w what))) (λ u n. rw (D .others u n)) }
 
         same-aware : unaware T d M t0 g w ≡ unaware T d M t0 (advance wins g (by w what)) w → Falls 0 (countBelow 16 (unaware T d M t0 g)) (countBelow 16 (unaware T d M t0 (advance wins g (by w what))))
         same-aware q = keeps (count-same 16 (unaware T d M t0 g) (unaware T d M t0 (advance wins g (by w what))) (λ u z. go u (ℕ-discrete u w)))

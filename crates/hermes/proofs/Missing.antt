@@ -44,17 +44,17 @@ asked T g all m h what ev v does c = subst (λ (me : Replica). AllYes (own me (r
 -- ---- numbers that fall by e at most
 
 pub record Falls (e a b : ℕ) : Type 0 where
-  pub by : a ≤ b + e
+  pub most : a ≤ b + e
 
 pub keeps : {a b : ℕ} → a ≡ b → Falls 0 a b
-keeps e = record { by = omega (arith, e) }
+keeps e = record { most = omega (arith, e) }
 
 pub sent-once : (b : Bool) → Falls 1 (cond b 0 1) 0
-sent-once true = record { by = omega arith }
-sent-once false = record { by = omega arith }
+sent-once true = record { most = omega arith }
+sent-once false = record { most = omega arith }
 
 pub total : {x y a a′ b b′ c c′ e f g h : ℕ} → Falls e x y → Falls f a a′ → Falls g b b′ → Falls h c c′ → e + f + g + h ≤ 1 → Falls 1 (x + (a + (b + c))) (y + (a′ + (b′ + c′)))
-total p q r s l = record { by = omega (arith, p .by, q .by, r .by, s .by) }
+total p q r s l = record { most = omega (arith, p .most, q .most, r .most, s .most) }
 
 -- ---- what is so along the list: d has saved at M where all held t0
 

@@ -24,7 +24,7 @@ use Rattle.hermes.proofs.Refine.{Cell, setting, copy}
 use Rattle.hermes.proofs.Agreement.{Ok, copies, copies-member, start-ok, run-ok, run-cells}
 use Rattle.hermes.proofs.Sound.{stay-sound}
 use Rattle.hermes.proofs.Progress.{Task}
-use Rattle.hermes.proofs.Driver.{Behind, Outset, Top, top, Wins, by-driver, by-recipe}
+use Rattle.hermes.proofs.Driver.{Behind, Outset, Top, top, Achieves, by-driver, by-recipe}
 
 -- ---- a list that helps is a list of entries of the group
 
@@ -98,7 +98,7 @@ module _ (wins : ℕ → ℕ → Bool) (ord : TieOrder wins) (member : ℕ → B
     most : (u : ℕ) → Has set u → NotAfter wins (recordOf i (g .at u) .timestamp) M
     most u h = t .most u (has-small set u h) h
 
-    settles : (entries : List Entry) → Wins task inside ord g outset M (t .who) (t .seen) refl most entries → Settled wins set i g entries
+    settles : (entries : List Entry) → Achieves task inside ord g outset M (t .who) (t .seen) refl most entries → Settled wins set i g entries
     settles entries w = record {
       few = omega (arith, w .few);
       help = w .plays .help;

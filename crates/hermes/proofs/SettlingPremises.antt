@@ -146,12 +146,9 @@ only-zero = in-view (λ h. ((m : ℕ) → has (issued 0) m ≡ true → NotAfter
     behind (equal e) = omega (arith, ap (λ (t : Timestamp). t .version) e)
     behind (rises g) = false≢true g
 
-claims : (entries : List Entry) → Settled higher (issued 0) 0 (run higher group lostSave) entries → (length entries ≡ length lostSaveRecipe)
-    × ((m : ℕ) → has (issued 0) m ≡ true → Shows (after higher (run higher group lostSave) entries m) 0 × Alike 0 (after higher (run higher group lostSave) entries m) (run higher group lostSave .at 0))
-claims entries s = (count (s .few) (no-fewer entries (s .help) (λ m h. s .shown m h .0)) nine, λ m h. (s .shown m h .0, subst (λ (x : ℕ). Alike 0 (after higher (run higher group lostSave) entries m) (run higher group lostSave .at x)) (only-zero (s .holder) (s .held) (s .greatest)) (s .shown m h .1)))
-  where
-    count : {n k : ℕ} → n + 2 ≤ k → 7 ≤ n → k ≡ 9 → n ≡ 7
-    count a b c = omega (arith, a, b, c)
+claims : (entries : List Entry) → Settled higher (issued 0) 0 (run higher group lostSave) entries
+    → (m : ℕ) → has (issued 0) m ≡ true → Shows (after higher (run higher group lostSave) entries m) 0 × Alike 0 (after higher (run higher group lostSave) entries m) (run higher group lostSave .at 0)
+claims entries s m h = (s .shown m h .0, subst (λ (x : ℕ). Alike 0 (after higher (run higher group lostSave) entries m) (run higher group lostSave .at x)) (only-zero (s .holder) (s .held) (s .greatest)) (s .shown m h .1))
 
 -- the theorem at a list that is computed
 brings : {before : List Entry} {e : ℕ} {list : List Entry} {text : List ℕ} → Entries three issued before → Computed before e list text → Brings before e list text

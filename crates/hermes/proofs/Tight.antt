@@ -26,7 +26,7 @@ use Rattle.hermes.specs.Run.{Entry, by, Group, result, advance, run}
 use Rattle.hermes.specs.Agreement.{Started, Shows, IsAccepted, after}
 use Rattle.hermes.specs.Settling.{Gathered, AllHelp}
 use Rattle.hermes.specs.Recipe.{isValid, other}
-use Rattle.hermes.specs.Tight.{saved, Tight}
+use Rattle.hermes.specs.Tight.{saved, Tight, Exact}
 use Rattle.hermes_record.proofs.Tests.{both, and-both, is-false, and-true}
 use Rattle.hermes_record.proofs.Order.{equal-same, greater-later}
 use Rattle.hermes.proofs.Members.{Has, has-zero, others-every}
@@ -52,7 +52,7 @@ module _ (T : Task) (inside : T .i < T .count) (ord : TieOrder (T .wins)) (d : �
     near : Falls (length entries) (missing T d M t0 sent g) (missing T d M t0 sent′ (run wins g entries))
 
   further : {e a b c : ℕ} → Falls 1 a b → Falls e b c → Falls (suc e) a c
-  further x y = record { by = omega (arith, x .by, y .by) }
+  further x y = record { most = omega (arith, x .most, y .most) }
 
   reaches : (sent : Bool) (g : Group) → Stage T d M t0 sent g → (entries : List Entry) → AllHelp wins set i old g entries → Reaches sent g entries
   reaches sent g p [] h = record { sent′ = sent; stage = p; near = keeps refl }
@@ -200,8 +200,13 @@ module _ (wins : ℕ → ℕ → Bool) (ord : TieOrder wins) (member : ℕ → B
       two = size-two set (subst (λ (x : ℕ). leb 2 (size x) ≡ true) (alive .live d hd .view) (both (leb (g .at d .me .number) 15) _ (alive .live d hd .sound .first) .1))
 
       sum : {e a b k : ℕ} (o : ℕ) → Falls e a b → a ≡ 1 + (o + (o + o)) → b ≡ 0 → o + 1 ≡ k → 3 * k ≤ e + 2
-      sum o x p q y = omega (arith, x .by, p, q, y)
+      sum o x p q y = omega (arith, x .most, p, q, y)
 
 -- the bound 3k − 2 cannot be bettered
 pub tight : Tight
 tight wins ord member count issued g s all i d v inside hd ok entries h shown = omega (arith, bound wins ord member count issued g s all i d v inside hd ok entries h shown)
+
+-- so a list that settles such a save has exactly so many entries
+pub exact : Exact
+exact wins ord member count issued g s all i d v inside hd ok entries x =
+    omega (arith, x .few, tight wins ord member count issued g s all i d v inside hd ok entries (x .help) (λ m h. x .shown m h .0))

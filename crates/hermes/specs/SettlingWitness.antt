@@ -105,9 +105,9 @@ pub record SettlingWitness : Type 0 where
   -- and of 0's lost save no shorter list makes all three show it
   pub noFewer : (entries : List Entry) → AllHelp higher (issued 0) 0 (length (run higher group lostSave .log)) (run higher group lostSave) entries
       → ((m : ℕ) → has (issued 0) m ≡ true → Shows (after higher (run higher group lostSave) entries m) 0) → length lostSaveRecipe ≤ length entries
-  -- what `Settled` claims, of any list: each that settles 0's lost save has as many entries, and all three show what 0 had
-  pub claims : (entries : List Entry) → Settled higher (issued 0) 0 (run higher group lostSave) entries → (length entries ≡ length lostSaveRecipe)
-      × ((m : ℕ) → has (issued 0) m ≡ true → Shows (after higher (run higher group lostSave) entries m) 0 × Alike 0 (after higher (run higher group lostSave) entries m) (run higher group lostSave .at 0))
+  -- what `Settled` claims of any list: after each that settles 0's lost save all three show what 0 had
+  pub claims : (entries : List Entry) → Settled higher (issued 0) 0 (run higher group lostSave) entries
+      → (m : ℕ) → has (issued 0) m ≡ true → Shows (after higher (run higher group lostSave) entries m) 0 × Alike 0 (after higher (run higher group lostSave) entries m) (run higher group lostSave .at 0)
   -- the premises can be met by every kind of entry: 1's last save of `struckOff`, before anybody hears of it
   pub met : Gathered three issued 1 (run higher group (take 36 story))
       × Settled higher (issued 1) 0 (run higher group (take 36 story)) (recipe higher (issued 1) 0 (run higher group (take 36 story)))

@@ -8,21 +8,30 @@ use Rattle.hermes_record.specs.Members.{has, size}
 use Rattle.hermes_record.specs.Order.{TieOrder}
 use Rattle.hermes.specs.Run.{write, Entry, by, Group, result, advance}
 use Rattle.hermes.specs.Agreement.{Started, Shows, IsAccepted, after}
-use Rattle.hermes.specs.Settling.{Gathered, AllHelp}
+use Rattle.hermes.specs.Settling.{Gathered, AllHelp, Settled}
 
 module _ (wins : ℕ → ℕ → Bool) where
   -- the group with d's save of record i
   abbrev pub saved : Group → (d i : ℕ) → List ℕ → Group
   saved g d i v = advance wins g (by d (write i v))
 
-  -- in every group that has just started, of every laptop's first save: a list of events that help, all accepted, after which all show it
-  abbrev pub TightBy : Type 0
-  TightBy = (member : ℕ → Bool) (count : ℕ) (issued : ℕ → ℕ) (g : Group) → Started member count issued g → Gathered member issued 0 g
-      → (i d : ℕ) (v : List ℕ) → i < count → has (issued 0) d ≡ true → IsAccepted (result wins g (by d (write i v)))
-      → (entries : List Entry) → AllHelp wins (issued 0) i (length (saved g d i v .log)) (saved g d i v) entries
-      → ((m : ℕ) → has (issued 0) m ≡ true → Shows (after wins (saved g d i v) entries m) i)
-      → 3 * size (issued 0) ≤ length entries + 2
+  -- P holds in every group that has just started, after any laptop's first save of any record
+  abbrev pub AfterFirstSave : ((set i : ℕ) → Group → Type 0) → Type 0
+  AfterFirstSave P = (member : ℕ → Bool) (count : ℕ) (issued : ℕ → ℕ) (g : Group) → Started member count issued g → Gathered member issued 0 g
+      → (i d : ℕ) (v : List ℕ) → i < count → has (issued 0) d ≡ true → IsAccepted (result wins g (by d (write i v))) → P (issued 0) i (saved g d i v)
 
--- over every strict total order of ties; `proofs/Tight` proves it
+  -- events that help, all accepted, after which all show the record, are 3k − 2 or more
+  abbrev pub TightBy : Type 0
+  TightBy = AfterFirstSave (λ set i g. (entries : List Entry) → AllHelp wins set i (length (g .log)) g entries
+      → ((m : ℕ) → has set m ≡ true → Shows (after wins g entries m) i) → 3 * size set ≤ length entries + 2)
+
+  -- and those that settle it are exactly so many
+  abbrev pub ExactBy : Type 0
+  ExactBy = AfterFirstSave (λ set i g. (entries : List Entry) → Settled wins set i g entries → length entries + 2 ≡ 3 * size set)
+
+-- over every strict total order of ties; `proofs/Tight` proves both
 abbrev pub Tight : Type 0
 Tight = (wins : ℕ → ℕ → Bool) → TieOrder wins → TightBy wins
+
+abbrev pub Exact : Type 0
+Exact = (wins : ℕ → ℕ → Bool) → TieOrder wins → ExactBy wins

@@ -158,6 +158,7 @@ fn act(
         messages.push(left);
         messages.len() - 1
     });
+    assert!(place < 64, "more messages than bits");
     Some(air | 1 << place)
 }
 

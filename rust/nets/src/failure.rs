@@ -60,7 +60,7 @@ impl fmt::Display for Cause {
                 write!(f, "record {record} has not settled since the link healed")
             }
             Cause::NoWay { record } => {
-                write!(f, "no 3k - 2 events would settle record {record}")
+                write!(f, "the recipe would not settle record {record}")
             }
             Cause::Restless { record } => write!(
                 f,

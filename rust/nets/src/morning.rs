@@ -198,7 +198,7 @@ impl Morning {
             to_the_dead: self.to_the_dead,
             checks: self.group.agreement.checks,
             saved: self.ringers.saved,
-            unsettled: self.unsettled.unwrap_or_default(),
+            unsettled: self.unsettled.expect("looked at when the link healed"),
             settled,
             last_change: self.group.last_change,
             ticks: self.group.now,

@@ -10,7 +10,7 @@
 //! outset, and [`follow`] has them do it. It takes the first of the [`drivers`]; any
 //! other settles the record as well. Lists and drivers are those of
 //! crates/hermes/specs/Recipe.antt, of which all this is proved. No hut sees what all others hold, so hut
-//! software gets there by its clocks instead, with more events (docs/GUIDE.md).
+//! software gets there by its clocks instead (docs/GUIDE.md).
 //!
 //! ```
 //! use cetskobi::{Laptop, Refusal};
