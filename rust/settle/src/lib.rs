@@ -7,10 +7,14 @@
 //! and each message that is delivered left one of these very events.
 //!
 //! One of the laptops drives. [`recipe`] gives the list, from what they hold at the
-//! outset, and [`follow`] has them do it. It takes the first of the [`drivers`]; any
-//! other settles the record as well. Lists and drivers are those of
-//! crates/hermes/specs/Recipe.antt, of which all this is proved. No hut sees what all others hold, so hut
-//! software gets there by its clocks instead (docs/GUIDE.md).
+//! outset, and [`follow`] has them do it. The recipe takes the first of the
+//! [`drivers`]; any other settles the record as well. Lists and drivers are those of
+//! crates/hermes/specs/Recipe.antt, of which all this is proved. No hut sees what all
+//! others hold, so hut software gets there by its clocks instead (docs/GUIDE.md).
+//!
+//! What is passed in are all laptops of one view, each at its epoch, and no others:
+//! nothing here looks at views or epochs. With one too many or too few a list may come
+//! to a [`Halt`], or end before all show the record.
 //!
 //! ```
 //! use cetskobi::{Laptop, Refusal};
@@ -74,7 +78,8 @@ pub const fn most(laptops: usize) -> usize {
     (3 * laptops).saturating_sub(2)
 }
 
-/// What the laptops hold of record `i`. One that does not have it is left out.
+/// What the laptops of a view hold of record `i`. One that does not have it is left
+/// out: of a number that no laptop has, nothing is held, and the [`recipe`] is empty.
 pub fn held<T: AsRef<[u8]>, S: AsRef<[u8]>>(laptops: &[Laptop<T, S>], i: usize) -> Vec<Held> {
     let held = |l: &Laptop<T, S>| Some((l.number(), l.record(i)?));
     let mut held: Vec<Held> = laptops.iter().filter_map(held).collect();
@@ -159,7 +164,7 @@ pub fn drivers(held: &[Held]) -> Vec<Step> {
     [go_on, say_again, take_over].concat()
 }
 
-/// The whole list, from the driver's event on.
+/// The whole list, from the driver's event on: one of the [`drivers`] of `held`.
 pub fn steps(held: &[Held], first: Step) -> Vec<Step> {
     let driver = first.at;
     let of_driver = held.iter().find(|(n, _)| *n == driver);
