@@ -67,7 +67,7 @@ enum {
 struct cetskobi_record {
     uint8_t state;            /* byte 0: one of the five */
     uint8_t tie;              /* byte 1: the timestamp's tie-breaker */
-    uint8_t writer;           /* byte 2: the last writer */
+    uint8_t writer;           /* byte 2: the last writer: whose INV was taken last; this replica since its own write or replay; at first the lowest in the view */
     uint8_t written_tie;      /* byte 3: the last-write timestamp's tie-breaker */
     uint32_t version;         /* bytes 4 to 7: the timestamp's version */
     uint32_t written_version; /* bytes 8 to 11: the last-write timestamp's version */

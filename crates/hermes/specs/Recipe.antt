@@ -1,6 +1,6 @@
 -- The list of events that settles a record (02, Wish 3): who brings it back, and by which events. The idea: of the laptops of the view that hold the
--- greatest timestamp one drives. Its INV goes to those that have not replied, their ACKs come back, and its VAL goes to those that do not show
--- that timestamp yet.
+-- greatest timestamp one drives. Its INV goes to those that it has not counted, their ACKs come back, and its VAL goes to those that do not
+-- show that timestamp yet.
 use Prim.Native.Nat.{ℕ, zero, suc, _+_}
 use mathlib.Core.Path.{_≡_}
 use mathlib.Core.Bool.{Bool, true, false, cond, not, _&&_, _||_}
@@ -75,7 +75,7 @@ module _ (wins : ℕ → ℕ → Bool) (set i : ℕ) (g : Group) where
   allShow = allBelow 16 (λ u. not (has set u) || isValid (at u))
 
   -- three ways to drive, for those that lead: a save or replay is under way, and goes on; the record is valid, and its last writer says so again; it is
-  -- invalid, and is taken over
+  -- invalid or invalid-write with a last writer that is not in the view, and is taken over
   abbrev pub goesOn : ℕ → Bool
   goesOn u = leads u && underWay (at u)
 
@@ -98,14 +98,14 @@ module _ (wins : ℕ → ℕ → Bool) (set i : ℕ) (g : Group) where
     abbrev pub vals : ℕ → List Entry
     vals k = each 16 late (λ u. by u (deliver k))
 
-    -- message k, d's INV, goes to those that have not replied, and their ACKs come back, numbered as they left; with the last of them the VAL leaves
+    -- message k, d's INV, goes to those that are not counted, and their ACKs come back, numbered as they left; with the last of them the VAL leaves
     abbrev pub round : (k acks : ℕ) → List Entry
     round k acks =
         each 16 (due set d acks) (λ u. by u (deliver k))
         ++ each 16 (due set d acks) (λ u. by d (deliver (k + 1 + countBelow u (due set d acks))))
         ++ vals (k + 1 + countBelow 16 (due set d acks))
 
-    -- with a save or replay under way d validates if all others have replied, and else sends its INV again
+    -- with a save or replay under way d validates if all others are counted, and else sends its INV again
     abbrev pub finish : Bool → List Entry
     finish true = by d (validate i) ∷ vals (length (g .log))
     finish false = by d (resend i) ∷ round (length (g .log)) (at d .acks)
@@ -118,10 +118,12 @@ module _ (wins : ℕ → ℕ → Bool) (set i : ℕ) (g : Group) where
     drive Write = finish (othersIn d set (at d .acks))
     drive Replay = finish (othersIn d set (at d .acks))
 
+  -- nobody drives only where all show the record
   abbrev pub driven : Choice → List Entry
   driven nobody = []
   driven (laptop d) = drive d (at d .state)
 
+  -- nothing, or the driver's list
   unfoldable pub recipe : List Entry
   recipe = cond allShow [] (driven driver)
 

@@ -1,5 +1,5 @@
--- 02, Wish 3, "Say that a record does settle". All laptops of a view are at its epoch and still run, and one record gets no further write: from every
--- situation that the premises of agreement allow, a few events on that record, all accepted, leave it valid on all of them, with the greatest
+-- 02, Wish 3, "Say that a record does settle". All k laptops of a view are at its epoch and still run, and one record gets no further write: from every
+-- situation that the premises of agreement allow, at most 3k − 2 events on that record, all accepted, leave it valid on all k, with the greatest
 -- timestamp that any of them held at the outset. Other laptops, dead ones too, take no part, and no message that was sent before is needed.
 use Prim.Native.Nat.{ℕ, _+_, _*_, _≤_, _<_}
 use mathlib.Core.Path.{_≡_}
@@ -59,7 +59,8 @@ module _ (wins : ℕ → ℕ → Bool) where
       → (before : List Entry) → Entries member issued before
       → (i e m : ℕ) → i < count → has (issued e) m ≡ true → Gathered member issued e (run wins g before) → P (issued e) i (run wins g before)
 
-  -- Wish 3, with ties decided by `wins`: there is such a list
+  -- Wish 3, with ties decided by `wins`: there are at most 3k − 2 events on the record, all accepted, that leave it valid on all k, with the greatest
+  -- timestamp that any of them held
   abbrev pub SettlingBy : Type 0
   SettlingBy = FromEvery (λ set i g. (entries : List Entry) × Settled set i g entries)
 

@@ -15,7 +15,7 @@ module _ (wins : ℕ → ℕ → Bool) where
   abbrev pub saved : Group → (d i : ℕ) → List ℕ → Group
   saved g d i v = advance wins g (by d (write i v))
 
-  -- P holds in every group that has just started, after any laptop's first save of any record
+  -- P holds in every group that has just started, after its first save, of any laptop and any record
   abbrev pub AfterFirstSave : ((set i : ℕ) → Group → Type 0) → Type 0
   AfterFirstSave P = (member : ℕ → Bool) (count : ℕ) (issued : ℕ → ℕ) (g : Group) → Started member count issued g → Gathered member issued 0 g
       → (i d : ℕ) (v : List ℕ) → i < count → has (issued 0) d ≡ true → IsAccepted (result wins g (by d (write i v))) → P (issued 0) i (saved g d i v)

@@ -99,7 +99,8 @@ pub struct Record {
     pub state: State,
     /// The timestamp of its value.
     pub timestamp: Timestamp,
-    /// The last writer.
+    /// The last writer: whose INV was taken last; this laptop since its own write or
+    /// replay; at first the lowest number in the view.
     pub writer: u8,
     /// The last-write timestamp: what this laptop itself last wrote or replayed.
     pub written: Timestamp,
