@@ -6,7 +6,6 @@ use mathlib.Core.Bool.{Bool, true, _||_}
 use mathlib.Core.Logic.{_⊎_, inl, inr}
 use mathlib.Core.List.{List, [], _∷_}
 use native.Mathlib.Omega.{arith}
-use lib.ListN.{length}
 use Rattle.hermes_record.specs.declared.timestamp.Timestamp.{Timestamp}
 use Rattle.hermes_record.specs.Order.{TieOrder, higher, later, NotAfter}
 use Rattle.hermes.specs.Node.{recordOf}
@@ -14,7 +13,7 @@ use Rattle.hermes.specs.Run as run
 use Rattle.hermes.specs.Run.{Action, Entry, Group, Logged, advance, run}
 use Rattle.hermes.specs.Agreement.{AsIssued, Entries}
 use Rattle.hermes.specs.Reads.{Sound}
-use Rattle.hermes.specs.Settling.{Helps, AllHelp, Settled, Gathered, SettlingAny, Settling}
+use Rattle.hermes.specs.Settling.{nextNumber, Helps, AllHelp, Settled, Gathered, SettlingAny, Settling}
 use Rattle.hermes.specs.Recipe.{goesOn, saysAgain, takesOver, drive, recipe, RecipeSettles, AnyDriverSettles}
 use Rattle.hermes_record.proofs.Order.{higher-order}
 use Rattle.hermes.proofs.Members.{Has, has-small}
@@ -49,7 +48,7 @@ module _ (wins : ℕ → ℕ → Bool) (ord : TieOrder wins) (member : ℕ → B
   set = issued e
 
   abbrev task : Task
-  task = record { wins = wins; count = count; e = e; set = set; i = i; old = length (g .log) }
+  task = record { wins = wins; count = count; e = e; set = set; i = i; old = nextNumber g }
 
   -- every copy of the record
   abbrev at : ℕ → Copy Cell
@@ -112,7 +111,7 @@ module _ (wins : ℕ → ℕ → Bool) (ord : TieOrder wins) (member : ℕ → B
         end = run wins g entries
 
         theirs : Entries member issued entries
-        theirs = are-entries wins member issued set i (length (g .log)) (λ u h. gathered u h .0) g entries (w .plays .help)
+        theirs = are-entries wins member issued set i (nextNumber g) (λ u h. gathered u h .0) g entries (w .plays .help)
 
         ok2 : Ok wins ord member count issued end
         ok2 = run-ok wins ord member count issued g ok entries theirs

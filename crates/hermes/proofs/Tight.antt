@@ -24,7 +24,7 @@ use Rattle.hermes.specs.Node.{recordOf}
 use Rattle.hermes.specs.Run as run
 use Rattle.hermes.specs.Run.{Entry, by, Group, result, advance, run}
 use Rattle.hermes.specs.Agreement.{Started, Shows, IsAccepted, after}
-use Rattle.hermes.specs.Settling.{Gathered, AllHelp}
+use Rattle.hermes.specs.Settling.{nextNumber, Gathered, AllHelp}
 use Rattle.hermes.specs.Recipe.{isValid, other}
 use Rattle.hermes.specs.Tight.{saved, Tight, Exact}
 use Rattle.hermes_record.proofs.Tests.{both, and-both, is-false, and-true}
@@ -114,7 +114,7 @@ module _ (wins : ℕ → ℕ → Bool) (ord : TieOrder wins) (member : ℕ → B
   g1 = saved wins g d i v
 
   abbrev task : Task
-  task = record { wins = wins; count = count; e = 0; set = set; i = i; old = length (g1 .log) }
+  task = record { wins = wins; count = count; e = 0; set = set; i = i; old = nextNumber g1 }
 
   abbrev t0 : Timestamp
   t0 = freshRecord (lowest set) .timestamp
@@ -190,7 +190,7 @@ module _ (wins : ℕ → ℕ → Bool) (ord : TieOrder wins) (member : ℕ → B
       uncounted-all : (u : ℕ) → uncounted task d M t0 g1 u ≡ other set d u
       uncounted-all u = rw (here, has-zero u, and-true (other set d u))
 
-  bound : (entries : List Entry) → AllHelp wins set i (length (g1 .log)) g1 entries → ((m : ℕ) → has set m ≡ true → Shows (after wins g1 entries m) i) → 3 * size set ≤ length entries + 2
+  bound : (entries : List Entry) → AllHelp wins set i (nextNumber g1) g1 entries → ((m : ℕ) → has set m ≡ true → Shows (after wins g1 entries m) i) → 3 * size set ≤ length entries + 2
   bound entries h shown = sum (countBelow 16 (other set d)) (n .near) all-missing (none-missing task inside ord d hd M t0 newer (n .sent′) (run wins g1 entries) (n .stage) two shown) (others-size wins set i g1 d hd)
     where
       n : Reaches task inside ord d hd M t0 newer false g1 entries

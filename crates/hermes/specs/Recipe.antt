@@ -24,6 +24,7 @@ pub data Choice : Type 0 where
   nobody : Choice
   laptop : ℕ → Choice
 
+-- the first choice, or else the second
 abbrev pub orElse : Choice → Choice → Choice
 orElse nobody c = c
 orElse (laptop u) c = laptop u
@@ -44,14 +45,17 @@ each (suc n) p f = each n p f ++ cond (p n) (f n ∷ []) []
 abbrev pub underWay : Record → Bool
 underWay r = oneOf (r .state) (Write ∷ Replay ∷ [])
 
+-- a read is answered
 abbrev pub isValid : Record → Bool
 isValid r = oneOf (r .state) (Valid ∷ [])
 
+-- another's INV was taken, and its VAL has not come
 abbrev pub isInvalid : Record → Bool
 isInvalid r = oneOf (r .state) (Invalid ∷ InvalidWrite ∷ [])
 
 -- ---- the laptops of the view `set` beside the driver d
 
+-- all others
 abbrev pub other : (set d : ℕ) → ℕ → Bool
 other set d u = has set u && not (eqb u d)
 

@@ -33,6 +33,10 @@ Helps i old log (validate j) = j ≡ i
 Helps i old log (resend j) = j ≡ i
 Helps i old log (view epoch set) = ⊥
 
+-- the number of the next message that leaves: none of those at the outset has it or a later one
+abbrev pub nextNumber : Group → ℕ
+nextNumber g = length (g .log)
+
 module _ (wins : ℕ → ℕ → Bool) where
   -- "all accepted": each entry is one of a laptop of the view `set`, helps record i, and is accepted in its turn
   abbrev pub AllHelp : (set i old : ℕ) → Group → List Entry → Type 0
@@ -44,7 +48,7 @@ module _ (wins : ℕ → ℕ → Bool) where
   pub record Settled (set i : ℕ) (g : Group) (entries : List Entry) : Type 0 where
     -- "at most 3k − 2 events"
     pub few : length entries + 2 ≤ 3 * size set
-    pub help : AllHelp set i (length (g .log)) g entries
+    pub help : AllHelp set i (nextNumber g) g entries
     -- "the greatest stamp that any of them held at the outset": one of them, the holder, held it, and none held a later one
     pub holder : ℕ
     pub held : has set holder ≡ true

@@ -8,7 +8,7 @@ use Rattle.hermes_record.specs.Members.{has, size}
 use Rattle.hermes_record.specs.Order.{TieOrder}
 use Rattle.hermes.specs.Run.{write, Entry, by, Group, result, advance}
 use Rattle.hermes.specs.Agreement.{Started, Shows, IsAccepted, after}
-use Rattle.hermes.specs.Settling.{Gathered, AllHelp, Settled}
+use Rattle.hermes.specs.Settling.{Gathered, nextNumber, AllHelp, Settled}
 
 module _ (wins : ℕ → ℕ → Bool) where
   -- the group with d's save of record i
@@ -22,7 +22,7 @@ module _ (wins : ℕ → ℕ → Bool) where
 
   -- events that help, all accepted, after which all show the record, are 3k − 2 or more
   abbrev pub TightBy : Type 0
-  TightBy = AfterFirstSave (λ set i g. (entries : List Entry) → AllHelp wins set i (length (g .log)) g entries
+  TightBy = AfterFirstSave (λ set i g. (entries : List Entry) → AllHelp wins set i (nextNumber g) g entries
       → ((m : ℕ) → has set m ≡ true → Shows (after wins g entries m) i) → 3 * size set ≤ length entries + 2)
 
   -- and those that settle it are exactly so many
