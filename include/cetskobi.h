@@ -11,8 +11,9 @@
  * before it is saved again. Beyond that every function takes every input.
  *
  * Answers. A number of 0, or that of the question that said no: CETSKOBI_REFUSED_.. below, and what to do about each in docs/GUIDE.md,
- * part 4. After a no nothing lent has changed, and the other fields of the answer are 0, but for an admission's identity: an accepted
- * start or view has the new one, a refused view the old one, as it was passed, and a refused start the one that was asked for.
+ * part 4. After a no nothing lent has changed, and the other fields of the answer are 0. Two answers tell more. An admission has an
+ * identity: an accepted start or view the new one, a refused view the old one, as it was passed, and a refused start the one that was
+ * asked for. An arrival has the message that came, also where its delivery was refused.
  * cetskobi_body and cetskobi_recipients ask no question: they give a length and a set.
  *
  * Threads and stack. No function keeps anything between calls, and none allocates. One laptop's table and store take one call at a time;
@@ -28,9 +29,9 @@
 #include <stddef.h>
 #include <stdint.h>
 
-#define CETSKOBI_VERSION "0.5.0"
+#define CETSKOBI_VERSION "0.6.0"
 #define CETSKOBI_VERSION_MAJOR 0
-#define CETSKOBI_VERSION_MINOR 5
+#define CETSKOBI_VERSION_MINOR 6
 #define CETSKOBI_VERSION_PATCH 0
 
 /* Bytes of stack that are enough for a call. */
@@ -154,6 +155,23 @@ struct cetskobi_fetched {
     size_t len;
 };
 
+/* What is known of a packet that was looked at as a whole: 0 and how many messages it has; or the number of the question that refused it,
+ * 20 to 22, and no messages. */
+struct cetskobi_accepted {
+    uint8_t number;
+    uint8_t count;
+};
+
+/* The answer to the delivery of a packet's message; and which message it was, also of a refused delivery: the number of the record that it
+ * is about, its sender and its epoch. An epoch greater than this laptop's, which question 10 refuses, is the sign that it missed a view.
+ * Where there was no message to deliver (20 to 23) these are 0. */
+struct cetskobi_arrival {
+    struct cetskobi_answer answer;
+    uint32_t epoch;
+    uint8_t sender;
+    size_t index; /* of the record */
+};
+
 /* A message that goes into a packet, in the order of its CETSKOBI_ENTRY_WORDS words. */
 struct cetskobi_entry {
     uint32_t kind;
@@ -187,8 +205,8 @@ struct cetskobi_admission {
 
 /* Events on record i. A message that leaves is about record i, from me.number at me.epoch as they were passed: who sends it later keeps
  * them with it, since a view may have changed me. A delivery takes the record's number and the bytes that came with its message: other
- * bytes, or none, are accepted too, and two laptops may then show different texts for one timestamp. cetskobi_deliver_packet takes both
- * from the packet. What an accepted event sends: write and replay an INV, validate a VAL, resend an INV or a VAL, deliver what stands there. */
+ * bytes, or none, are accepted too, and two laptops may then show different texts for one timestamp. cetskobi_deliver_packet and
+ * cetskobi_deliver_accepted take both from the packet. What an accepted event sends: write and replay an INV, validate a VAL, resend an INV or a VAL, deliver what stands there. */
 CETSKOBI_MUST_USE
 struct cetskobi_answer cetskobi_write(struct cetskobi_replica me, uint8_t *table, size_t table_len, uint8_t *store, size_t store_len,
                                       size_t i, const uint8_t *value, size_t value_len);
@@ -238,7 +256,8 @@ size_t cetskobi_body(const uint8_t *table, size_t table_len, const uint8_t *stor
 CETSKOBI_MUST_USE
 uint16_t cetskobi_recipients(struct cetskobi_replica me, uint8_t kind, uint8_t sender);
 
-/* Message i of a packet. */
+/* Message i of a packet. The whole packet is looked at first, at each call: for more than one of its messages, cetskobi_accept once and then
+ * cetskobi_fetch_accepted. */
 CETSKOBI_MUST_USE
 struct cetskobi_fetched cetskobi_fetch(const uint8_t *packet, size_t packet_len, size_t i);
 /* Messages as one packet, at the front of the output. They are words, seven for each: an array of struct cetskobi_entry, passed as
@@ -248,10 +267,30 @@ CETSKOBI_MUST_USE
 struct cetskobi_written cetskobi_pack(const uint32_t *messages,
                                       size_t messages_len, /* words, 7 for each message: not messages, not bytes */
                                       const uint8_t *bodies, size_t bodies_len, uint8_t *out, size_t out_len);
-/* The delivery of message i of a packet: the questions of cetskobi_fetch, then those of cetskobi_deliver; what leaves is as there. */
+/* The delivery of message i of a packet: the questions of cetskobi_fetch, then those of cetskobi_deliver; what leaves is as there. The whole
+ * packet is looked at first here too: for all of it there is cetskobi_deliver_accepted. */
 CETSKOBI_MUST_USE
 struct cetskobi_answer cetskobi_deliver_packet(struct cetskobi_replica me, uint8_t *table, size_t table_len, uint8_t *store,
                                                size_t store_len, const uint8_t *packet, size_t packet_len, size_t i);
+
+/* All of a packet in one pass. It is accepted once, by questions 20 to 22, and then each of its messages is taken in constant time, those
+ * with a number below accepted.count; of a refused packet that is 0:
+ *
+ *     struct cetskobi_accepted all = cetskobi_accept(packet, packet_len);
+ *     for (size_t i = 0; i < all.count; i++) ... cetskobi_deliver_accepted(me, .., packet, packet_len, all, i) ...
+ *
+ * For every packet and every i they answer what cetskobi_fetch and cetskobi_deliver_packet answer, if accepted is what cetskobi_accept gave
+ * of these very bytes. Whatever else it is, of another packet say, they answer too, and nothing outside the packet is read: where i is not
+ * below accepted.count accepted.number, or 23 if that is 0; else 21 where entry i of the contents table does not lie within the packet; 22
+ * where its bytes do not; else the entry as it stands there, of which question 22 has not been asked. Its delivery asks all of its own. */
+CETSKOBI_MUST_USE
+struct cetskobi_accepted cetskobi_accept(const uint8_t *packet, size_t packet_len);
+CETSKOBI_MUST_USE
+struct cetskobi_fetched cetskobi_fetch_accepted(const uint8_t *packet, size_t packet_len, struct cetskobi_accepted accepted, size_t i);
+CETSKOBI_MUST_USE
+struct cetskobi_arrival cetskobi_deliver_accepted(struct cetskobi_replica me, uint8_t *table, size_t table_len, uint8_t *store,
+                                                  size_t store_len, const uint8_t *packet, size_t packet_len,
+                                                  struct cetskobi_accepted accepted, size_t i);
 
 /* The playing program on one script of at most 65,536 bytes, with room for 25 bytes for each of them, and 2. */
 CETSKOBI_MUST_USE

@@ -35,7 +35,7 @@ length-entries (suc n) q = ap suc (length-entries n (drop 16 q))
 pub bytes-drop : (n : ℕ) (q : List ℕ) → Bytes q → Bytes (drop n q)
 bytes-drop n q b i = rw getD-drop (b (n + i))
 
-sixteen : (n : ℕ) (q : List ℕ) → drop (16 * suc n) q ≡ drop (16 * n) (drop 16 q)
+pub sixteen : (n : ℕ) (q : List ℕ) → drop (16 * suc n) q ≡ drop (16 * n) (drop 16 q)
 sixteen n q = let e : 16 * suc n ≡ 16 + 16 * n = omega arith in ap (λ (k : ℕ). drop k q) e ∙ sym (drop-drop (16 * n) 16 q)
 
 -- ---- what is written is read

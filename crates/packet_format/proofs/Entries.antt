@@ -1,10 +1,11 @@
 -- One entry there and back: its 16 bytes and its fields, its fields and its message.
 use mathlib.Core.Path.{_≡_, refl, sym, _∙_}
-use mathlib.Core.Bool.{true, false}
+use mathlib.Core.Bool.{true, false, _&&_}
 use mathlib.Core.List.{List, [], _∷_, _++_}
 use Prim.Native.Nat.{ℕ, _≤_}
-use borrow.Author.Tests.{leb-true}
-use lib.Dec.{leb}
+use native.Mathlib.Omega.{arith}
+use borrow.Author.Tests.{leb-true, eq-eqb, ne-eqb, le-leb}
+use lib.Dec.{leb, eqb}
 use lib.ListN.{length, drop, getD}
 use Rattle.hermes_record.specs.declared.timestamp.Timestamp.{Timestamp}
 use Rattle.hermes.specs.Kind.{inv, val, known}
@@ -14,7 +15,7 @@ use Rattle.packet_format.specs.declared.entry.Entry.{Entry}
 use Rattle.packet_format.specs.declared.entry.Fields.{Fields}
 use Rattle.packet_format.specs.Bytes.{window}
 use Rattle.packet_format.specs.Entry.{fieldsOf, entryBytes, entryOf, fieldsFor, bodied, good}
-use Rattle.hermes_record.proofs.Tests.{both, is-false}
+use Rattle.hermes_record.proofs.Tests.{both, is-false, and-true}
 use Rattle.packet_format.proofs.Width.{num-be, window-drop, be-window}
 
 -- fields written are read
@@ -85,6 +86,16 @@ good-parts f h =
 
 pub not-good : (f : Fields) → (Good f → ⊥) → false ≡ good f
 not-good f n = sym (is-false (good f) (λ h. n (good-parts f h)))
+
+-- fields whose sender, tie-breaker, record and length are within their limits
+module _ (f : Fields) (sender : f .sender ≤ 15) (tie : f .tie ≤ 15) (index : f .index ≤ 4095) (len : f .len ≤ 192) where
+  pub of-inv : f .kind ≡ 1 → true ≡ good f
+  unfolding good
+  of-inv k = simp (le-leb 1 (f .kind) (omega arith), le-leb (f .kind) 3 (omega arith), le-leb _ _ sender, le-leb _ _ tie, le-leb _ _ index, le-leb _ _ len, eq-eqb _ _ k)
+
+  pub of-other : (f .kind ≡ 1 → ⊥) → (leb 1 (f .kind) && leb (f .kind) 3 && eqb (f .len) 0) ≡ good f
+  unfolding good
+  of-other k = simp (le-leb _ _ sender, le-leb _ _ tie, le-leb _ _ index, le-leb _ _ len, ne-eqb _ _ k, and-true)
 
 -- an offset is no part of `good`
 pub good-offset : (e : Entry) (a b : ℕ) → good (fieldsFor e a) ≡ good (fieldsFor e b)

@@ -4,5 +4,6 @@ pub mod Reading
 pub mod Writing
 pub mod Entries
 pub mod Contents
+pub mod Accepting
 pub mod RoundTrip
 pub mod Rows

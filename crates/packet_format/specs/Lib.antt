@@ -2,6 +2,7 @@
 pub mod Bytes
 pub mod Entry
 pub mod Reading
+pub mod Accepting
 pub mod Writing
 pub mod RoundTrip
 pub mod Rows

@@ -30,17 +30,26 @@ impl Fields {
     // The greatest number of a record.
     pub const INDEX_MAX: usize = 4095;
 
-    // Are the fields as question 22 asks, the offset aside?
+    // Are the fields as question 22 asks, the offset aside? It ends at the first that is not.
     pub fn good(self) -> bool
         ensures { λ r. ⌜ r ≡ good self ⌝ }
     {
-        (Message::INV <= self.kind)
-            & (self.kind <= Message::VAL)
-            & (self.sender <= Record::NUMBER_MAX)
-            & (self.tie <= Record::NUMBER_MAX)
-            & (self.index <= Self::INDEX_MAX)
-            & (self.len as usize <= Record::VALUE_MAX)
-            & ((self.kind == Message::INV) | (self.len == 0))
+        if Record::NUMBER_MAX < self.sender {
+            return false;
+        }
+        if Record::NUMBER_MAX < self.tie {
+            return false;
+        }
+        if Self::INDEX_MAX < self.index {
+            return false;
+        }
+        if Record::VALUE_MAX < self.len as usize {
+            return false;
+        }
+        if self.kind == Message::INV {
+            return true;
+        }
+        (Message::INV <= self.kind) & (self.kind <= Message::VAL) & (self.len == 0)
     }
 }
 

@@ -5,7 +5,9 @@ mod entry;
 mod fields;
 mod layout;
 
+pub use answer::Accepted;
 pub use answer::Fetched;
+pub use answer::Taken;
 pub use answer::Written;
 pub use entry::Entry;
 pub use entry::Fields;

@@ -1,28 +1,10 @@
 -- Field by field, and the kind last: an INV may have a body.
-use mathlib.Core.Path.{_≡_}
-use mathlib.Core.Bool.{true, _&&_}
-use Prim.Native.Nat.{_≤_}
 use native.Mathlib.Omega.{arith}
-use borrow.Author.Tests.{eq-eqb, ne-eqb, le-leb}
-use lib.Dec.{leb, eqb}
-use Rattle.packet_format.specs.declared.entry.Fields.{Fields}
-use Rattle.packet_format.specs.Entry.{good}
-use Rattle.hermes_record.proofs.Tests.{and-true}
-use Rattle.packet_format.proofs.Entries.{not-good}
+use Rattle.packet_format.proofs.Entries.{not-good, of-inv, of-other}
 use Rattle.packet_words.specs.Words.{fieldsAt}
 use borrow.Author.Needs.{needs}
 use Rattle.packet_question.proofs.question.good_at.Statement.{statement}
 use Rattle.packet_question.proofs.question.good_at.Tie as tie
-
--- fields whose sender, tie-breaker, record and length are within their limits
-module _ (f : Fields) (sender : f .sender ≤ 15) (tie : f .tie ≤ 15) (index : f .index ≤ 4095) (len : f .len ≤ 192) where
-  of-inv : f .kind ≡ 1 → true ≡ good f
-  unfolding good
-  of-inv k = simp (le-leb 1 (f .kind) (omega arith), le-leb (f .kind) 3 (omega arith), le-leb _ _ sender, le-leb _ _ tie, le-leb _ _ index, le-leb _ _ len, eq-eqb _ _ k)
-
-  of-other : (f .kind ≡ 1 → ⊥) → (leb 1 (f .kind) && leb (f .kind) 3 && eqb (f .len) 0) ≡ good f
-  unfolding good
-  of-other k = simp (le-leb _ _ sender, le-leb _ _ tie, le-leb _ _ index, le-leb _ _ len, ne-eqb _ _ k, and-true)
 
 mul-kind : tie.Need-mul-kind
 mul-kind c = search needs

@@ -1,0 +1,92 @@
+-- 02, Wish 4, "Packets read in one pass": a packet is accepted once, and each of its messages is then taken at its place.
+use Prim.Native.Nat.{ℕ, zero, suc, _+_, _≤_, _<_}
+use mathlib.Core.Path.{_≡_}
+use mathlib.Core.Bool.{true, cond}
+use mathlib.Core.List.{List, [], _∷_}
+use lib.Dec.{ltb, leb, eqb}
+use lib.ListN.{length, take, drop}
+use Rattle.hermes.specs.Guards.{Question, ask, firstNo}
+use Rattle.packet_format.specs.declared.entry.Fields.{Fields}
+use Rattle.packet_format.specs.declared.answer.Accepted.{Accepted}
+use Rattle.packet_format.specs.declared.answer.Fetched.{Fetched}
+use Rattle.packet_format.specs.declared.answer.Fetched.the-variants.{Found}
+use Rattle.packet_format.specs.declared.answer.Fetched.the-variants as fetch
+use Rattle.packet_format.specs.declared.answer.Taken.{Taken}
+use Rattle.packet_format.specs.declared.answer.Taken.the-variants.{Entry, Refused}
+use Rattle.packet_format.specs.Entry.{fieldsOf, entryOf, good}
+use Rattle.packet_format.specs.Reading.{countOf, entryPlace, question20, question21, question22, fetched}
+
+-- ---- the packet as a whole
+
+-- 20 to 22, which ask about no message in particular
+unfoldable pub acceptRefusal : List ℕ → ℕ
+acceptRefusal p = firstNo (question20 p ∷ question21 p ∷ question22 p ∷ [])
+
+-- each case by its number: 0 with the count of messages, or the number of the question that said no, and no messages
+abbrev pub acceptedAs : ℕ → ℕ → Accepted
+acceptedAs zero count = record { number = 0; count = count }
+acceptedAs (suc k) count = record { number = suc k; count = 0 }
+
+-- the facts of the packet p
+unfoldable pub accepted : List ℕ → Accepted
+accepted p = acceptedAs (acceptRefusal p) (countOf p)
+
+-- ---- a message of it
+
+-- 23 of an accepted packet: i below the count? Of a refused one it gives the packet's own number
+abbrev pub questionCount : Accepted → ℕ → Question
+questionCount a i = ask (cond (eqb (a .number) 0) 23 (a .number)) (ltb i (a .count))
+
+-- the facts may be of another packet, so two more: does entry i lie within this one, and does its body? A packet's own facts have both answered.
+abbrev pub questionEntry : List ℕ → ℕ → Question
+questionEntry p i = ask 21 (leb (entryPlace (suc i)) (length p))
+
+abbrev pub questionBody : List ℕ → Fields → Question
+questionBody p f = ask 22 (leb (f .offset + f .len) (length p))
+
+-- the number that a taking answers
+unfoldable pub takeRefusal : List ℕ → Accepted → ℕ → ℕ
+takeRefusal p a i = firstNo (questionCount a i ∷ questionEntry p i ∷ questionBody p (fieldsOf (drop (entryPlace i) p)) ∷ [])
+
+-- each case of an answer, by its number: 0 with the entry, or the number of the question that said no
+abbrev pub takenAs : ℕ → Fields → Taken
+takenAs zero f = Entry f
+takenAs (suc k) f = Refused (suc k)
+
+-- message i of the packet p, by the facts a: its entry as it stands there
+unfoldable pub taken : List ℕ → Accepted → ℕ → Taken
+taken p a i = takenAs (takeRefusal p a i) (fieldsOf (drop (entryPlace i) p))
+
+-- the same as a fetch answers it
+abbrev pub fetchedOf : Taken → Fetched
+fetchedOf (Entry f) = Found (entryOf f) (f .offset)
+fetchedOf (Refused k) = fetch.Refused k
+
+-- the bytes of a message taken: the part of the packet that begins at its offset; of a refused taking the empty part
+abbrev pub bytesOf : List ℕ → Taken → List ℕ
+bytesOf p (Entry f) = take (f .len) (drop (f .offset) p)
+bytesOf p (Refused k) = []
+
+-- ---- what is claimed
+
+-- Of every packet every message taken is the message fetched; `proofs/Accepting` proves this and what follows.
+abbrev pub TakenIsFetched : Type 0
+TakenIsFetched = (p : List ℕ) (i : ℕ) → fetchedOf (taken p (accepted p) i) ≡ fetched p i
+
+-- "for every input the answer, message and body stay the same": what is taken is the fields of an entry that question 22 lets pass
+abbrev pub TakenIsGood : Type 0
+TakenIsGood = (p : List ℕ) (i : ℕ) (f : Fields) → taken p (accepted p) i ≡ Entry f → good f ≡ true
+
+-- The facts tell at once what every fetch will answer: a refused packet its number, whatever is fetched; an accepted one a message up to the count, and 23 from there on.
+pub record Tells (p : List ℕ) (a : Accepted) : Type 0 where
+  pub refused : (k i : ℕ) → a .number ≡ suc k → fetched p i ≡ fetch.Refused (suc k)
+  pub found : (i : ℕ) → a .number ≡ 0 → i < a .count → (f : Fields) × (fetched p i ≡ Found (entryOf f) (f .offset))
+  pub beyond : (i : ℕ) → a .number ≡ 0 → a .count ≤ i → fetched p i ≡ fetch.Refused 23
+
+abbrev pub AcceptedTells : Type 0
+AcceptedTells = (p : List ℕ) → Tells p (accepted p)
+
+-- Whatever the facts, also those of another packet: the bytes of a message taken lie within this one, all of them.
+abbrev pub TakenLiesWithin : Type 0
+TakenLiesWithin = (p : List ℕ) (a : Accepted) (i : ℕ) (f : Fields) → taken p a i ≡ Entry f
+    → (entryPlace (suc i) ≤ length p) × (f .offset + f .len ≤ length p) × (length (bytesOf p (Entry f)) ≡ f .len)
