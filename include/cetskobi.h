@@ -206,7 +206,8 @@ struct cetskobi_admission {
 /* Events on record i. A message that leaves is about record i, from me.number at me.epoch as they were passed: who sends it later keeps
  * them with it, since a view may have changed me. A delivery takes the record's number and the bytes that came with its message: other
  * bytes, or none, are accepted too, and two laptops may then show different texts for one timestamp. cetskobi_deliver_packet and
- * cetskobi_deliver_accepted take both from the packet. What an accepted event sends: write and replay an INV, validate a VAL, resend an INV or a VAL, deliver what stands there. */
+ * cetskobi_deliver_accepted take both from the packet. What an accepted event sends: write and replay an INV, validate a VAL, resend an INV
+ * or a VAL, deliver what stands there. */
 CETSKOBI_MUST_USE
 struct cetskobi_answer cetskobi_write(struct cetskobi_replica me, uint8_t *table, size_t table_len, uint8_t *store, size_t store_len,
                                       size_t i, const uint8_t *value, size_t value_len);
