@@ -11,16 +11,19 @@ use lib.Dec.{eqb, leb, ltb}
 use lib.ListN.{length, take, drop, length-drop}
 use lib.Seq.{drop-drop, length-take-le}
 use Rattle.hermes_record.proofs.Tests.{both}
+use Rattle.hermes.specs.Store.{Bytes}
 use Rattle.packet_format.specs.declared.entry.Fields.{Fields}
 use Rattle.packet_format.specs.declared.answer.Accepted.{Accepted}
 use Rattle.packet_format.specs.declared.answer.Fetched.the-variants as fetch
 use Rattle.packet_format.specs.declared.answer.Taken.{Taken}
 use Rattle.packet_format.specs.declared.answer.Taken.the-variants.{Entry, Refused}
+use Rattle.packet_format.specs.Bytes.{window}
 use Rattle.packet_format.specs.Entry.{fieldsOf, good}
 use Rattle.packet_format.specs.Reading.{countOf, entryPlace, question20, question21, question22, walk, fetched}
 use Rattle.packet_format.specs.Accepting.{acceptRefusal, accepted, takeRefusal, takenAs, taken, fetchedOf, TakenIsFetched, TakenIsGood, Tells, AcceptedTells, TakenLiesWithin}
 use Rattle.packet_format.proofs.Reading.{part-to-end, fetch-20, fetch-21, fetch-22, fetch-23, fetch-0}
-use Rattle.packet_format.proofs.Contents.{sixteen}
+use Rattle.packet_format.proofs.Width.{num-lt, window-bytes}
+use Rattle.packet_format.proofs.Contents.{bytes-drop, sixteen}
 
 -- ---- the entries of a table that passes the walk
 
@@ -50,6 +53,10 @@ walk-entry (suc n) (suc i) q at total w l =
     let s = both (good f && eqb (f .offset) at) (walk n (drop 16 q) (at + f .len) total) w in
     rw (sixteen i q) (walk-entry n i (drop 16 q) (at + f .len) total (s .1) (le-of-suc-le-suc l))
 
+-- an offset is a number of two bytes
+pub offset-fits : (p : List ℕ) (a : ℕ) → Bytes p → fieldsOf (take (length p - a) (drop a p)) .offset < 65536
+offset-fits p a b = rw (part-to-end p a) (num-lt (window (drop a p) 13 2) (window-bytes (drop a p) 13 2 (bytes-drop a p b)))
+
 -- ---- the answer of an acceptance
 
 module _ (p : List ℕ) where
@@ -73,10 +80,14 @@ module _ (p : List ℕ) where
 
 -- ---- the answer of a taking
 
+refused-by : (k : ℕ) (f : Fields) → (k ≡ 0 → ⊥) → Refused k ≡ takenAs k f
+refused-by zero f n = absurd (n refl)
+refused-by (suc k) f n = refl
+
 module _ (p : List ℕ) (a : Accepted) (i : ℕ) where
-  pub take-refused : (k : ℕ) → a .count ≤ i → a .number ≡ suc k → Refused (suc k) ≡ taken p a i
+  pub take-refused : a .count ≤ i → (a .number ≡ 0 → ⊥) → Refused (a .number) ≡ taken p a i
   unfolding taken takeRefusal
-  take-refused k l e = simp (le-ltb _ _ l, e, ne-eqb (suc k) 0 (λ z. omega arith))
+  take-refused l n = simp (le-ltb _ _ l, ne-eqb _ _ n) (refused-by (a .number) (fieldsOf (drop (entryPlace i) p)) n)
 
   pub take-23 : a .count ≤ i → a .number ≡ 0 → Refused 23 ≡ taken p a i
   unfolding taken takeRefusal
@@ -123,7 +134,7 @@ verdict p = asked (question20 p .yes) (question21 p .yes) (question22 p .yes) re
 
 module _ (p : List ℕ) (i : ℕ) where
   refused-taken : (k : ℕ) → _≡_ {A = Accepted} (record { number = suc k; count = 0 }) (accepted p) → taken p (accepted p) i ≡ Refused (suc k)
-  refused-taken k e = ap (λ (a : Accepted). taken p a i) (sym e) ∙ sym (take-refused p (record { number = suc k; count = 0 }) i k (omega arith) refl)
+  refused-taken k e = ap (λ (a : Accepted). taken p a i) (sym e) ∙ sym (take-refused p (record { number = suc k; count = 0 }) i (omega arith) (λ z. omega arith))
 
   module _ (w : Whole p) where
     facts : _≡_ {A = Accepted} (record { number = 0; count = countOf p }) (accepted p)

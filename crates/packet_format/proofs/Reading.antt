@@ -27,35 +27,24 @@ unfolding walk
 walk-step zero q at total h = absurd (not-suc-le-zero h)
 walk-step (suc n) q at total h = rw (sub-one (suc n))
 
--- a turn over the entry at pos, whose fields f were read from the part that begins there: g is what `good` answered, b the turn's test
-pub turn : (p : List ℕ) (count k pos at total : ℕ) (f : Fields) (g b : Bool) → k < count → f ≡ fieldsOf (take (length p - pos) (drop pos p))
-    → g ≡ good f → (g && eqb (f .offset) at) ≡ b
-    → walk (count - k) (drop pos p) at total ≡ (b && walk (count - (k + 1)) (drop (pos + 16) p) (at + f .len) total)
-turn p count k pos at total f g b h ef eg eb =
+-- a turn over entry k, whose fields f were read from the part that begins there: b is what was answered of them
+pub turn : (p : List ℕ) (count k at total : ℕ) (f : Fields) (b : Bool) → k < count → f ≡ fieldsOf (take (length p - entryPlace k) (drop (entryPlace k) p))
+    → b ≡ (good f && eqb (f .offset) at)
+    → walk (count - k) (drop (entryPlace k) p) at total ≡ (b && walk (count - (k + 1)) (drop (entryPlace (k + 1)) p) (at + f .len) total)
+turn p count k at total f b h ef eb =
     let more : 0 < count - k = omega arith in
     let less : count - k - 1 ≡ count - (k + 1) = omega arith in
-    walk-step (count - k) (drop pos p) at total more
-    ∙ ap (λ (x : Fields). good x && eqb (x .offset) at && walk (count - k - 1) (drop 16 (drop pos p)) (at + x .len) total) (sym (ef ∙ ap fieldsOf (part-to-end p pos)))
-    ∙ (λ i. sym eg i && eqb (f .offset) at && walk (less i) (drop-drop 16 pos p i) (at + f .len) total)
-    ∙ ap (λ (x : Bool). x && walk (count - (k + 1)) (drop (pos + 16) p) (at + f .len) total) eb
+    let place : entryPlace k + 16 ≡ entryPlace (k + 1) = omega arith in
+    walk-step (count - k) (drop (entryPlace k) p) at total more
+    ∙ ap (λ (x : Fields). good x && eqb (x .offset) at && walk (count - k - 1) (drop 16 (drop (entryPlace k) p)) (at + x .len) total) (sym (ef ∙ ap fieldsOf (part-to-end p (entryPlace k))))
+    ∙ (λ i. sym eb i && walk (less i) (drop-drop 16 (entryPlace k) p i) (at + f .len) total)
+    ∙ ap (λ (n : ℕ). b && walk (count - (k + 1)) (drop n p) (at + f .len) total) place
 
-walk-done : (left : ℕ) (q : List ℕ) (at total : ℕ) → left ≤ 0 → walk left q at total ≡ eqb at total
+-- the walk's end
+pub walk-done : (left : ℕ) (q : List ℕ) (at total : ℕ) → left ≤ 0 → walk left q at total ≡ eqb at total
 unfolding walk
 walk-done zero q at total h = refl
 walk-done (suc n) q at total h = absurd (not-suc-le-zero h)
-
--- after k entries: the next stands at pos, its body is to begin at `at`, and what is left to ask
-pub record Walked (p : List ℕ) (count k pos at : ℕ) : Type 0 where
-  pub below : k ≤ count
-  pub place : pos ≡ 4 + 16 * k
-  pub small : at + 255 * (count - k) ≤ 17348
-  pub rest : walk count (drop 4 p) (entryPlace count) (length p) ≡ walk (count - k) (drop pos p) at (length p)
-
--- the walk's end
-pub walked-all : (p : List ℕ) (count k pos at : ℕ) → Walked p count k pos at → count ≤ k → eqb at (length p) ≡ walk count (drop 4 p) (entryPlace count) (length p)
-walked-all p count k pos at w h =
-    let none : count - k ≤ 0 = omega arith in
-    sym (w .rest ∙ walk-done (count - k) (drop pos p) at (length p) none)
 
 -- ---- question 20
 

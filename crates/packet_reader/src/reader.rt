@@ -1,10 +1,12 @@
 // The reader.
 ghost use mathlib.Core.Path.{_≡_};
-ghost use Prim.Native.Nat.{_+_, _*_, _≤_};
-ghost use lib.ListN.{length, take, drop};
-ghost use Rattle.packet_format.specs.Reading.{question20, walk, fetched, bodyOf};
+ghost use lib.ListN.{take, drop};
+ghost use Rattle.packet_format.specs.Reading.{question20, fetched, bodyOf};
 use crate::entry::fields_of;
 use crate::numbers::num2;
+use crate::walk::fits;
+use crate::walk::table_good;
+use crate::walk::walk;
 use packet_format::COUNT_MAX;
 use packet_format::ENTRY_BYTES;
 use packet_format::Fetched;
@@ -14,7 +16,7 @@ use packet_format::TOTAL_MAX;
 use packet_format::entry_of;
 
 // Question 20.
-fn header_good(packet: &[u8]) -> bool
+pub(crate) fn header_good(packet: &[u8]) -> bool
     ensures { λ r. ⌜ r ≡ question20 (now (packet .entry)) .yes ⌝ }
 {
     let n = packet.len();
@@ -26,28 +28,8 @@ fn header_good(packet: &[u8]) -> bool
     (packet[0] == RULE) & (1 <= count) & (count <= COUNT_MAX) & (total == n) & (n <= TOTAL_MAX)
 }
 
-// Question 22: one walk of the contents table.
-fn table_good(packet: &[u8], count: usize) -> bool
-    requires { ⌜ (count ≤ 64) × (4 + 16 * count ≤ length (now packet)) ⌝ }
-    ensures { λ r. ⌜ r ≡ walk count (drop 4 (now (packet .entry))) (4 + 16 * count) (length (now (packet .entry))) ⌝ }
-{
-    let mut k = 0;
-    let mut pos = HEADER_BYTES;
-    let mut at = HEADER_BYTES + ENTRY_BYTES * count;
-    while k < count {
-        let f = fields_of(&packet[pos..]);
-        let good = f.good() & (f.offset == at);
-        if !good {
-            return false;
-        }
-        at = at + f.len as usize;
-        pos = pos + ENTRY_BYTES;
-        k = k + 1;
-    }
-    at == packet.len()
-}
-
-// Message i of a packet, for every byte string and every i: the table is walked once, and entry i then read at its place.
+// Message i of a packet, for every byte string and every i, in one walk of the contents table: the entries before it, its own, those behind it.
+// No entry is read twice.
 pub fn fetch(packet: &[u8], i: usize) -> Fetched
     ensures { λ r. ⌜ r ≡ fetched (now (packet .entry)) i ⌝ }
 {
@@ -55,17 +37,28 @@ pub fn fetch(packet: &[u8], i: usize) -> Fetched
         return Fetched::Refused(20);
     }
     let count = packet[1] as usize;
-    if packet.len() < HEADER_BYTES + ENTRY_BYTES * count {
+    let first = HEADER_BYTES + ENTRY_BYTES * count;
+    if packet.len() < first {
         return Fetched::Refused(21);
     }
-    if !table_good(packet, count) {
-        return Fetched::Refused(22);
-    }
     if count <= i {
+        if !table_good(packet, count) {
+            return Fetched::Refused(22);
+        }
         return Fetched::Refused(23);
     }
-    let pos = HEADER_BYTES + ENTRY_BYTES * i;
-    let f = fields_of(&packet[pos..]);
+    let before = walk(packet, 0, i, first);
+    if before.next < i {
+        return Fetched::Refused(22);
+    }
+    let f = fields_of(&packet[HEADER_BYTES + ENTRY_BYTES * i..]);
+    if !fits(f, before.at) {
+        return Fetched::Refused(22);
+    }
+    let behind = walk(packet, i + 1, count, before.at + f.len as usize);
+    if (behind.next < count) | (behind.at != packet.len()) {
+        return Fetched::Refused(22);
+    }
     let entry = entry_of(f);
     Fetched::Found(entry, f.offset)
 }
