@@ -15,10 +15,9 @@ use Rattle.packet_format.specs.Entry.{fieldsFor}
 use Rattle.packet_format.specs.Reading.{fetched, bodyOf}
 use Rattle.export_numbers.specs.declared.numbers.CetskobiReplica.{CetskobiReplica}
 use Rattle.export_numbers.specs.declared.numbers.CetskobiAnswer.{CetskobiAnswer}
-use Rattle.export_numbers.specs.declared.numbers.CetskobiMessage.{CetskobiMessage}
 use Rattle.export_numbers.specs.Crossing.{answerOut, messageIn, receivedIn}
 use Rattle.export_calls.specs.Calls.{nodeOf, Done}
-use Rattle.export_arrival.specs.Arrival.{Arrived}
+use Rattle.export_arrival.specs.Arrival.{numbersOf, Arrived}
 
 -- a message that crossed as its numbers is that message
 back : (m : Message) → messageIn (kindOf m) (timestampOf m .version) (timestampOf m .tie) ≡ m
@@ -26,13 +25,9 @@ back (Inv t) = refl
 back (Ack t) = refl
 back (Val t) = refl
 
--- the numbers of a packet's message
-abbrev numbers : Fields → CetskobiMessage
-numbers f = record { kind = f .kind; sender = f .sender; tie = f .tie; epoch = f .epoch; version = f .version }
-
 module _ (me : CetskobiReplica) (bytes store p : List ℕ) (i : ℕ) (f : Fetched) (fetches : f ≡ fetched p i) (a : CetskobiAnswer) where
   pub found : (e : Entry) (at : ℕ) (b : Fields) (v bytes′ store′ : List ℕ) → f ≡ Found e at → b ≡ fieldsFor e at → v ≡ bodyOf p (Found e at)
-      → Done (nodeOf me bytes store) bytes (b .index) (Deliver (receivedIn (numbers b))) v a bytes′ store′ → Arrived (nodeOf me bytes store) bytes p (fetched p i) a bytes′ store′
+      → Done (nodeOf me bytes store) bytes (b .index) (Deliver (receivedIn (numbersOf b))) v a bytes′ store′ → Arrived (nodeOf me bytes store) bytes p (fetched p i) a bytes′ store′
   found e at b v bytes′ store′ finds takes brings d =
       let s = rw (takes, back (e .message), brings) at d in
       rw (sym fetches ∙ finds) (record { answer = s .answer; bytes = s .bytes; table = s .table; store = s .store })

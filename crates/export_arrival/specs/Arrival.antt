@@ -5,6 +5,7 @@ use mathlib.Core.List.{List}
 use Rattle.hermes.specs.declared.event.Event.the-variants.{Deliver}
 use Rattle.hermes_record.specs.Order.{higher}
 use Rattle.hermes.specs.Node.{Node, effectOf}
+use Rattle.packet_format.specs.declared.entry.Fields.{Fields}
 use Rattle.packet_format.specs.declared.answer.Fetched.{Fetched}
 use Rattle.packet_format.specs.declared.answer.Fetched.the-variants.{Found, Refused}
 use Rattle.packet_format.specs.Reading.{bodyOf}
@@ -12,7 +13,12 @@ use Rattle.packet_event.specs.Arrival.{receivedOf, receiptOf}
 use Rattle.export_records.specs.Layout.{tableOf}
 use Rattle.export_storing.specs.Storing.{bytesAfter}
 use Rattle.export_numbers.specs.declared.numbers.CetskobiAnswer.{CetskobiAnswer}
+use Rattle.export_numbers.specs.declared.numbers.CetskobiMessage.{CetskobiMessage}
 use Rattle.export_numbers.specs.Crossing.{answerOut}
+
+-- a packet's message as `cetskobi_deliver` takes it
+abbrev pub numbersOf : Fields → CetskobiMessage
+numbersOf f = record { kind = f .kind; sender = f .sender; tie = f .tie; epoch = f .epoch; version = f .version }
 
 -- the bytes after the delivery of what a fetch from the packet p answered
 abbrev pub bytesArrived : Node → List ℕ → List ℕ → Fetched → List ℕ

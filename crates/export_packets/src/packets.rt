@@ -1,6 +1,7 @@
 // Packets, for C and Rust.
 ghost use mathlib.Core.Path.{_≡_};
-ghost use Rattle.export_packets.specs.Calls.{fetchAnswer, packAnswer, packOutput};
+ghost use Rattle.export_packets.specs.Calls.{fetchAnswer, acceptAnswer, takeAnswer, packAnswer, packOutput};
+use export_fields::CetskobiAccepted;
 use export_fields::CetskobiFetched;
 use export_fields::CetskobiWritten;
 
@@ -10,6 +11,27 @@ pub extern "C" fn cetskobi_fetch(packet: &[u8], i: usize) -> CetskobiFetched
     ensures { λ r. ⌜ r ≡ fetchAnswer (now (packet .entry)) i ⌝ }
 {
     export_fields::fetched_out(packet_reader::fetch(packet, i))
+}
+
+// The facts of a packet, for all of its messages: questions 20 to 22.
+#[no_mangle]
+pub extern "C" fn cetskobi_accept(packet: &[u8]) -> CetskobiAccepted
+    ensures { λ r. ⌜ r ≡ acceptAnswer (now (packet .entry)) ⌝ }
+{
+    export_fields::accepted_out(packet_reader::accept(packet))
+}
+
+// Message i of a packet by its facts, in constant time; whatever facts they are.
+#[no_mangle]
+pub extern "C" fn cetskobi_fetch_accepted(
+    packet: &[u8],
+    accepted: CetskobiAccepted,
+    i: usize,
+) -> CetskobiFetched
+    ensures { λ r. ⌜ r ≡ takeAnswer (now (packet .entry)) accepted i ⌝ }
+{
+    let facts = export_fields::accepted_in(accepted);
+    export_fields::taken_out(packet_reader::take(packet, facts, i))
 }
 
 // A packet of messages, seven words for each, whose bodies stand end to end.

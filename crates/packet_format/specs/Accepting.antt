@@ -4,7 +4,7 @@ use mathlib.Core.Path.{_≡_}
 use mathlib.Core.Bool.{true, cond}
 use mathlib.Core.List.{List, [], _∷_}
 use lib.Dec.{ltb, leb, eqb}
-use lib.ListN.{length, take, drop}
+use lib.ListN.{length, drop}
 use Rattle.hermes.specs.Guards.{Question, ask, firstNo}
 use Rattle.packet_format.specs.declared.entry.Fields.{Fields}
 use Rattle.packet_format.specs.declared.answer.Accepted.{Accepted}
@@ -14,7 +14,7 @@ use Rattle.packet_format.specs.declared.answer.Fetched.the-variants as f
 use Rattle.packet_format.specs.declared.answer.Taken.{Taken}
 use Rattle.packet_format.specs.declared.answer.Taken.the-variants.{Entry, Refused}
 use Rattle.packet_format.specs.Entry.{fieldsOf, entryOf, good}
-use Rattle.packet_format.specs.Reading.{countOf, entryPlace, question20, question21, question22, fetched}
+use Rattle.packet_format.specs.Reading.{countOf, entryPlace, question20, question21, question22, fetched, bodyOf}
 
 -- ---- the packet as a whole
 
@@ -57,15 +57,10 @@ takenAs (suc k) f = Refused (suc k)
 unfoldable pub taken : List ℕ → Accepted → ℕ → Taken
 taken p a i = takenAs (takeRefusal p a i) (fieldsOf (drop (entryPlace i) p))
 
--- the same as a fetch answers it
+-- the same as a fetch answers it, and with it the body that is handed on (`bodyOf`)
 abbrev pub fetchedOf : Taken → Fetched
 fetchedOf (Entry f) = Found (entryOf f) (f .offset)
 fetchedOf (Refused k) = fetch.Refused k
-
--- the bytes of a message taken: the part of the packet that begins at its offset; of a refused taking the empty part
-abbrev pub bytesOf : List ℕ → Taken → List ℕ
-bytesOf p (Entry f) = take (f .len) (drop (f .offset) p)
-bytesOf p (Refused k) = []
 
 -- ---- what is claimed
 
@@ -89,4 +84,4 @@ AcceptedTells = (p : List ℕ) → Tells p (accepted p)
 -- Whatever the facts, also those of another packet: the bytes of a message taken lie within this one, all of them.
 abbrev pub TakenLiesWithin : Type 0
 TakenLiesWithin = (p : List ℕ) (a : Accepted) (i : ℕ) (f : Fields) → taken p a i ≡ Entry f
-    → (entryPlace (suc i) ≤ length p) × (f .offset + f .len ≤ length p) × (length (bytesOf p (Entry f)) ≡ f .len)
+    → (entryPlace (suc i) ≤ length p) × (f .offset + f .len ≤ length p) × (length (bodyOf p (fetchedOf (Entry f))) ≡ f .len)

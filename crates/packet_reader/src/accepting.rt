@@ -1,8 +1,10 @@
 // A packet accepted once, and its messages taken.
 ghost use mathlib.Core.Path.{_≡_};
-ghost use Rattle.packet_format.specs.Accepting.{accepted, taken};
+ghost use Rattle.packet_format.specs.Reading.{bodyOf};
+ghost use Rattle.packet_format.specs.Accepting.{accepted, taken, fetchedOf};
 use crate::entry::fields_of;
 use crate::reader::header_good;
+use crate::reader::part;
 use crate::walk::table_good;
 use packet_format::Accepted;
 use packet_format::ENTRY_BYTES;
@@ -58,4 +60,14 @@ pub fn take(packet: &[u8], facts: Accepted, i: usize) -> Taken
         return Taken::Refused(22);
     }
     Taken::Entry(f)
+}
+
+// The body that goes with an answer to a taking from this packet.
+pub fn body_taken(packet: &[u8], taken: Taken) -> &[u8]
+    ensures { λ r. ⌜ now r ≡ bodyOf (now (packet .entry)) (fetchedOf taken) ⌝ }
+{
+    match taken {
+        Taken::Entry(f) => part(packet, f.offset, f.len as usize),
+        Taken::Refused(_) => &packet[..0],
+    }
 }

@@ -6,6 +6,7 @@ mod reader;
 mod walk;
 
 pub use accepting::accept;
+pub use accepting::body_taken;
 pub use accepting::take;
 pub use reader::body;
 pub use reader::fetch;

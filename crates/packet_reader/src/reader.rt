@@ -74,7 +74,7 @@ pub fn body(packet: &[u8], fetched: Fetched) -> &[u8]
 }
 
 // The `len` bytes from `start` on, or as many of them as there are.
-fn part(packet: &[u8], start: usize, len: usize) -> &[u8]
+pub(crate) fn part(packet: &[u8], start: usize, len: usize) -> &[u8]
     ensures { λ r. ⌜ now r ≡ take len (drop start (now (packet .entry))) ⌝ }
 {
     let n = packet.len();
