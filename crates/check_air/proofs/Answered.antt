@@ -23,16 +23,25 @@ use Rattle.hermes.specs.Node as hermes
 use Rattle.hermes.specs.Node.{recordAt, recordOf, effectOf, apply, viewed, identity, admissionNumber}
 use Rattle.packet_format.specs.declared.answer.Fetched.{Fetched}
 use Rattle.packet_format.specs.declared.answer.Fetched.the-variants as fetch
+use Rattle.packet_format.specs.declared.answer.Taken.{Taken}
+use Rattle.packet_format.specs.declared.answer.Taken.the-variants as take
 use Rattle.packet_format.specs.Reading.{fetched, bodyOf}
+use Rattle.packet_format.specs.Accepting.{accepted, taken, fetchedOf}
+use Rattle.packet_format.proofs.Accepting.{taken-is-fetched}
 use Rattle.packet_event.specs.Arrival.{receivedOf, receiptOf, receipt}
 use Rattle.export_records.specs.Layout.{countOf, tableOf}
 use Rattle.export_storing.specs.Storing.{bytesAfter, tableAfter}
 use Rattle.export_storing.proofs.Table.{settled-table, settled-nowhere, settled-step}
 use Rattle.export_numbers.specs.Crossing.{replicaOf, identityOf, answerOut, admissionOut, receivedIn}
-use Rattle.export_arrival.specs.Arrival.{bytesArrived}
-use Rattle.check_air.specs.Callers.{Laptop, node, read, write, replay, deliver, deliverPacket, validate, resend, view, Moves, Returns, validates, acknowledges}
-use Rattle.check_air.specs.Answered.{callNumber, afterEvent, afterCall, EveryCallMayFollow, EveryCallFinishes, EveryCallAnswers}
-use Rattle.check_air.proofs.Callers.{number-out}
+use Rattle.export_fields.specs.declared.answers.CetskobiAccepted.{CetskobiAccepted}
+use Rattle.export_fields.specs.Answers.{acceptedIn}
+use Rattle.export_packets.specs.Calls.{acceptAnswer}
+use Rattle.export_arrival.specs.Arrival.{numbersOf, bytesArrived}
+use Rattle.export_accepted.specs.declared.accepted.CetskobiArrival.{CetskobiArrival}
+use Rattle.export_accepted.specs.Arrival.{arrivalOf, takenReceipt, Came}
+use Rattle.check_air.specs.Callers.{Laptop, node, read, write, replay, deliver, deliverPacket, deliverAccepted, validate, resend, view, Moves, Returns, Broken, Untaken, validates, acknowledges}
+use Rattle.check_air.specs.Answered.{callNumber, afterEvent, afterTaken, afterCall, EveryCallMayFollow, EveryCallFinishes, EveryCallAnswers}
+use Rattle.check_air.proofs.Callers.{number-out, is-found}
 
 -- the bytes after an event hold the table after it
 after-bytes : (m : Moved) (a : Answer) (bytes : List ℕ) (i : ℕ) → m .answer ≡ a → tableOf (bytesAfter m bytes i) ≡ tableAfter m (tableOf bytes) i
@@ -67,6 +76,17 @@ arrives l p i = (answerOut a, record { answer = refl; bytes = refl; table = go (
     go : (f : Fetched) → tableOf (bytesArrived (node l) (l .table) p f) ≡ receiptOf higher (node l) p f .node .table
     go (fetch.Found e at) = after-table l (e .header .index) (Deliver (receivedOf e)) (bodyOf p (fetch.Found e at))
     go (fetch.Refused k) = refl
+
+-- and by facts
+takes : (l : Laptop) (p : List ℕ) (a : CetskobiAccepted) (i : ℕ)
+    → Returns (deliverAccepted p a i) l (callNumber (deliverAccepted p a i) l) (afterCall (deliverAccepted p a i) l)
+takes l p a i = by (taken p (acceptedIn a) i)
+  where
+    by : (t : Taken) → (r : CetskobiArrival) × Came (node l) (l .table) p t r (afterTaken l p t .table) (afterTaken l p t .store) × (r .answer .number ≡ event.numberOf (takenReceipt (node l) p t .answer)) × (afterTaken l p t .me ≡ l .me)
+    by (take.Entry f) =
+        let (x, d, q, same) = moves l (f .index) (Deliver (receivedIn (numbersOf f))) (bodyOf p (fetchedOf (take.Entry f))) in
+        (arrivalOf (take.Entry f) x, record { message = refl; done = d }, q, same)
+    by (take.Refused k) = (arrivalOf (take.Refused k) (answerOut (Refused k)), record { message = refl; done = (refl, refl, refl) }, refl, refl)
 
 -- a part as long as it is
 pub own-length : (n : ℕ) (xs : List ℕ) → take (length (take n xs)) xs ≡ take n xs
@@ -108,9 +128,18 @@ every-call-answers (write i v) l = moves l i Write v
 every-call-answers (replay i) l = moves l i Replay []
 every-call-answers (deliver i m v) l = moves l i (Deliver (receivedIn m)) v
 every-call-answers (deliverPacket p i) l = arrives l p i
+every-call-answers (deliverAccepted p a i) l = takes l p a i
 every-call-answers (validate i) l = moves l i Validate []
 every-call-answers (resend i) l = moves l i Resend []
 every-call-answers (view epoch set) l = views l epoch set
+
+-- a broken packet's own facts
+untaken : (p : List ℕ) (i : ℕ) → Broken p i → Untaken p (acceptAnswer p) i
+untaken p i h = by (taken p (accepted p) i) refl
+  where
+    by : (t : Taken) → taken p (accepted p) i ≡ t → Untaken p (acceptAnswer p) i
+    by (take.Entry f) e = absurd (omega (arith, ap is-found (sym (ap fetchedOf e) ∙ taken-is-fetched p i ∙ h .refused)))
+    by (take.Refused k) e = record { number = k; refused = e }
 
 pub every-call-may-follow : EveryCallMayFollow
 every-call-may-follow issued log = record {
@@ -121,6 +150,8 @@ every-call-may-follow issued log = record {
   unknowns = λ i m v h. inr h;
   packets = λ p i h. inl h;
   broken = λ p i h. inr h;
+  accepted = λ p a i h. inl h;
+  unaccepted = λ p i h. inr (untaken p i h);
   validations = λ i. tt;
   resends = λ i. tt;
   views = λ epoch. refl;
@@ -131,4 +162,5 @@ every-call-finishes = record {
   validations = λ n i. validates refl;
   deliveries = λ n i j m v t e. acknowledges tt t e;
   packets = λ n i j p t e. acknowledges tt t e;
+  accepted = λ n i j p a t e. acknowledges tt t e;
 }

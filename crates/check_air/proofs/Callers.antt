@@ -36,7 +36,13 @@ use Rattle.hermes.proofs.Apply.{Applied, refused, accepted, applied, its-own}
 use Rattle.hermes.proofs.Agreement.{agreement}
 use Rattle.packet_format.specs.declared.answer.Fetched.{Fetched}
 use Rattle.packet_format.specs.declared.answer.Fetched.the-variants as fetch
+use Rattle.packet_format.specs.declared.entry.Fields.{Fields}
+use Rattle.packet_format.specs.declared.answer.Taken.{Taken}
+use Rattle.packet_format.specs.declared.answer.Taken.the-variants as take
 use Rattle.packet_format.specs.Reading.{fetched, bodyOf}
+use Rattle.packet_format.specs.Accepting as format
+use Rattle.packet_format.specs.Accepting.{taken, fetchedOf}
+use Rattle.packet_format.proofs.Accepting.{taken-is-fetched, taken-alike}
 use Rattle.packet_event.specs.Arrival.{receivedOf, receiptOf, receipt}
 use Rattle.export_records.specs.Layout.{tableOf}
 use Rattle.export_records.proofs.Lent.{length-table}
@@ -45,7 +51,12 @@ use Rattle.export_numbers.specs.declared.numbers.CetskobiAnswer.{CetskobiAnswer
 use Rattle.export_numbers.specs.declared.numbers.CetskobiAdmission.{CetskobiAdmission}
 use Rattle.export_numbers.specs.declared.numbers.CetskobiMessage.{CetskobiMessage}
 use Rattle.export_numbers.specs.Crossing.{replicaOf, identityOf, answerOut, admissionOut, messageIn, receivedIn}
-use Rattle.check_air.specs.Callers.{Laptop, node, Call, read, write, replay, deliver, deliverPacket, validate, resend, view, Moves, Returns, Hut, Turn, outcome, logOf, next, after, FromAir, Fair, Follows, Begun, AllBegun, laptop, Delivers, Finishes, validates, acknowledges, CallsAgree, CalledDemand3}
+use Rattle.export_fields.specs.declared.answers.CetskobiAccepted.{CetskobiAccepted}
+use Rattle.export_fields.specs.Answers.{acceptedIn}
+use Rattle.export_arrival.specs.Arrival.{numbersOf}
+use Rattle.export_accepted.specs.Arrival.{Delivered, takenReceipt}
+use Rattle.export_accepted.proofs.OnePass.{own-receipt}
+use Rattle.check_air.specs.Callers.{Laptop, node, Call, read, write, replay, deliver, deliverPacket, deliverAccepted, validate, resend, view, Moves, Returns, Hut, Turn, outcome, logOf, next, after, FromAir, Fair, Follows, Begun, AllBegun, laptop, Delivers, Finishes, validates, acknowledges, CallsAgree, CalledDemand3}
 use Rattle.check_air.proofs.Air.{found-left}
 
 -- ---- the log
@@ -66,6 +77,11 @@ no-number (x ∷ log) = no-number log
 
 -- ---- one call
 
+-- the entry of a delivery by facts: that of log number j, or of a message that there is not
+abbrev taken-action : List Logged → ℕ → Taken → Action
+taken-action log j (take.Entry g) = run.deliver j
+taken-action log j (take.Refused k) = run.deliver (length log)
+
 -- the entry of a call
 action : (issued : ℕ → ℕ) (log : List Logged) (c : Call) → Fair issued log c → Action
 action issued log (read i) f = run.read i
@@ -75,6 +91,8 @@ action issued log (deliver i m v) (inl f) = run.deliver (log-number (f .message)
 action issued log (deliver i m v) (inr f) = run.deliver (length log)
 action issued log (deliverPacket p i) (inl f) = run.deliver (log-number (f .message) log (f .earlier) .0)
 action issued log (deliverPacket p i) (inr f) = run.deliver (length log)
+action issued log (deliverAccepted p a i) (inl f) = taken-action log (log-number (f .message) log (f .earlier) .0) (taken p (acceptedIn a) i)
+action issued log (deliverAccepted p a i) (inr f) = run.deliver (length log)
 action issued log (validate i) f = run.validate i
 action issued log (resend i) f = run.resend i
 action issued log (view epoch set) f = run.view epoch set
@@ -88,6 +106,12 @@ as-issued issued log (deliver i m v) (inl f) = tt
 as-issued issued log (deliver i m v) (inr f) = tt
 as-issued issued log (deliverPacket p i) (inl f) = tt
 as-issued issued log (deliverPacket p i) (inr f) = tt
+as-issued issued log (deliverAccepted p a i) (inl f) = by (taken p (acceptedIn a) i)
+  where
+    by : (t : Taken) → AsIssued issued (taken-action log (log-number (f .message) log (f .earlier) .0) t)
+    by (take.Entry g) = tt
+    by (take.Refused k) = tt
+as-issued issued log (deliverAccepted p a i) (inr f) = tt
 as-issued issued log (validate i) f = tt
 as-issued issued log (resend i) f = tt
 as-issued issued log (view epoch set) f = f
@@ -143,6 +167,23 @@ carried log n p i f =
     let (at, finds, brings) = found-left (f .before) (f .after) (f .sending) (f .message) p (f .called) (f .packed) in
     ap (λ (j : ℕ). receiptOf higher n p (fetched p j)) (f .place) ∙ ap (receiptOf higher n p) finds ∙ ap (apply higher n (f .message .header .index) (Deliver (received (f .message)))) brings
 
+-- a message is found, or there is none
+abbrev pub is-found : Fetched → ℕ
+is-found (fetch.Found e at) = 1
+is-found (fetch.Refused k) = 0
+
+-- so does one that left, by whatever facts it is taken
+carried-taken : (log : List Logged) (n : Node) (p : List ℕ) (a : CetskobiAccepted) (i : ℕ) (f : FromAir log p i) (g : Fields) → taken p (acceptedIn a) i ≡ take.Entry g
+    → takenReceipt n p (take.Entry g) ≡ apply higher n (f .message .header .index) (Deliver (received (f .message))) (f .message .body)
+carried-taken log n p a i f g e = own (taken p (format.accepted p) i) refl ∙ own-receipt n p i ∙ carried log n p i f
+  where
+    own : (t : Taken) → taken p (format.accepted p) i ≡ t → takenReceipt n p (take.Entry g) ≡ takenReceipt n p (taken p (format.accepted p) i)
+    own (take.Entry h) e′ = ap (λ (x : Fields). takenReceipt n p (take.Entry x)) (taken-alike p (acceptedIn a) (format.accepted p) i g h e e′) ∙ sym (ap (takenReceipt n p) e′)
+    own (take.Refused k) e′ =
+        let finds = found-left (f .before) (f .after) (f .sending) (f .message) p (f .called) (f .packed) in
+        let no-such : fetched p i ≡ fetch.Refused k = sym (taken-is-fetched p i) ∙ ap fetchedOf e′ in
+        absurd (omega (arith, ap is-found (sym no-such ∙ ap (fetched p) (f .place) ∙ finds .1)))
+
 module _ (issued : ℕ → ℕ) (log : List Logged) where
   does : (c : Call) (f : Fair issued log c) (n : Node) → Does log n (action issued log c f) (outcome c n)
   unfolding action receipt
@@ -153,6 +194,12 @@ module _ (issued : ℕ → ℕ) (log : List Logged) where
   does (deliver i m v) (inr f) n = let (k, e) = unknown-refused n i m v f in nothing-does log n k (outcome (deliver i m v) n) e
   does (deliverPacket p i) (inl f) n = sent-does log n (f .message) (f .earlier) (receipt higher n p i) (carried log n p i f)
   does (deliverPacket p i) (inr f) n = nothing-does log n (f .number) (receipt higher n p i) (ap (receiptOf higher n p) (f .refused))
+  does (deliverAccepted p a i) (inl f) n = by (taken p (acceptedIn a) i) refl
+    where
+      by : (t : Taken) → taken p (acceptedIn a) i ≡ t → Does log n (taken-action log (log-number (f .message) log (f .earlier) .0) t) (takenReceipt n p t)
+      by (take.Entry g) e = sent-does log n (f .message) (f .earlier) (takenReceipt n p (take.Entry g)) (carried-taken log n p a i f g e)
+      by (take.Refused k) e = nothing-does log n k (takenReceipt n p (take.Refused k)) refl
+  does (deliverAccepted p a i) (inr f) n = nothing-does log n (f .number) (takenReceipt n p (taken p (acceptedIn a) i)) (ap (takenReceipt n p) (f .refused))
   does (validate i) f n = event-does log n (run.validate i) _ refl
   does (resend i) f n = event-does log n (run.resend i) _ refl
   does (view epoch set) f n = event-does log n (run.view epoch set) _ refl
@@ -192,6 +239,11 @@ lands (deliver i m v) l l′ number r = moves l l′ i (Deliver (receivedIn m)) 
 lands (deliverPacket p i) l l′ number (a, d, q, same) =
     let me : replicaOf (l′ .me) ≡ receipt higher (node l) p i .node .me = ap replicaOf same ∙ sym (receipt-keeps (node l) p (fetched p i)) in
     λ j. record { me = me j; table = d .table j; store = d .store j }
+lands (deliverAccepted p a i) l l′ number (r, d, q, same) = by (taken p (acceptedIn a) i) (d .done)
+  where
+    by : (t : Taken) → Delivered (node l) (l .table) p t (r .answer) (l′ .table) (l′ .store) → node l′ ≡ takenReceipt (node l) p t .node
+    by (take.Entry g) z = moves l l′ (g .index) (Deliver (receivedIn (numbersOf g))) (bodyOf p (fetchedOf (take.Entry g))) (r .answer .number) (r .answer, z, refl, same)
+    by (take.Refused k) (s, t, u) = λ j. record { me = replicaOf (same j); table = tableOf (t j); store = u j }
 lands (validate i) l l′ number r = moves l l′ i Validate [] number r
 lands (resend i) l l′ number r = moves l l′ i Resend [] number r
 lands (view epoch set) l l′ number (a, e, q, same) =
@@ -354,6 +406,13 @@ module _ (n : Node) (i : ℕ) (t : Timestamp) where
     call-last issued (deliver j m v) (inl f) d e = sent-last (f .message) (f .earlier) (outcome (deliver j m v) n) (rw (f .index, f .same, f .bytes)) e
     call-last issued (deliver j m v) (inr f) d e = let (k, q) = unknown-refused n j m v f in absurd (silent k (ap (λ (z : Outcome). sentBy (z .answer)) (sym q) ∙ e))
     call-last issued (deliverPacket p j) (inl f) d e = sent-last (f .message) (f .earlier) (receipt higher n p j) (carried log n p j f) e
+    call-last issued (deliverAccepted p a j) (inl f) d e = by (taken p (acceptedIn a) j) refl e
+      where
+        by : (x : Taken) → taken p (acceptedIn a) j ≡ x → sentBy (takenReceipt n p x .answer) ≡ send (n .me) i (Val t) → LastAck log n i (taken-action log (log-number (f .message) log (f .earlier) .0) x)
+        by (take.Entry g) q e = sent-last (f .message) (f .earlier) (takenReceipt n p (take.Entry g)) (carried-taken log n p a j f g q) e
+        by (take.Refused k) q e = absurd (silent k e)
+    call-last issued (deliverAccepted p a j) (inr f) d e =
+        absurd (silent (f .number) (ap (λ (z : Outcome). sentBy (z .answer)) (sym (ap (takenReceipt n p) (f .refused))) ∙ e))
     call-last issued (deliverPacket p j) (inr f) d e = absurd (silent (f .number) (ap (λ (z : Outcome). sentBy (z .answer)) (sym (ap (receiptOf higher n p) (f .refused))) ∙ e))
 
 -- ---- the start

@@ -33,13 +33,19 @@ use Rattle.hermes.proofs.Apply.{stepOf, done, first-five, its-own, Applied, ref
 use Rattle.packet_format.specs.declared.answer.Fetched.{Fetched}
 use Rattle.packet_format.specs.declared.answer.Fetched.the-variants as fetch
 use Rattle.packet_format.specs.Reading.{fetched, bodyOf}
+use Rattle.packet_format.specs.declared.answer.Taken.{Taken}
+use Rattle.packet_format.specs.declared.answer.Taken.the-variants as take
+use Rattle.packet_format.specs.Accepting.{taken, fetchedOf}
+use Rattle.export_fields.specs.Answers.{acceptedIn}
+use Rattle.export_arrival.specs.Arrival.{numbersOf}
+use Rattle.export_accepted.specs.Arrival.{takenReceipt}
 use Rattle.packet_event.specs.Arrival.{receivedOf, receiptOf, receipt}
 use Rattle.export_numbers.specs.declared.numbers.CetskobiAnswer.{CetskobiAnswer}
 use Rattle.export_numbers.specs.Crossing.{receivedIn}
 use Rattle.export_calls.specs.Calls.{nodeOf}
 use Rattle.export_outgoing.specs.Leaving.{Along, along, gone, alongIf, stampOf, holds, alongOf, AlongAt}
 use Rattle.export_outgoing.proofs.Sent.{nothing-along, asked-body}
-use Rattle.check_air.specs.Callers.{Laptop, node, Call, read, write, replay, deliver, deliverPacket, validate, resend, view, Hut, Turn, Returns, outcome, next, after, Follows, laptop}
+use Rattle.check_air.specs.Callers.{Laptop, node, Call, read, write, replay, deliver, deliverPacket, deliverAccepted, validate, resend, view, Hut, Turn, Returns, outcome, next, after, Follows, laptop}
 use Rattle.check_air.specs.Late.{OneText, LateIsCalled}
 use Rattle.check_air.proofs.Callers.{lands}
 use Rattle.check_air.proofs.Answered.{own-length}
@@ -135,6 +141,10 @@ module _ (i : ℕ) where
   receipt-since n p (fetch.Found e at) = event-since i n (e .header .index) (Deliver (receivedOf e)) (bodyOf p (fetch.Found e at))
   receipt-since n p (fetch.Refused k) = since-refl i n
 
+  taken-since : (n : Node) (p : List ℕ) (t : Taken) → Since i n (takenReceipt n p t .node)
+  taken-since n p (take.Entry f) = event-since i n (f .index) (Deliver (receivedIn (numbersOf f))) (bodyOf p (fetchedOf (take.Entry f)))
+  taken-since n p (take.Refused k) = since-refl i n
+
   call-since : (c : Call) (n : Node) → Since i n (outcome c n .node)
   unfolding viewed receipt
   call-since (read k) n = event-since i n k Read []
@@ -142,6 +152,7 @@ module _ (i : ℕ) where
   call-since (replay k) n = event-since i n k Replay []
   call-since (deliver k m v) n = event-since i n k (Deliver (receivedIn m)) v
   call-since (deliverPacket p k) n = receipt-since n p (fetched p k)
+  call-since (deliverAccepted p a k) n = taken-since n p (taken p (acceptedIn a) k)
   call-since (validate k) n = event-since i n k Validate []
   call-since (resend k) n = event-since i n k Resend []
   call-since (view epoch set) n = stays i n _ refl refl refl

@@ -15,6 +15,7 @@ use Rattle.hermes.specs.Event.{refusal, effect}
 use Rattle.hermes.specs.Node.{start, apply, view, viewed}
 use Rattle.packet_format.specs.Entry.{good, entryBytes}
 use Rattle.packet_format.specs.Reading.{walk, fetchRefusal, fetched}
+use Rattle.packet_format.specs.Accepting.{acceptRefusal, accepted, takeRefusal, taken}
 use Rattle.packet_format.specs.Writing.{summed, contents, packetBytes, allGood, writeRefusal, packetWritten, outputOf}
 use Rattle.packet_words.specs.Words.{entryIn, wordMessages}
 use Rattle.packet_event.specs.Arrival.{receipt}
@@ -28,9 +29,9 @@ use Rattle.hermes.specs.Run.{Logged, received}
 use Rattle.export_numbers.specs.declared.numbers.CetskobiAdmission.{CetskobiAdmission}
 use Rattle.export_numbers.specs.Crossing.{identityOf, answerOut}
 use Rattle.export_outgoing.specs.Leaving.{Along, along, alongOf, AlongAt}
-use Rattle.export_packets.specs.Calls.{packAnswer}
+use Rattle.export_packets.specs.Calls.{acceptAnswer, packAnswer}
 use Rattle.check_air.specs.Air.{Sending, wordsSent, bodiesSent, Leaves, Called, Packed}
-use Rattle.check_air.specs.Callers.{Laptop, node, Broken, AsNumbers, Begun, AllBegun, Hut, Fair, Follows, FromAir, next, validates, acknowledges}
+use Rattle.check_air.specs.Callers.{Laptop, node, Broken, Untaken, AsNumbers, Begun, AllBegun, Hut, Fair, Follows, FromAir, next, validates, acknowledges}
 use Rattle.check_air.specs.Callers as callers
 use Rattle.check_air.specs.Morning.{val, valNumbers, inv2, ack2, val2, three, issued, lentTable, lentStore, fresh, hut, inv, ack, packetOf, Plan, turn, plans, turnsOf, morning, Morning}
 use Rattle.check_air.specs.Answered.{afterEvent, afterCall}
@@ -100,15 +101,15 @@ abbrev struck : Laptop
 struck = afterCall (callers.view 1 3) acknowledged
 
 called-inv : Called invLogged inv
-unfolding has size lowest within othersIn with later sameTimestamp padded place refusal effect start apply view viewed good entryBytes walk fetchRefusal fetched summed contents packetBytes allGood writeRefusal packetWritten outputOf entryIn wordMessages receipt decode tableOf
+unfolding has size lowest within othersIn with later sameTimestamp padded place refusal effect start apply view viewed good entryBytes walk fetchRefusal fetched acceptRefusal accepted takeRefusal taken summed contents packetBytes allGood writeRefusal packetWritten outputOf entryIn wordMessages receipt decode tableOf
 called-inv = call invLogged inv (fresh 0) Write (65 ∷ 49 ∷ []) (record { who = refl; answer = refl; bytes = refl; there = refl; leaves = refl })
 
 called-ack : Called ackLogged ack
-unfolding has size lowest within othersIn with later sameTimestamp padded place refusal effect start apply view viewed good entryBytes walk fetchRefusal fetched summed contents packetBytes allGood writeRefusal packetWritten outputOf entryIn wordMessages receipt decode tableOf
+unfolding has size lowest within othersIn with later sameTimestamp padded place refusal effect start apply view viewed good entryBytes walk fetchRefusal fetched acceptRefusal accepted takeRefusal taken summed contents packetBytes allGood writeRefusal packetWritten outputOf entryIn wordMessages receipt decode tableOf
 called-ack = call ackLogged ack (fresh 1) (Deliver (received invLogged)) (65 ∷ 49 ∷ []) (record { who = refl; answer = refl; bytes = refl; there = refl; leaves = refl })
 
 called-val : Called valLogged val
-unfolding has size lowest within othersIn with later sameTimestamp padded place refusal effect start apply view viewed good entryBytes walk fetchRefusal fetched summed contents packetBytes allGood writeRefusal packetWritten outputOf entryIn wordMessages receipt decode tableOf
+unfolding has size lowest within othersIn with later sameTimestamp padded place refusal effect start apply view viewed good entryBytes walk fetchRefusal fetched acceptRefusal accepted takeRefusal taken summed contents packetBytes allGood writeRefusal packetWritten outputOf entryIn wordMessages receipt decode tableOf
 called-val = call valLogged val struck Validate [] (record { who = refl; answer = refl; bytes = refl; there = refl; leaves = refl })
 
 -- packed together
@@ -116,15 +117,15 @@ packs : (ss : List Sending) → packAnswer (wordsSent ss) (bodiesSent ss) (repli
 packs ss e = record { out = replicate 60 0; accepted = e; front = refl }
 
 inv-packed : Packed (inv ∷ inv ∷ []) (packetOf (inv ∷ inv ∷ []))
-unfolding has size lowest within othersIn with later sameTimestamp padded place refusal effect start apply view viewed good entryBytes walk fetchRefusal fetched summed contents packetBytes allGood writeRefusal packetWritten outputOf entryIn wordMessages receipt decode tableOf
+unfolding has size lowest within othersIn with later sameTimestamp padded place refusal effect start apply view viewed good entryBytes walk fetchRefusal fetched acceptRefusal accepted takeRefusal taken summed contents packetBytes allGood writeRefusal packetWritten outputOf entryIn wordMessages receipt decode tableOf
 inv-packed = packs (inv ∷ inv ∷ []) refl
 
 ack-packed : Packed (inv ∷ ack ∷ []) (packetOf (inv ∷ ack ∷ []))
-unfolding has size lowest within othersIn with later sameTimestamp padded place refusal effect start apply view viewed good entryBytes walk fetchRefusal fetched summed contents packetBytes allGood writeRefusal packetWritten outputOf entryIn wordMessages receipt decode tableOf
+unfolding has size lowest within othersIn with later sameTimestamp padded place refusal effect start apply view viewed good entryBytes walk fetchRefusal fetched acceptRefusal accepted takeRefusal taken summed contents packetBytes allGood writeRefusal packetWritten outputOf entryIn wordMessages receipt decode tableOf
 ack-packed = packs (inv ∷ ack ∷ []) refl
 
 val-packed : Packed (val ∷ []) (packetOf (val ∷ []))
-unfolding has size lowest within othersIn with later sameTimestamp padded place refusal effect start apply view viewed good entryBytes walk fetchRefusal fetched summed contents packetBytes allGood writeRefusal packetWritten outputOf entryIn wordMessages receipt decode tableOf
+unfolding has size lowest within othersIn with later sameTimestamp padded place refusal effect start apply view viewed good entryBytes walk fetchRefusal fetched acceptRefusal accepted takeRefusal taken summed contents packetBytes allGood writeRefusal packetWritten outputOf entryIn wordMessages receipt decode tableOf
 val-packed = packs (val ∷ []) refl
 
 -- what a delivery rests on: the three messages in their packets, the VAL as numbers, a broken packet
@@ -173,6 +174,10 @@ broken : Broken (1 ∷ 1 ∷ 0 ∷ []) 0
 unfolding fetched fetchRefusal walk
 broken = record { number = 20; refused = refl }
 
+untaken : Untaken (1 ∷ 1 ∷ 0 ∷ []) (acceptAnswer (packetOf (inv ∷ inv ∷ []))) 0
+unfolding good entryBytes walk accepted acceptRefusal taken takeRefusal summed contents packetBytes allGood writeRefusal packetWritten outputOf entryIn wordMessages
+untaken = record { number = 21; refused = refl }
+
 -- each call is answered as its function's contract has it, so that it is enough that each is fair and a laptop's of the group
 abbrev AllFair : Hut → List Plan → Type 0
 AllFair h [] = Unit
@@ -189,9 +194,9 @@ follow h (t ∷ rest) m (fair, f) =
     let (a, b) = tests.both (three (t .who)) (members rest) m in (a, fair, every-call-answers (t .call) (h .at (t .who)), follow (next h (turn h t)) rest b f)
 
 fair : AllFair hut plans
-unfolding has size lowest within othersIn with later sameTimestamp padded place refusal effect start apply view viewed good entryBytes walk fetchRefusal fetched summed contents packetBytes allGood writeRefusal packetWritten outputOf entryIn wordMessages receipt decode tableOf
+unfolding has size lowest within othersIn with later sameTimestamp padded place refusal effect start apply view viewed good entryBytes walk fetchRefusal fetched acceptRefusal accepted takeRefusal taken summed contents packetBytes allGood writeRefusal packetWritten outputOf entryIn wordMessages receipt decode tableOf
 fair =
-    (tt, (tt, (tt, (tt, (inl inv-came, (inr broken, (tt, (inl ack-came, (tt, (refl, (tt, (tt, (tt, (refl, (refl, (inl val-came, (inl val-numbers, (inr refl, (tt, (inl inv2-numbers, (inl ack2-numbers, (inl val2-numbers, (tt, tt)))))))))))))))))))))))
+    (tt, (tt, (tt, (tt, (inl inv-came, (inr broken, (inr untaken, (tt, (inl ack-came, (tt, (refl, (tt, (tt, (tt, (refl, (refl, (inl val-came, (inl val-numbers, (inr refl, (tt, (inl inv2-numbers, (inl ack2-numbers, (inl val2-numbers, (tt, tt))))))))))))))))))))))))
 
 followed : Follows three issued hut morning
 unfolding members
@@ -201,7 +206,7 @@ begun : AllBegun three 1 issued hut
 begun = record { fresh = begins; silent = refl }
 
 pub morning-holds : Morning
-unfolding has size lowest within othersIn with later sameTimestamp padded place refusal effect start apply view viewed good entryBytes walk fetchRefusal fetched summed contents packetBytes allGood writeRefusal packetWritten outputOf entryIn wordMessages receipt decode tableOf
+unfolding has size lowest within othersIn with later sameTimestamp padded place refusal effect start apply view viewed good entryBytes walk fetchRefusal fetched acceptRefusal accepted takeRefusal taken summed contents packetBytes allGood writeRefusal packetWritten outputOf entryIn wordMessages receipt decode tableOf
 morning-holds = record {
   begun = begun;
   follows = followed;

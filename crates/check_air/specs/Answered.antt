@@ -15,13 +15,19 @@ use Rattle.hermes.specs.Event.{send, sentBy}
 use Rattle.hermes.specs.Node as hermes
 use Rattle.hermes.specs.Node.{Node, apply, effectOf, identity}
 use Rattle.hermes.specs.Run.{Logged}
-use Rattle.packet_format.specs.Reading.{fetched}
+use Rattle.packet_format.specs.declared.answer.Taken.{Taken}
+use Rattle.packet_format.specs.declared.answer.Taken.the-variants.{Entry, Refused}
+use Rattle.packet_format.specs.Reading.{fetched, bodyOf}
+use Rattle.packet_format.specs.Accepting.{taken, fetchedOf}
 use Rattle.packet_event.specs.Arrival.{receipt}
 use Rattle.export_storing.specs.Storing.{bytesAfter}
 use Rattle.export_numbers.specs.declared.numbers.CetskobiMessage.{CetskobiMessage}
 use Rattle.export_numbers.specs.Crossing.{replicaOf, identityOf, receivedIn}
-use Rattle.export_arrival.specs.Arrival.{bytesArrived}
-use Rattle.check_air.specs.Callers.{Laptop, node, Call, read, write, replay, deliver, deliverPacket, validate, resend, view, Returns, outcome, FromAir, Broken, AsNumbers, Fair, Finishes}
+use Rattle.export_fields.specs.declared.answers.CetskobiAccepted.{CetskobiAccepted}
+use Rattle.export_fields.specs.Answers.{acceptedIn}
+use Rattle.export_packets.specs.Calls.{acceptAnswer}
+use Rattle.export_arrival.specs.Arrival.{numbersOf, bytesArrived}
+use Rattle.check_air.specs.Callers.{Laptop, node, Call, read, write, replay, deliver, deliverPacket, deliverAccepted, validate, resend, view, Returns, outcome, FromAir, Broken, AsNumbers, Fair, Finishes}
 
 -- the number of the answer
 abbrev pub callNumber : Call → Laptop → ℕ
@@ -35,6 +41,11 @@ afterEvent l i e v = record {
   store = apply higher (node l) i e v .node .store;
 }
 
+-- the laptop after the delivery of what was taken
+abbrev pub afterTaken : Laptop → List ℕ → Taken → Laptop
+afterTaken l p (Entry f) = afterEvent l (f .index) (Deliver (receivedIn (numbersOf f))) (bodyOf p (fetchedOf (Entry f)))
+afterTaken l p (Refused k) = l
+
 -- the laptop after a call
 abbrev pub afterCall : Call → Laptop → Laptop
 afterCall (read i) l = l
@@ -46,6 +57,7 @@ afterCall (deliverPacket p i) l = record {
   table = bytesArrived (node l) (l .table) p (fetched p i);
   store = receipt higher (node l) p i .node .store;
 }
+afterCall (deliverAccepted p a i) l = afterTaken l p (taken p (acceptedIn a) i)
 afterCall (validate i) l = afterEvent l i Validate []
 afterCall (resend i) l = afterEvent l i Resend []
 afterCall (view epoch set) l = record {
@@ -64,6 +76,8 @@ pub record AnyCall (issued : ℕ → ℕ) (log : List Logged) : Type 0 where
   pub unknowns : (i : ℕ) (m : CetskobiMessage) (v : List ℕ) → known (m .kind) ≡ false → Fair issued log (deliver i m v)
   pub packets : (p : List ℕ) (i : ℕ) → FromAir log p i → Fair issued log (deliverPacket p i)
   pub broken : (p : List ℕ) (i : ℕ) → Broken p i → Fair issued log (deliverPacket p i)
+  pub accepted : (p : List ℕ) (a : CetskobiAccepted) (i : ℕ) → FromAir log p i → Fair issued log (deliverAccepted p a i)
+  pub unaccepted : (p : List ℕ) (i : ℕ) → Broken p i → Fair issued log (deliverAccepted p (acceptAnswer p) i)
   pub validations : (i : ℕ) → Fair issued log (validate i)
   pub resends : (i : ℕ) → Fair issued log (resend i)
   pub views : (epoch : ℕ) → Fair issued log (view epoch (issued epoch))
@@ -71,13 +85,15 @@ pub record AnyCall (issued : ℕ → ℕ) (log : List Logged) : Type 0 where
 abbrev pub EveryCallMayFollow : Type 0
 EveryCallMayFollow = (issued : ℕ → ℕ) (log : List Logged) → AnyCall issued log
 
--- no validation is left out: a Validate, and a delivery with which a VAL leaves, of numbers or out of a packet
+-- no validation is left out: a Validate, and a delivery with which a VAL leaves, of numbers or out of a packet, accepted or not
 pub record EveryCallFinishes : Type 0 where
   pub validations : (n : Node) (i : ℕ) → Finishes n i (validate i)
   pub deliveries : (n : Node) (i j : ℕ) (m : CetskobiMessage) (v : List ℕ) (t : Timestamp)
       → sentBy (outcome (deliver j m v) n .answer) ≡ send (n .me) i (Val t) → Finishes n i (deliver j m v)
   pub packets : (n : Node) (i j : ℕ) (p : List ℕ) (t : Timestamp)
       → sentBy (outcome (deliverPacket p j) n .answer) ≡ send (n .me) i (Val t) → Finishes n i (deliverPacket p j)
+  pub accepted : (n : Node) (i j : ℕ) (p : List ℕ) (a : CetskobiAccepted) (t : Timestamp)
+      → sentBy (outcome (deliverAccepted p a j) n .answer) ≡ send (n .me) i (Val t) → Finishes n i (deliverAccepted p a j)
 
 -- every call on every laptop is answered with that number, and leaves that laptop
 abbrev pub EveryCallAnswers : Type 0

@@ -18,7 +18,9 @@ use Rattle.hermes.specs.Node.{Node, Outcome, recordOf, apply, viewed}
 use Rattle.hermes.specs.Run.{Logged, received, logged}
 use Rattle.hermes.specs.Agreement.{Shows, Sees, Alike}
 use Rattle.packet_format.specs.declared.answer.Fetched.the-variants.{Refused}
+use Rattle.packet_format.specs.declared.answer.Taken.the-variants as take
 use Rattle.packet_format.specs.Reading.{fetched}
+use Rattle.packet_format.specs.Accepting.{taken}
 use Rattle.packet_event.specs.Arrival.{receipt}
 use Rattle.export_records.specs.Layout.{countOf}
 use Rattle.export_numbers.specs.declared.numbers.CetskobiReplica.{CetskobiReplica}
@@ -30,7 +32,11 @@ use Rattle.export_numbers.specs.Crossing.{replicaOf, admissionOut, receivedIn}
 use Rattle.export_calls.specs.Calls.{nodeOf, Done}
 use Rattle.export_reading.specs.Reading.{ReadDone}
 use Rattle.export_membership.specs.Admission.{StartDone}
+use Rattle.export_fields.specs.declared.answers.CetskobiAccepted.{CetskobiAccepted}
+use Rattle.export_fields.specs.Answers.{acceptedIn}
 use Rattle.export_arrival.specs.Arrival.{Arrived}
+use Rattle.export_accepted.specs.declared.accepted.CetskobiArrival.{CetskobiArrival}
+use Rattle.export_accepted.specs.Arrival.{takenReceipt, Came}
 use Rattle.check_air.specs.Air.{Sending, Called, Packed}
 
 -- ---- one call
@@ -53,6 +59,8 @@ pub data Call : Type 0 where
   deliver : ℕ → CetskobiMessage → List ℕ → Call
   -- message i of a packet
   deliverPacket : List ℕ → ℕ → Call
+  -- message i of a packet by these facts
+  deliverAccepted : List ℕ → CetskobiAccepted → ℕ → Call
   validate : ℕ → Call
   resend : ℕ → Call
   view : ℕ → ℕ → Call
@@ -70,6 +78,8 @@ Returns (replay i) l number l′ = Moves l i Replay [] number l′
 Returns (deliver i m v) l number l′ = Moves l i (Deliver (receivedIn m)) v number l′
 Returns (deliverPacket p i) l number l′ =
     (a : CetskobiAnswer) × Arrived (node l) (l .table) p (fetched p i) a (l′ .table) (l′ .store) × (a .number ≡ number) × (l′ .me ≡ l .me)
+Returns (deliverAccepted p a i) l number l′ =
+    (r : CetskobiArrival) × Came (node l) (l .table) p (taken p (acceptedIn a) i) r (l′ .table) (l′ .store) × (r .answer .number ≡ number) × (l′ .me ≡ l .me)
 Returns (validate i) l number l′ = Moves l i Validate [] number l′
 Returns (resend i) l number l′ = Moves l i Resend [] number l′
 Returns (view epoch set) l number l′ =
@@ -97,6 +107,7 @@ outcome (write i v) n = apply higher n i Write v
 outcome (replay i) n = apply higher n i Replay []
 outcome (deliver i m v) n = apply higher n i (Deliver (receivedIn m)) v
 outcome (deliverPacket p i) n = receipt higher n p i
+outcome (deliverAccepted p a i) n = takenReceipt n p (taken p (acceptedIn a) i)
 outcome (validate i) n = apply higher n i Validate []
 outcome (resend i) n = apply higher n i Resend []
 outcome (view epoch set) n = viewed n epoch set
@@ -135,6 +146,11 @@ pub record Broken (p : List ℕ) (i : ℕ) : Type 0 where
   pub number : ℕ
   pub refused : fetched p i ≡ Refused number
 
+-- facts by which message i of the packet is refused: those of a broken packet, say, or of one with fewer messages
+pub record Untaken (p : List ℕ) (a : CetskobiAccepted) (i : ℕ) : Type 0 where
+  pub number : ℕ
+  pub refused : taken p (acceptedIn a) i ≡ take.Refused number
+
 -- numbers and bytes of a message that left
 pub record AsNumbers (log : List Logged) (i : ℕ) (m : CetskobiMessage) (v : List ℕ) : Type 0 where
   pub message : Logged
@@ -144,13 +160,14 @@ pub record AsNumbers (log : List Logged) (i : ℕ) (m : CetskobiMessage) (v : Li
   pub bytes : v ≡ message .body
 
 -- 01, "Premises of agreement": what is delivered left an earlier call, or is refused for itself, a broken packet or an unknown kind;
--- a view is the one issued for its epoch
+-- a view is the one issued for its epoch. Of a packet that left, the facts may be any: those of another packet do no harm.
 abbrev pub Fair : (ℕ → ℕ) → List Logged → Call → Type 0
 Fair issued log (read i) = Unit
 Fair issued log (write i v) = Unit
 Fair issued log (replay i) = Unit
 Fair issued log (deliver i m v) = AsNumbers log i m v ⊎ (known (m .kind) ≡ false)
 Fair issued log (deliverPacket p i) = FromAir log p i ⊎ Broken p i
+Fair issued log (deliverAccepted p a i) = FromAir log p i ⊎ Untaken p a i
 Fair issued log (validate i) = Unit
 Fair issued log (resend i) = Unit
 Fair issued log (view epoch set) = set ≡ issued epoch
@@ -185,6 +202,7 @@ Delivers (write i v) = ⊥
 Delivers (replay i) = ⊥
 Delivers (deliver i m v) = Unit
 Delivers (deliverPacket p i) = Unit
+Delivers (deliverAccepted p a i) = Unit
 Delivers (validate i) = ⊥
 Delivers (resend i) = ⊥
 Delivers (view epoch set) = ⊥

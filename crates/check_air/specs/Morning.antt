@@ -12,7 +12,7 @@ use Rattle.export_records.specs.Layout.{tableOf}
 use Rattle.export_numbers.specs.declared.numbers.CetskobiMessage.{CetskobiMessage}
 use Rattle.export_numbers.specs.Crossing.{identityOf, answering}
 use Rattle.export_membership.specs.Admission.{filledBy}
-use Rattle.export_packets.specs.Calls.{packAnswer, packOutput}
+use Rattle.export_packets.specs.Calls.{acceptAnswer, packAnswer, packOutput}
 use Rattle.check_air.specs.Air.{Sending, wordsSent, bodiesSent}
 use Rattle.check_air.specs.Answered.{callNumber, afterCall}
 use Rattle.check_air.specs.Callers.{
@@ -23,6 +23,7 @@ use Rattle.check_air.specs.Callers.{
   replay,
   deliver,
   deliverPacket,
+  deliverAccepted,
   validate,
   resend,
   view,
@@ -139,8 +140,9 @@ plans =
     ∷ by 0 (read 0)  -- 6: so it is
     ∷ by 1 (deliverPacket (packetOf (inv ∷ inv ∷ [])) 0)  -- the ACK leaves
     ∷ by 1 (deliverPacket (1 ∷ 1 ∷ 0 ∷ []) 0)  -- 20: the front of a packet
+    ∷ by 1 (deliverAccepted (1 ∷ 1 ∷ 0 ∷ []) (acceptAnswer (packetOf (inv ∷ inv ∷ []))) 0)  -- 21: by the facts of another
     ∷ by 1 (resend 0)  -- 17: it has nothing to send
-    ∷ by 0 (deliverPacket (packetOf (inv ∷ ack ∷ [])) 1)  -- 1 is counted
+    ∷ by 0 (deliverAccepted (packetOf (inv ∷ ack ∷ [])) (acceptAnswer (packetOf (inv ∷ ack ∷ []))) 1)  -- 1 is counted
     ∷ by 0 (validate 0)  -- 15: 2 has not acknowledged it
     ∷ by 0 (view 1 3)  -- 2 is struck off
     ∷ by 0 (validate 0)  -- the VAL leaves
@@ -176,12 +178,12 @@ pub record Morning : Type 0 where
   pub follows : Follows three issued hut morning
   pub agrees : CallsAgree three 1 hut morning
   pub numbers : numbersOf morning
-      ≡ 0 ∷ 0 ∷ 7 ∷ 6 ∷ 0 ∷ 20 ∷ 17 ∷ 0 ∷ 15 ∷ 0 ∷ 0 ∷ 0 ∷ 16 ∷ 18 ∷ 0 ∷ 0 ∷ 14 ∷ 12 ∷ 0 ∷ 0 ∷ 0 ∷ 0 ∷ 0 ∷ []
+      ≡ 0 ∷ 0 ∷ 7 ∷ 6 ∷ 0 ∷ 20 ∷ 21 ∷ 17 ∷ 0 ∷ 15 ∷ 0 ∷ 0 ∷ 0 ∷ 16 ∷ 18 ∷ 0 ∷ 0 ∷ 14 ∷ 12 ∷ 0 ∷ 0 ∷ 0 ∷ 0 ∷ 0 ∷ []
   -- the premises of `alike`
   pub sees : Sees (laptop hut morning 0) 1
   pub seen : Sees (laptop hut morning 1) 0
   pub shows : Shows (laptop hut morning 0) 0
   pub shown : Shows (laptop hut morning 1) 0
   -- and those of `lasting`, of a Validate and of a last ACK
-  pub byValidate : FinishedCall 10 0 (validate 0) 1
-  pub byAck : FinishedCall 20 1 (deliver 0 ack2 []) 0
+  pub byValidate : FinishedCall 11 0 (validate 0) 1
+  pub byAck : FinishedCall 21 1 (deliver 0 ack2 []) 0

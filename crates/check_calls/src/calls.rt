@@ -3,6 +3,8 @@
 ghost use Rattle.check_air.specs.Callers as callers;
 ghost use Rattle.check_air.specs.Callers.{Returns};
 ghost use Rattle.check_calls.specs.Held.{held, ReturnsView, Begins};
+use export_accepted::CetskobiArrival;
+use export_fields::CetskobiAccepted;
 use export_numbers::CetskobiAdmission;
 use export_numbers::CetskobiAnswer;
 use export_numbers::CetskobiMessage;
@@ -75,6 +77,20 @@ fn deliver_packet(
     ensures { λ a. ⌜ Returns (callers.deliverPacket (now (packet .entry)) i) (held me (now (table .entry)) (now (store .entry))) (a .number) (held me (now (table .exit)) (now (store .exit))) ⌝ }
 {
     export_arrival::cetskobi_deliver_packet(me, table, store, packet, i)
+}
+
+// Delivery of message i of a packet by facts.
+fn deliver_accepted(
+    me: CetskobiReplica,
+    table: &mut [u8],
+    store: &mut [u8],
+    packet: &[u8],
+    accepted: CetskobiAccepted,
+    i: usize,
+) -> CetskobiArrival
+    ensures { λ a. ⌜ Returns (callers.deliverAccepted (now (packet .entry)) accepted i) (held me (now (table .entry)) (now (store .entry))) (a .answer .number) (held me (now (table .exit)) (now (store .exit))) ⌝ }
+{
+    export_accepted::cetskobi_deliver_accepted(me, table, store, packet, accepted, i)
 }
 
 // Validation.

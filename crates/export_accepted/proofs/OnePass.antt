@@ -4,28 +4,42 @@ use mathlib.Core.Path.{_≡_, refl, sym, ap, _∙_}
 use mathlib.Core.Bool.{true, cond}
 use mathlib.Core.List.{List}
 use Rattle.hermes.specs.declared.message.Received.{Received}
+use Rattle.hermes.specs.declared.event.Event.the-variants.{Deliver}
+use Rattle.hermes_record.specs.Order.{higher}
 use Rattle.hermes.specs.Kind.{known, messageOf}
+use Rattle.hermes.specs.Node.{Node, apply}
 use Rattle.packet_format.specs.declared.entry.Fields.{Fields}
 use Rattle.packet_format.specs.declared.answer.Taken.{Taken}
 use Rattle.packet_format.specs.declared.answer.Taken.the-variants.{Entry, Refused}
 use Rattle.packet_format.specs.Entry.{entryOf}
+use Rattle.packet_format.specs.Reading.{bodyOf}
 use Rattle.packet_format.specs.Accepting.{accepted, taken, fetchedOf}
 use Rattle.packet_format.proofs.Entries.{good-parts}
 use Rattle.packet_format.proofs.Accepting.{taken-is-fetched, taken-is-good}
-use Rattle.packet_event.specs.Arrival.{receivedOf}
+use Rattle.packet_event.specs.Arrival.{receivedOf, receiptOf, receipt}
 use Rattle.export_numbers.specs.declared.numbers.CetskobiReplica.{CetskobiReplica}
 use Rattle.export_numbers.specs.Crossing.{receivedIn}
 use Rattle.export_records.specs.Layout.{tableOf}
 use Rattle.export_calls.specs.Calls.{nodeOf}
 use Rattle.export_arrival.specs.Arrival.{numbersOf}
 use Rattle.export_accepted.specs.declared.accepted.CetskobiArrival.{CetskobiArrival}
-use Rattle.export_accepted.specs.Arrival.{Came}
+use Rattle.export_accepted.specs.Arrival.{Came, takenReceipt}
 use Rattle.export_accepted.specs.OnePass.{AsFetched, DeliversAll}
 
 -- the numbers of an entry of a known kind stand for its message
 stands : (f : Fields) → known (f .kind) ≡ true → receivedIn (numbersOf f) ≡ receivedOf (entryOf f)
 stands f k =
     λ i. record { sender = f .sender; epoch = f .epoch; message = messageOf (f .kind) (record { version = f .version; tie = cond (k i) (f .tie) 255 }) }
+
+-- so the delivery comes to that of a fetch
+pub own-receipt : (n : Node) (p : List ℕ) (i : ℕ) → takenReceipt n p (taken p (accepted p) i) ≡ receipt higher n p i
+unfolding receipt
+own-receipt n p i = by (taken p (accepted p) i) refl ∙ ap (receiptOf higher n p) (taken-is-fetched p i)
+  where
+    by : (t : Taken) → taken p (accepted p) i ≡ t → takenReceipt n p t ≡ receiptOf higher n p (fetchedOf t)
+    by (Entry f) e =
+        ap (λ (m : Received). apply higher n (f .index) (Deliver m) (bodyOf p (fetchedOf (Entry f)))) (stands f (good-parts f (taken-is-good p i f e) .kind))
+    by (Refused k) e = refl
 
 pub delivers-all : DeliversAll
 delivers-all me table store packet i r table′ store′ came = by (taken packet (accepted packet) i) refl came

@@ -4,7 +4,8 @@ use mathlib.Core.List.{List}
 use Prim.Native.Nat.{ℕ}
 use Rattle.hermes.specs.declared.event.Event.the-variants.{Deliver}
 use Rattle.hermes.specs.declared.event.Answer.the-variants as answer
-use Rattle.hermes.specs.Node.{Node}
+use Rattle.hermes_record.specs.Order.{higher}
+use Rattle.hermes.specs.Node.{Node, Outcome, apply}
 use Rattle.packet_format.specs.declared.answer.Taken.{Taken}
 use Rattle.packet_format.specs.declared.answer.Taken.the-variants.{Entry, Refused}
 use Rattle.packet_format.specs.Reading.{bodyOf}
@@ -25,7 +26,12 @@ abbrev pub Delivered : Node → List ℕ → List ℕ → Taken → CetskobiAnsw
 Delivered n before p (Entry f) a bytes′ store′ = Done n before (f .index) (Deliver (receivedIn (numbersOf f))) (bodyOf p (fetchedOf (Entry f))) a bytes′ store′
 Delivered n before p (Refused k) a bytes′ store′ = (a ≡ answerOut (answer.Refused k)) × (bytes′ ≡ before) × (store′ ≡ n .store)
 
--- both together
+-- the same as an event: what it comes to
+abbrev pub takenReceipt : Node → List ℕ → Taken → Outcome
+takenReceipt n p (Entry f) = apply higher n (f .index) (Deliver (receivedIn (numbersOf f))) (bodyOf p (fetchedOf (Entry f)))
+takenReceipt n p (Refused k) = record { answer = answer.Refused k; node = n }
+
+-- the delivery, and which message it was
 pub record Came (n : Node) (before p : List ℕ) (t : Taken) (r : CetskobiArrival) (bytes′ store′ : List ℕ) : Type 0 where
   pub message : r ≡ arrivalOf t (r .answer)
   pub done : Delivered n before p t (r .answer) bytes′ store′

@@ -238,6 +238,13 @@ entry-taken : (k : ℕ) (g f : Fields) → takenAs k g ≡ Entry f → (k ≡ 0)
 entry-taken zero g f e = (refl, same-entry e)
 entry-taken (suc k) g f e = absurd (no-entry e)
 
+-- whatever the facts, what is taken stands at the same place
+pub taken-alike : (p : List ℕ) (a b : Accepted) (i : ℕ) (f g : Fields) → taken p a i ≡ Entry f → taken p b i ≡ Entry g → f ≡ g
+unfolding taken
+taken-alike p a b i f g ea eb =
+    let h = fieldsOf (drop (entryPlace i) p) in
+    sym (entry-taken (takeRefusal p a i) h f ea .1) ∙ entry-taken (takeRefusal p b i) h g eb .1
+
 pub taken-lies-within : TakenLiesWithin
 unfolding taken takeRefusal
 taken-lies-within p a i f t =
