@@ -281,9 +281,10 @@ struct cetskobi_answer cetskobi_deliver_packet(struct cetskobi_replica me, uint8
  *     for (size_t i = 0; i < all.count; i++) ... cetskobi_deliver_accepted(me, .., packet, packet_len, all, i) ...
  *
  * For every packet and every i they answer what cetskobi_fetch and cetskobi_deliver_packet answer, if accepted is what cetskobi_accept gave
- * of these very bytes. Whatever else it is, of another packet say, they answer too, and nothing outside the packet is read: where i is not
- * below accepted.count accepted.number, or 23 if that is 0; else 21 where entry i of the contents table does not lie within the packet; 22
- * where its bytes do not; else the entry as it stands there, of which question 22 has not been asked. Its delivery asks all of its own. */
+ * of these very bytes: copy them first out of a buffer in which the radio may put its next packet. Whatever else accepted is, of another
+ * packet say, they answer too, and read nothing outside the packet: where i is not below accepted.count, accepted.number, or 23 if that is
+ * 0; else 21 where entry i of the contents table does not lie within the packet; else 22 where its bytes do not; else the entry as it
+ * stands there, of which question 22 has not been asked. Its delivery asks all questions of its own. */
 CETSKOBI_MUST_USE
 struct cetskobi_accepted cetskobi_accept(const uint8_t *packet, size_t packet_len);
 CETSKOBI_MUST_USE
