@@ -20,7 +20,7 @@ use Rattle.packet_format.specs.declared.answer.Taken.the-variants.{Entry
 use Rattle.packet_format.specs.Bytes.{window}
 use Rattle.packet_format.specs.Entry.{fieldsOf, good}
 use Rattle.packet_format.specs.Reading.{countOf, entryPlace, question20, question21, question22, walk, fetched}
-use Rattle.packet_format.specs.Accepting.{acceptRefusal, accepted, takeRefusal, takenAs, taken, fetchedOf, TakenIsFetched, TakenIsGood, Tells, AcceptedTells, TakenLiesWithin}
+use Rattle.packet_format.specs.Accepting.{acceptRefusal, accepted, takeRefusal, takenAs, taken, takenNumber, fetchedOf, TakenIsFetched, TakenIsGood, Tells, AcceptedTells, TakenLiesWithin}
 use Rattle.packet_format.proofs.Reading.{part-to-end, fetch-20, fetch-21, fetch-22, fetch-23, fetch-0}
 use Rattle.packet_format.proofs.Width.{num-lt, window-bytes}
 use Rattle.packet_format.proofs.Contents.{bytes-drop, sixteen}
@@ -170,17 +170,13 @@ split i n = asked (ltb i n) refl
     asked true e = inl (ltb-true _ _ e)
     asked false e = inr (ltb-false _ _ e)
 
--- what an answer is, by its case
-abbrev number-of : Taken → ℕ
-number-of (Entry f) = 0
-number-of (Refused k) = k
-
+-- the entry of an answer, or another
 abbrev fields-in : Taken → Fields → Fields
 fields-in (Entry f) g = f
 fields-in (Refused k) g = g
 
 no-entry : {k : ℕ} {f : Fields} → Refused (suc k) ≡ Entry f → ⊥
-no-entry e = let z = ap number-of e in omega arith
+no-entry e = let z = ap takenNumber e in omega arith
 
 same-entry : {f g : Fields} → Entry f ≡ Entry g → f ≡ g
 same-entry {f} e = ap (λ (t : Taken). fields-in t f) e

@@ -12,8 +12,9 @@ use Rattle.packet_format.specs.declared.answer.Fetched.{Fetched}
 use Rattle.packet_format.specs.declared.answer.Fetched.the-variants.{Found, Refused}
 use Rattle.packet_format.specs.Entry.{good, entryBytes}
 use Rattle.packet_format.specs.Reading.{entryPlace, walk, fetchRefusal, fetched, fetchedNumber}
+use Rattle.packet_format.specs.Accepting.{acceptRefusal, accepted, takeRefusal, taken, takenNumber}
 use Rattle.packet_format.specs.Writing.{summed, contents, packetBytes, allGood, writeRefusal, packetWritten, writtenNumber}
-use Rattle.packet_format.specs.Rows.{Row, packs, fetches, writes, Holds, rows}
+use Rattle.packet_format.specs.Rows.{Row, packs, fetches, accepts, takes, writes, Holds, rows}
 use Rattle.hermes_record.proofs.Tests.{both}
 use Rattle.hermes.proofs.Coded.{Coded, same, same-sound, sameList, list-sound, messageNumbers, outgoingNumbers, outgoingBack, outgoing-had}
 use Rattle.hermes.proofs.Table.{passing, every}
@@ -42,6 +43,8 @@ fetchedCode = record { numbers = fetchedNumbers; back = fetchedBack; had = fetch
 test : Row → Bool
 test (packs e body p) = sameList (packetBytes 1 (e ∷ []) body) p && same fetchedCode (fetched p 0) (Found e (entryPlace 1))
 test (fetches p i k) = eqb (fetchedNumber (fetched p i)) k
+test (accepts p k count) = eqb (accepted p .number) k && eqb (accepted p .count) count
+test (takes p number count i k) = eqb (takenNumber (taken p (record { number = number; count = count }) i)) k
 test (writes es bodies room k) = eqb (writtenNumber (packetWritten es bodies room)) k
 
 holds : (r : Row) → test r ≡ true → Holds r
@@ -50,11 +53,13 @@ holds (packs m body p) e =
     let (s, t) = both (sameList (packetBytes 1 (m ∷ []) body) p) (same fetchedCode (fetched p 0) (Found m (entryPlace 1))) e in
     (list-sound (packetBytes 1 (m ∷ []) body) p s, same-sound fetchedCode (fetched p 0) (Found m (entryPlace 1)) t)
 holds (fetches p i k) e = eqb-true _ k e
+holds (accepts p k count) e = let (s, t) = both (eqb (accepted p .number) k) (eqb (accepted p .count) count) e in (eqb-true _ k s, eqb-true _ count t)
+holds (takes p number count i k) e = eqb-true _ k e
 holds (writes es bodies room k) e = eqb-true _ k e
 
 -- the test, computed
 computed : passing Row test rows ≡ true
-unfolding passing test same sameList fetchedCode fetchedNumbers outgoingNumbers messageNumbers rows good entryBytes walk fetchRefusal fetched contents packetBytes summed allGood writeRefusal packetWritten
+unfolding passing test same sameList fetchedCode fetchedNumbers outgoingNumbers messageNumbers rows good entryBytes walk fetchRefusal fetched acceptRefusal accepted takeRefusal taken contents packetBytes summed allGood writeRefusal packetWritten
 computed = refl
 
 -- Every row about packets holds.

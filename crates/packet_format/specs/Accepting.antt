@@ -57,6 +57,11 @@ takenAs (suc k) f = Refused (suc k)
 unfoldable pub taken : List ℕ → Accepted → ℕ → Taken
 taken p a i = takenAs (takeRefusal p a i) (fieldsOf (drop (entryPlace i) p))
 
+-- the number of an answer
+abbrev pub takenNumber : Taken → ℕ
+takenNumber (Entry f) = 0
+takenNumber (Refused k) = k
+
 -- the same as a fetch answers it, and with it the body that is handed on (`bodyOf`)
 abbrev pub fetchedOf : Taken → Fetched
 fetchedOf (Entry f) = Found (entryOf f) (f .offset)

@@ -1,5 +1,5 @@
 -- The rows about packets: document 01's own, "From the ringing table"; and the number that each of questions 20 to 25 answers, with both sides
--- of every limit in it and the order in which they are asked.
+-- of every limit in it and the order in which they are asked; Wish 4's, of a packet accepted and its messages taken.
 use Prim.Native.Nat.{ℕ, zero, suc, _+_, _/_, _%_}
 use mathlib.Core.Path.{_≡_}
 use mathlib.Core.List.{List, [], _∷_, _++_}
@@ -9,6 +9,7 @@ use Rattle.hermes.specs.declared.message.Message.the-variants.{Inv, Ack, Val}
 use Rattle.packet_format.specs.declared.entry.Entry.{Entry}
 use Rattle.packet_format.specs.declared.answer.Fetched.the-variants.{Found}
 use Rattle.packet_format.specs.Reading.{entryPlace, fetched, fetchedNumber}
+use Rattle.packet_format.specs.Accepting.{accepted, taken, takenNumber}
 use Rattle.packet_format.specs.Writing.{packetBytes, packetWritten, writtenNumber}
 
 pub data Row : Type 0 where
@@ -16,6 +17,10 @@ pub data Row : Type 0 where
   packs : Entry → List ℕ → List ℕ → Row
   -- message i of a packet is fetched; the number answered
   fetches : List ℕ → ℕ → ℕ → Row
+  -- a packet is looked at as a whole; the number answered and the count
+  accepts : List ℕ → ℕ → ℕ → Row
+  -- message i of a packet is taken by the facts of this number and count; the number answered
+  takes : List ℕ → ℕ → ℕ → ℕ → ℕ → Row
   -- these messages are written, with these bodies, into so many bytes of output; the number answered
   writes : List Entry → List ℕ → ℕ → ℕ → Row
 
@@ -23,6 +28,8 @@ pub data Row : Type 0 where
 abbrev pub Holds : Row → Type 0
 Holds (packs e body p) = (packetBytes 1 (e ∷ []) body ≡ p) × (fetched p 0 ≡ Found e (entryPlace 1))
 Holds (fetches p i k) = fetchedNumber (fetched p i) ≡ k
+Holds (accepts p k count) = (accepted p .number ≡ k) × (accepted p .count ≡ count)
+Holds (takes p number count i k) = takenNumber (taken p (record { number = number; count = count }) i) ≡ k
 Holds (writes es bodies room k) = writtenNumber (packetWritten es bodies room) ≡ k
 
 -- ---- messages and packets; none of this uses the rules that the rows are about
@@ -140,6 +147,25 @@ rows =
     ∷ fetches (pair 1 39 2) 2 23
     ∷ fetches (packet 64 1028 (acks 64 1028)) 63 0
     ∷ fetches (packet 64 1028 (acks 64 1028)) 64 23
+    -- 02, Wish 4: a packet accepted, once for all of its messages; a refused one has none
+    ∷ accepts [] 20 0
+    ∷ accepts (packet 2 35 (acks 1 36 ++ (2 ∷ 5 ∷ 0 ∷ 0 ∷ 0 ∷ 0 ∷ 0 ∷ 7 ∷ 0 ∷ 0 ∷ 0 ∷ 1 ∷ 2 ∷ 0 ∷ 36 ∷ []))) 21 0
+    ∷ accepts (pair 4 39 2) 22 0
+    ∷ accepts (pair 1 39 1) 22 0
+    ∷ accepts (pair 1 39 2) 0 2
+    ∷ accepts (packet 64 1028 (acks 64 1028)) 0 64
+    -- its messages taken; a refused packet's number stands for all of them
+    ∷ takes (pair 1 39 2) 0 2 0 0
+    ∷ takes (pair 1 39 2) 0 2 1 0
+    ∷ takes (pair 1 39 2) 0 2 2 23
+    ∷ takes (pair 4 39 2) 22 0 0 22
+    -- by the facts of another: entry i within this packet, and its body; else the entry as it stands
+    ∷ takes (pair 1 39 2) 20 0 0 20
+    ∷ takes (packet 1 35 (entry 2 5 7 2 20 0 (body 15))) 0 2 1 21
+    ∷ takes (packet 1 36 (entry 2 5 7 2 20 0 (body 16))) 0 2 1 22
+    ∷ takes (single 1 5 7 2 20 3 2) 0 1 0 22
+    ∷ takes (single 1 5 7 2 20 2 2) 0 1 0 0
+    ∷ takes (single 9 16 7 16 19 2 2) 0 1 0 0
     -- 24: count 1 to 64, ..
     ∷ writes [] [] 20 24
     ∷ writes (message 5 7 (ack 2) 0 ∷ []) [] 20 0
