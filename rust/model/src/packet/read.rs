@@ -6,16 +6,10 @@ use crate::engine::{ask, Answer, Envelope, Message, Record, Refusal, Replica, Ti
 /// The whole packet is judged first, the entries behind `index` included. A
 /// refused fetch gives no part; the paper's empty part stands for it.
 pub fn fetch(packet: &[u8], index: usize) -> Result<(Envelope, &[u8]), Refusal> {
-    let count = ask_head(packet)?;
-    let contents_end = HEAD + ENTRY * count;
-    let contents = packet.get(HEAD..contents_end);
-    let contents = contents.ok_or(Refusal::PacketContents)?;
-
-    let mut offset = contents_end;
+    let (entries, mut offset) = ask_contents(packet)?;
     let mut found = None;
-    let (entries, _) = contents.as_chunks();
     for (i, bytes) in entries.iter().enumerate() {
-        let entry = decode(bytes, offset).ok_or(Refusal::PacketEntry)?;
+        let entry = good_entry(bytes, offset).ok_or(Refusal::PacketEntry)?;
         let end = offset + usize::from(entry.len);
         if i == index {
             found = Some((entry.envelope, offset..end));
@@ -41,6 +35,63 @@ pub fn deliver(
     replica.deliver(table, store, &envelope, body)
 }
 
+/// A packet that questions 20 to 22 let pass. The whole of it was judged once;
+/// each of its messages is then taken in constant time (02, Wish 4).
+#[derive(Clone, Copy, Debug)]
+pub struct Accepted<'a> {
+    packet: &'a [u8],
+    /// The contents table, an entry for each message.
+    entries: &'a [[u8; ENTRY]],
+}
+
+/// Judges the whole packet.
+pub fn accept(packet: &[u8]) -> Result<Accepted<'_>, Refusal> {
+    let (entries, mut offset) = ask_contents(packet)?;
+    for bytes in entries {
+        let entry = good_entry(bytes, offset).ok_or(Refusal::PacketEntry)?;
+        offset += usize::from(entry.len);
+    }
+    ask(offset == packet.len(), Refusal::PacketEntry)?;
+    Ok(Accepted { packet, entries })
+}
+
+impl<'a> Accepted<'a> {
+    /// How many messages it has: 1 to 64.
+    pub fn count(&self) -> usize {
+        self.entries.len()
+    }
+
+    /// Message `index`, with its body as that part of the packet: what [`fetch`]
+    /// gives of these bytes. It asks question 23 alone.
+    pub fn message(&self, index: usize) -> Result<(Envelope, &'a [u8]), Refusal> {
+        let bytes = self.entries.get(index).ok_or(Refusal::PacketIndex)?;
+        // Question 22 has seen to it that the kind is known and the body there.
+        let (entry, offset) = decode(bytes).ok_or(Refusal::PacketEntry)?;
+        let body = self.packet.get(offset..offset + usize::from(entry.len));
+        Ok((entry.envelope, body.ok_or(Refusal::PacketEntry)?))
+    }
+
+    /// Delivers message `index`: question 23, then those of the delivery. The
+    /// envelope tells which message came, also where its delivery is refused.
+    pub fn deliver(
+        &self,
+        replica: &Replica,
+        table: &mut [Record],
+        store: &mut [u8],
+        index: usize,
+    ) -> Result<(Envelope, Answer), Refusal> {
+        let (envelope, body) = self.message(index)?;
+        Ok((envelope, replica.deliver(table, store, &envelope, body)))
+    }
+}
+
+/// 01, questions 20 and 21. Gives the contents table, and where it ends.
+fn ask_contents(packet: &[u8]) -> Result<(&[[u8; ENTRY]], usize), Refusal> {
+    let end = HEAD + ENTRY * ask_head(packet)?;
+    let contents = packet.get(HEAD..end).ok_or(Refusal::PacketContents)?;
+    Ok((contents.as_chunks().0, end))
+}
+
 /// 01, question 20. Gives the count of messages.
 fn ask_head(packet: &[u8]) -> Result<usize, Refusal> {
     let [format, count, high, low, ..] = *packet else {
@@ -59,7 +110,13 @@ fn ask_head(packet: &[u8]) -> Result<usize, Refusal> {
 }
 
 /// 01, question 22, for one entry whose body would begin at `offset`.
-fn decode(bytes: &[u8; ENTRY], offset: usize) -> Option<Entry> {
+fn good_entry(bytes: &[u8; ENTRY], offset: usize) -> Option<Entry> {
+    let (entry, at) = decode(bytes)?;
+    (at == offset && entry.is_good()).then_some(entry)
+}
+
+/// An entry as it stands, and the offset of its body; none of an unknown kind.
+fn decode(bytes: &[u8; ENTRY]) -> Option<(Entry, usize)> {
     let [kind, sender, e0, e1, e2, e3, r0, r1, v0, v1, v2, v3, tie, o0, o1, len] = *bytes;
     let timestamp = Timestamp {
         version: u32::from_be_bytes([v0, v1, v2, v3]),
@@ -77,7 +134,6 @@ fn decode(bytes: &[u8; ENTRY], offset: usize) -> Option<Entry> {
         record: usize::from(u16::from_be_bytes([r0, r1])),
         message,
     };
-    let entry = Entry { envelope, len };
-    let placed = usize::from(u16::from_be_bytes([o0, o1])) == offset;
-    (placed && entry.is_good()).then_some(entry)
+    let offset = usize::from(u16::from_be_bytes([o0, o1]));
+    Some((Entry { envelope, len }, offset))
 }
