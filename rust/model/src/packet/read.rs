@@ -9,7 +9,7 @@ pub fn fetch(packet: &[u8], index: usize) -> Result<(Envelope, &[u8]), Refusal> 
     let (entries, mut offset) = ask_contents(packet)?;
     let mut found = None;
     for (i, bytes) in entries.iter().enumerate() {
-        let entry = good_entry(bytes, offset).ok_or(Refusal::PacketEntry)?;
+        let entry = decode(bytes, offset).ok_or(Refusal::PacketEntry)?;
         let end = offset + usize::from(entry.len);
         if i == index {
             found = Some((entry.envelope, offset..end));
@@ -48,7 +48,7 @@ pub struct Accepted<'a> {
 pub fn accept(packet: &[u8]) -> Result<Accepted<'_>, Refusal> {
     let (entries, mut offset) = ask_contents(packet)?;
     for bytes in entries {
-        let entry = good_entry(bytes, offset).ok_or(Refusal::PacketEntry)?;
+        let entry = decode(bytes, offset).ok_or(Refusal::PacketEntry)?;
         offset += usize::from(entry.len);
     }
     ask(offset == packet.len(), Refusal::PacketEntry)?;
@@ -62,13 +62,22 @@ impl<'a> Accepted<'a> {
     }
 
     /// Message `index`, with its body as that part of the packet: what [`fetch`]
-    /// gives of these bytes. It asks question 23 alone.
+    /// gives of these bytes. Of the questions only 23 is left.
+    #[inline]
     pub fn message(&self, index: usize) -> Result<(Envelope, &'a [u8]), Refusal> {
         let bytes = self.entries.get(index).ok_or(Refusal::PacketIndex)?;
-        // Question 22 has seen to it that the kind is known and the body there.
-        let (entry, offset) = decode(bytes).ok_or(Refusal::PacketEntry)?;
-        let body = self.packet.get(offset..offset + usize::from(entry.len));
-        Ok((entry.envelope, body.ok_or(Refusal::PacketEntry)?))
+        let timestamp = timestamp_of(bytes);
+        // Question 22 has let no other kind pass.
+        let message = match bytes[0] {
+            1 => Message::Inv(timestamp),
+            2 => Message::Ack(timestamp),
+            _ => Message::Val(timestamp),
+        };
+        let Entry { envelope, len } = entry_of(bytes, message);
+        let offset = offset_of(bytes);
+        // Nor a body that does not lie within the packet.
+        let body = self.packet.get(offset..offset + usize::from(len));
+        Ok((envelope, body.ok_or(Refusal::PacketEntry)?))
     }
 
     /// Delivers message `index`: question 23, then those of the delivery. The
@@ -110,30 +119,39 @@ fn ask_head(packet: &[u8]) -> Result<usize, Refusal> {
 }
 
 /// 01, question 22, for one entry whose body would begin at `offset`.
-fn good_entry(bytes: &[u8; ENTRY], offset: usize) -> Option<Entry> {
-    let (entry, at) = decode(bytes)?;
-    (at == offset && entry.is_good()).then_some(entry)
-}
-
-/// An entry as it stands, and the offset of its body; none of an unknown kind.
-fn decode(bytes: &[u8; ENTRY]) -> Option<(Entry, usize)> {
-    let [kind, sender, e0, e1, e2, e3, r0, r1, v0, v1, v2, v3, tie, o0, o1, len] = *bytes;
-    let timestamp = Timestamp {
-        version: u32::from_be_bytes([v0, v1, v2, v3]),
-        tie,
-    };
-    let message = match kind {
+fn decode(bytes: &[u8; ENTRY], offset: usize) -> Option<Entry> {
+    let timestamp = timestamp_of(bytes);
+    let message = match bytes[0] {
         1 => Message::Inv(timestamp),
         2 => Message::Ack(timestamp),
         3 => Message::Val(timestamp),
         _ => return None,
     };
+    let entry = entry_of(bytes, message);
+    (offset_of(bytes) == offset && entry.is_good()).then_some(entry)
+}
+
+// The fields of an entry: kind, sender, epoch (4), record (2), version (4),
+// tie-breaker, body offset (2), body length.
+
+/// The entry of these bytes, whose kind and timestamp make this message.
+fn entry_of(bytes: &[u8; ENTRY], message: Message) -> Entry {
+    let [_, sender, e0, e1, e2, e3, r0, r1, .., len] = *bytes;
     let envelope = Envelope {
         sender,
         epoch: u32::from_be_bytes([e0, e1, e2, e3]),
         record: usize::from(u16::from_be_bytes([r0, r1])),
         message,
     };
-    let offset = usize::from(u16::from_be_bytes([o0, o1]));
-    Some((Entry { envelope, len }, offset))
+    Entry { envelope, len }
+}
+
+fn timestamp_of(bytes: &[u8; ENTRY]) -> Timestamp {
+    let [.., v0, v1, v2, v3, tie, _, _, _] = *bytes;
+    Timestamp::new(u32::from_be_bytes([v0, v1, v2, v3]), tie)
+}
+
+fn offset_of(bytes: &[u8; ENTRY]) -> usize {
+    let [.., o0, o1, _] = *bytes;
+    usize::from(u16::from_be_bytes([o0, o1]))
 }
