@@ -109,8 +109,8 @@ static inline bool good_entry(const uint8_t *e, size_t at)
            len <= (kind == CETSKOBI_INV ? CETSKOBI_VALUE_MAX : 0);
 }
 
-/* Questions 20 to 22: 0 or the number that says no. Every message is looked at. */
-static inline uint8_t ask_whole(const uint8_t *packet, size_t packet_len)
+/* Questions 20 to 23: 0 or the number that says no. Every message is looked at. */
+static inline uint8_t ask_packet(const uint8_t *packet, size_t packet_len, size_t i)
 {
     if (packet_len < HEAD_BYTES || packet_len > CETSKOBI_PACKET_MAX)
         return CETSKOBI_REFUSED_PACKET_HEAD;
@@ -126,16 +126,9 @@ static inline uint8_t ask_whole(const uint8_t *packet, size_t packet_len)
             return CETSKOBI_REFUSED_PACKET_ENTRY;
         at += e[15];
     }
-    return at == packet_len ? 0 : CETSKOBI_REFUSED_PACKET_ENTRY;
-}
-
-/* Questions 20 to 23. */
-static inline uint8_t ask_packet(const uint8_t *packet, size_t packet_len, size_t i)
-{
-    uint8_t no = ask_whole(packet, packet_len);
-    if (no)
-        return no;
-    return i < packet[1] ? 0 : CETSKOBI_REFUSED_PACKET_INDEX;
+    if (at != packet_len)
+        return CETSKOBI_REFUSED_PACKET_ENTRY;
+    return i < count ? 0 : CETSKOBI_REFUSED_PACKET_INDEX;
 }
 
 /* The entry of message i, which is there, with its bytes. */
@@ -178,14 +171,16 @@ struct cetskobi_answer peer_deliver_packet(struct cetskobi_replica me, uint8_t *
     if (no)
         return refused(no);
     const uint8_t *e = entry_at(packet, i);
-    return deliver(me, table, table_len, store, store_len, load2(e + 6), message_of(e), packet + load2(e + 13), e[15]);
+    struct cetskobi_message m = message_of(e);
+    return deliver(me, table, table_len, store, store_len, load2(e + 6), m, packet + load2(e + 13), e[15]);
 }
 
 /* ---- packets in one pass */
 
 struct cetskobi_accepted peer_accept(const uint8_t *packet, size_t packet_len)
 {
-    uint8_t no = ask_whole(packet, packet_len);
+    /* Every packet has a message 0: 23 is not answered. */
+    uint8_t no = ask_packet(packet, packet_len, 0);
     if (no)
         return (struct cetskobi_accepted){.number = no};
     return (struct cetskobi_accepted){.count = packet[1]};
