@@ -2,6 +2,7 @@
 //! facts and with any others.
 
 use cetskobi::raw::{self, Accepted, Arrival, Fetched};
+use compare::group;
 use compare::memory::Memory;
 use compare::packet::accept::{self, Side, BY_MODEL};
 use compare::packet::arrive;
@@ -9,6 +10,7 @@ use compare::packet::deliver;
 use compare::packet::facts::{self, fetched_of, Told};
 use compare::packet::fetch::full;
 use compare::settings::Settings;
+use compare::single::on_table;
 
 /// Each of these came so often, and nothing else.
 fn often(what: &str, counts: &[u64], which: &[usize], least: u64) {
@@ -193,5 +195,49 @@ fn wrong_arrivals() {
         let found = arrive::compare(&Settings::USUAL, wrong).expect_err("a difference");
         println!("{found}");
         assert!(found.what.contains(&format!("number: {number}")));
+    }
+}
+
+/// What must have come about in packets of several messages, at least so many times:
+/// about half of what was counted.
+const IN_ONE_PASS: [(&str, u64); 21] = [
+    ("of fewer than 8", 30_000),
+    ("of 8 or more", 1500),
+    ("Inv at Valid", 9000),
+    ("Inv at Invalid", 5000),
+    ("Inv at InvalidWrite", 900),
+    ("Inv at Write", 1500),
+    ("Inv at Replay", 150),
+    ("Inv answers 10", 7000),
+    ("Inv answers 3", 900),
+    ("Ack at Write", 7000),
+    ("Ack at InvalidWrite", 700),
+    ("Ack at Replay", 200),
+    ("Ack answers 13", 9000),
+    ("last Ack at Write: VAL", 5000),
+    ("last Ack at InvalidWrite: no VAL", 300),
+    ("last Ack at Replay: VAL", 80),
+    ("Val at Invalid", 6000),
+    ("Val at InvalidWrite", 400),
+    ("Val at Replay", 8),
+    ("Val answers 14", 6000),
+    ("Val answers 10", 1000),
+];
+
+/// Whole groups, where messages come several at once. All kinds of them do, and are
+/// taken or refused as by themselves.
+#[test]
+fn groups_in_one_pass() {
+    let settings = Settings::from_env();
+    match group::compare_in_packets(&settings, on_table) {
+        Ok(tally) => {
+            for (name, floor) in IN_ONE_PASS {
+                let times = tally.get(&format!("one pass: {name}")).copied();
+                let times = times.unwrap_or(0);
+                println!("{times:8} {name}");
+                assert!(times >= floor, "{name}: only {times} times");
+            }
+        }
+        Err(found) => panic!("{settings}\n{found}"),
     }
 }

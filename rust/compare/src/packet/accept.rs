@@ -78,7 +78,7 @@ impl Bench {
         }
         self.tally.packets[usize::from(own.number)] += 1;
         let count = usize::from(own.count);
-        let past = [count, look.count(), 256, usize::MAX];
+        let past = [count, [usize::MAX, 256, count + 1][self.rng.below(3)]];
         for i in (0..count).filter(|i| look.all || i % 8 == 0).chain(past) {
             self.fetch(packet, own, own, i)?;
         }
