@@ -10,6 +10,9 @@ use crate::lent::{self, both, Lent};
 use crate::plain::{self, Plain};
 use crate::side::{About, On};
 
+/// The bytes of a packet.
+type Packet = Vec<u8>;
+
 /// Messages that go into a packet, for both sides.
 #[derive(Clone)]
 struct Parcel {
@@ -44,7 +47,7 @@ impl Parcel {
         parcel
     }
 
-    fn packet(&self) -> Vec<u8> {
+    fn packet(&self) -> Packet {
         let mut out = vec![0; 1400];
         let total = model::packet::write(&self.entries, &self.bodies, &mut out);
         out.truncate(total.expect("a packet"));
@@ -114,7 +117,7 @@ fn fetch(n: usize, visit: &mut impl Visit) {
         both!(by => On {
             lent: packet.clone(),
             prepare: |_: &mut _, _| (),
-            call: |packet: &mut Vec<u8>, _| {
+            call: |packet: &mut Packet, _| {
                 (0..MOST)
                     .filter(|&k| black_box(by::fetch(packet, k)).number == 0)
                     .count()
@@ -123,7 +126,7 @@ fn fetch(n: usize, visit: &mut impl Visit) {
         || On {
             lent: packet.clone(),
             prepare: |_: &mut _, _| (),
-            call: |packet: &mut Vec<u8>, _| {
+            call: |packet: &mut Packet, _| {
                 (0..MOST)
                     .filter(|&k| black_box(model::packet::fetch(packet, k)).is_ok())
                     .count()
@@ -140,7 +143,7 @@ fn fetch(n: usize, visit: &mut impl Visit) {
         both!(by => On {
             lent: packet.clone(),
             prepare: |_: &mut _, _| (),
-            call: |packet: &mut Vec<u8>, _| {
+            call: |packet: &mut Packet, _| {
                 let all = by::accept(packet);
                 (0..usize::from(all.count))
                     .filter(|&k| black_box(by::fetch_accepted(packet, all, k)).number == 0)
@@ -150,7 +153,7 @@ fn fetch(n: usize, visit: &mut impl Visit) {
         || On {
             lent: packet.clone(),
             prepare: |_: &mut _, _| (),
-            call: |packet: &mut Vec<u8>, _| {
+            call: |packet: &mut Packet, _| {
                 let all = model::packet::accept(packet)?;
                 let taken = |&k: &usize| black_box(all.message(k)).is_ok();
                 Ok((0..all.count()).filter(taken).count())
@@ -180,13 +183,13 @@ fn pack(about: About, parcel: Parcel, visit: &mut impl Visit) {
 }
 
 /// Packets, and for each of 64 calls its packet and its message there.
-type Post = (Vec<Vec<u8>>, Vec<(usize, usize)>);
+type Post = (Vec<Packet>, Vec<(usize, usize)>);
 
 /// Packets with 64 messages in all: the last is delivered to the last record, and so on back.
 fn deliver(about: About, parcels: &[Parcel], visit: &mut impl Visit) {
     let n = about.records;
     let count = 64 / parcels.len();
-    let packets: Vec<Vec<u8>> = parcels.iter().map(Parcel::packet).collect();
+    let packets: Vec<Packet> = parcels.iter().map(Parcel::packet).collect();
     let post: Post = (packets, (0..64).map(|k| (k / count, k % count)).collect());
     visit.case(
         about,
@@ -214,13 +217,13 @@ fn deliver(about: About, parcels: &[Parcel], visit: &mut impl Visit) {
 /// The same packets of one message, each accepted and then delivered.
 fn deliver_single(about: About, parcels: &[Parcel], visit: &mut impl Visit) {
     let n = about.records;
-    let packets: Vec<Vec<u8>> = parcels.iter().map(Parcel::packet).collect();
+    let packets: Vec<Packet> = parcels.iter().map(Parcel::packet).collect();
     visit.case(
         about,
         both!(by => On {
             lent: Lent::new(ME, n, VALID, packets.clone()),
-            prepare: |e: &mut Lent<Vec<Vec<u8>>>, i| e.set(i, VALID),
-            call: move |e: &mut Lent<Vec<Vec<u8>>>, i: usize| {
+            prepare: |e: &mut Lent<Vec<Packet>>, i| e.set(i, VALID),
+            call: move |e: &mut Lent<Vec<Packet>>, i: usize| {
                 let packet = e.input[i + 64 - n].as_slice();
                 let all = by::accept(packet);
                 by::deliver_accepted(e.me, &mut e.table, &mut e.store, packet, all, 0)
@@ -229,7 +232,7 @@ fn deliver_single(about: About, parcels: &[Parcel], visit: &mut impl Visit) {
         || On {
             lent: Plain::new(ME, n, VALID, packets.clone()),
             prepare: |m: &mut Plain<_>, i| m.table[i] = plain::record(VALID),
-            call: move |m: &mut Plain<Vec<Vec<u8>>>, i: usize| {
+            call: move |m: &mut Plain<Vec<Packet>>, i: usize| {
                 let packet = m.input[i + 64 - n].as_slice();
                 let all = model::packet::accept(packet)?;
                 all.deliver(&m.replica, &mut m.table, &mut m.store, 0)
@@ -238,9 +241,9 @@ fn deliver_single(about: About, parcels: &[Parcel], visit: &mut impl Visit) {
     );
 }
 
-/// All messages of a full packet, each by a delivery of its own and all in one pass. A call
-/// is a whole packet, and has 64 records of its own: they are prepared together. The table
-/// has room for as many calls as there are, at most 64.
+/// All messages of a full packet, each by a delivery of its own and all in one pass. One call
+/// is a whole packet, about 64 records that no other call has: they are prepared together. So
+/// the table has 64 records for each call, of which there are at most 64.
 fn deliver_full(n: usize, visit: &mut impl Visit) {
     let each = event(
         "packet-each",
@@ -255,19 +258,19 @@ fn deliver_full(n: usize, visit: &mut impl Visit) {
         number(MOST),
     );
     let (from, records) = (each.from, MOST * (n - each.from));
-    let packets: Vec<Vec<u8>> = (from..n)
+    let packets: Vec<Packet> = (from..n)
         .map(|i| full(MOST * (i - from + 1)).packet())
         .collect();
     let own = move |i: usize| MOST * (i - from)..MOST * (i - from + 1);
-    let prepare = move |e: &mut Lent<Vec<Vec<u8>>>, i| own(i).for_each(|k| e.set(k, VALID));
+    let prepare = move |e: &mut Lent<Vec<Packet>>, i| own(i).for_each(|k| e.set(k, VALID));
     let prepare_plain =
-        move |m: &mut Plain<Vec<Vec<u8>>>, i| m.table[own(i)].fill(plain::record(VALID));
+        move |m: &mut Plain<Vec<Packet>>, i| m.table[own(i)].fill(plain::record(VALID));
     visit.case(
         each,
         both!(by => On {
             lent: Lent::new(ME, records, VALID, packets.clone()),
             prepare,
-            call: move |e: &mut Lent<Vec<Vec<u8>>>, i: usize| {
+            call: move |e: &mut Lent<Vec<Packet>>, i: usize| {
                 let Lent { me, table, store, input } = e;
                 let packet = input[i - from].as_slice();
                 let mut deliver = |k| by::deliver_packet(*me, table, store, packet, k);
@@ -279,7 +282,7 @@ fn deliver_full(n: usize, visit: &mut impl Visit) {
         || On {
             lent: Plain::new(ME, records, VALID, packets.clone()),
             prepare: prepare_plain,
-            call: move |m: &mut Plain<Vec<Vec<u8>>>, i: usize| {
+            call: move |m: &mut Plain<Vec<Packet>>, i: usize| {
                 let packet = m.input[i - from].as_slice();
                 let mut deliver =
                     |k| model::packet::deliver(&m.replica, &mut m.table, &mut m.store, packet, k);
@@ -292,7 +295,7 @@ fn deliver_full(n: usize, visit: &mut impl Visit) {
         both!(by => On {
             lent: Lent::new(ME, records, VALID, packets.clone()),
             prepare,
-            call: move |e: &mut Lent<Vec<Vec<u8>>>, i: usize| {
+            call: move |e: &mut Lent<Vec<Packet>>, i: usize| {
                 let Lent { me, table, store, input } = e;
                 let packet = input[i - from].as_slice();
                 let all = by::accept(packet);
@@ -305,7 +308,7 @@ fn deliver_full(n: usize, visit: &mut impl Visit) {
         || On {
             lent: Plain::new(ME, records, VALID, packets.clone()),
             prepare: prepare_plain,
-            call: move |m: &mut Plain<Vec<Vec<u8>>>, i: usize| {
+            call: move |m: &mut Plain<Vec<Packet>>, i: usize| {
                 let all = model::packet::accept(&m.input[i - from])?;
                 let mut deliver = |k| all.deliver(&m.replica, &mut m.table, &mut m.store, k);
                 let taken = |&k: &usize| matches!(black_box(deliver(k)), Ok((_, Ok(_))));
