@@ -63,8 +63,16 @@ static struct packet send(const struct laptop *l, struct cetskobi_answer left, u
     return p;
 }
 
-static struct cetskobi_answer take(struct laptop *l, const struct packet *p) {
-    return cetskobi_deliver_packet(LENT(l), p->bytes, p->len, 0);
+/* A packet comes. It is accepted as a whole, and then its messages are delivered, here one. */
+static struct cetskobi_arrival take(struct laptop *l, const struct packet *p) {
+    struct cetskobi_accepted all = cetskobi_accept(p->bytes, p->len);
+    accepted(all.number);
+    return cetskobi_deliver_accepted(LENT(l), p->bytes, p->len, all, 0);
+}
+
+/* The packet of what leaves a delivery. */
+static struct packet reply(const struct laptop *l, struct cetskobi_arrival a) {
+    return send(l, a.answer, a.sender);
 }
 
 /* What the laptop's screen has. */
@@ -77,9 +85,9 @@ static void show(const struct laptop *l) {
 }
 
 /* A refused event: nothing has changed. */
-static void refused(struct cetskobi_answer a) {
-    if (a.number != 0)
-        printf("  refused: question %d\n", a.number);
+static void refused(struct cetskobi_arrival a) {
+    if (a.answer.number != 0)
+        printf("  refused: question %d\n", a.answer.number);
 }
 
 int main(void) {
@@ -97,18 +105,18 @@ int main(void) {
     printf("laptop 0 sends again\n");
     struct packet inv = send(&net, cetskobi_resend(LENT(&net), RING), net.me.number);
     printf("laptop 1 takes the packet\n");
-    struct packet ack = send(&hut, take(&hut, &inv), net.me.number);
+    struct packet ack = reply(&hut, take(&hut, &inv));
     show(&hut);
 
     /* Nobody else is missing: the record is settled here, and the VAL leaves. */
     printf("laptop 0 takes the packet\n");
-    struct packet val = send(&net, take(&net, &ack), hut.me.number);
+    struct packet val = reply(&net, take(&net, &ack));
     show(&net);
     printf("the packet comes a second time\n");
     refused(take(&net, &ack));
 
     printf("laptop 1 takes the packet\n");
-    accepted(take(&hut, &val).number);
+    accepted(take(&hut, &val).answer.number);
     show(&hut);
     return 0;
 }

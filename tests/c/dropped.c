@@ -16,6 +16,7 @@ enum { LEN = CETSKOBI_VALUE_MAX };
 static struct cetskobi_replica me;
 static struct cetskobi_answer left;
 static struct cetskobi_message message;
+static struct cetskobi_accepted accepted;
 static uint8_t table[CETSKOBI_RECORD_BYTES], store[LEN], bytes[CETSKOBI_PACKET_MAX];
 static const uint8_t text[LEN] = {0};
 static const uint32_t words[CETSKOBI_ENTRY_WORDS] = {0};
@@ -37,6 +38,9 @@ int main(void) {
     CALL(struct cetskobi_fetched, cetskobi_fetch(text, LEN, 0))
     CALL(struct cetskobi_written, cetskobi_pack(words, CETSKOBI_ENTRY_WORDS, text, LEN, bytes, sizeof bytes))
     CALL(struct cetskobi_answer, cetskobi_deliver_packet(LENT, text, LEN, 0))
+    CALL(struct cetskobi_accepted, cetskobi_accept(text, LEN))
+    CALL(struct cetskobi_fetched, cetskobi_fetch_accepted(text, LEN, accepted, 0))
+    CALL(struct cetskobi_arrival, cetskobi_deliver_accepted(LENT, text, LEN, accepted, 0))
     CALL(struct cetskobi_played, cetskobi_play(text, LEN, bytes, sizeof bytes))
     return 0;
 }

@@ -1,9 +1,12 @@
 /* Calls every function of include/cetskobi.h and cetskobi_text.h and checks every number of the answers; few are alike, so a wrong
  * declaration shows. Run by tests/c.sh. */
+#define _DEFAULT_SOURCE
 #include "cetskobi_text.h"
 #include <stddef.h>
 #include <stdio.h>
 #include <string.h>
+#include <sys/mman.h>
+#include <unistd.h>
 
 /* A record has its fields at the bytes that the header names, so an array of them is a table. */
 #define AT(field, byte) _Static_assert(offsetof(struct cetskobi_record, field) == (byte), #field)
@@ -314,13 +317,15 @@ static void bytes(void) {
     CHECK(record[0] == 5 && memcmp(record + 1, after + 1, sizeof after - 1) == 0);
 }
 
+/* An INV and an ACK. */
+static const uint8_t two_messages[40] = {1, 2, 0, 40, 1, 5, 0, 0, 0, 9, 0, 1, 1, 2, 3, 4, 4, 0,   36,  4,
+                                         2, 5, 0, 0,  0, 0, 0, 7, 0, 0, 0, 1, 2, 0, 40, 0, 'w', 'i', 'n', 'g'};
+
 static void packets(void) {
     const struct cetskobi_entry entries[2] = {
         {.kind = CETSKOBI_INV, .sender = 5, .epoch = 9, .index = 1, .version = VERSION, .tie = 4, .len = 4},
         {.kind = CETSKOBI_ACK, .sender = 5, .epoch = 0, .index = 7, .version = 1, .tie = 2, .len = 0},
     };
-    const uint8_t want[40] = {1, 2, 0, 40, 1, 5, 0, 0, 0, 9, 0, 1, 1, 2, 3, 4, 4, 0,   36,  4,
-                              2, 5, 0, 0,  0, 0, 0, 7, 0, 0, 0, 1, 2, 0, 40, 0, 'w', 'i', 'n', 'g'};
     const uint8_t *bodies = (const uint8_t *)"wing";
     uint8_t out[41];
     memset(out, 0xee, sizeof out);
@@ -331,7 +336,7 @@ static void packets(void) {
     CHECK(out[0] == 0xee);
     w = cetskobi_pack((const uint32_t *)entries, 2 * CETSKOBI_ENTRY_WORDS, bodies, 4, out, 41);
     CHECK(w.number == 0 && w.len == 40);
-    CHECK(memcmp(out, want, 40) == 0 && out[40] == 0xee);
+    CHECK(memcmp(out, two_messages, 40) == 0 && out[40] == 0xee);
 
     struct cetskobi_fetched f = cetskobi_fetch(out, 40, 0);
     CHECK(f.number == 0 && f.kind == CETSKOBI_INV && f.sender == 5 && f.tie == 4 && f.epoch == 9);
@@ -348,6 +353,129 @@ static void packets(void) {
     CHECK(answers(cetskobi_deliver_packet(LENT, out, 40, 0), 0, CETSKOBI_ACK, 4, VERSION));
     CHECK(is(RECORD(.state = CETSKOBI_INVALID, .tie = 4, .writer = 5, .written_tie = 1, .version = VERSION, .len = 4)));
     CHECK(holds("wing"));
+}
+
+static int same_fetch(struct cetskobi_fetched f, struct cetskobi_fetched g) {
+    return f.number == g.number && f.kind == g.kind && f.sender == g.sender && f.tie == g.tie && f.epoch == g.epoch &&
+           f.version == g.version && f.index == g.index && f.at == g.at && f.len == g.len;
+}
+
+static int tells(struct cetskobi_arrival a, int number, uint32_t epoch, int sender, size_t index) {
+    return a.answer.number == number && a.epoch == epoch && a.sender == sender && a.index == index;
+}
+
+/* A packet accepted once, then its messages by their numbers. */
+static void accepted_once(void) {
+    uint8_t packet[41];
+    memcpy(packet, two_messages, 40);
+    packet[40] = 0;
+    struct cetskobi_accepted all = cetskobi_accept(packet, 40), no;
+    CHECK(all.number == 0 && all.count == 2);
+    for (size_t i = 0; i < 4; i++) CHECK(same_fetch(cetskobi_fetch_accepted(packet, 40, all, i), cetskobi_fetch(packet, 40, i)));
+    CHECK(cetskobi_fetch_accepted(packet, 40, all, 1).number == 0 && cetskobi_fetch_accepted(packet, 40, all, 2).number == 23);
+    CHECK(cetskobi_fetch_accepted(packet, 40, all, SIZE_MAX).number == 23);
+
+    /* A refused packet says so at once, and so does every message of it. */
+    no = cetskobi_accept(packet, 41);
+    CHECK(no.number == 20 && no.count == 0);
+    packet[1] = 3;
+    no = cetskobi_accept(packet, 40);
+    CHECK(no.number == 21 && no.count == 0);
+    packet[1] = 2;
+    packet[4] = CETSKOBI_VAL + 1;
+    no = cetskobi_accept(packet, 40);
+    CHECK(no.number == 22 && no.count == 0);
+    lay(fresh);
+    for (size_t i = 0; i < 3; i++) {
+        CHECK(same_fetch(cetskobi_fetch_accepted(packet, 40, no, i), (struct cetskobi_fetched){.number = 22}));
+        CHECK(tells(cetskobi_deliver_accepted(LENT, packet, 40, no, i), 22, 0, 0, 0));
+    }
+    packet[4] = CETSKOBI_INV;
+
+    /* Which message it was is told of refused deliveries too; where there was none it is 0. */
+    struct cetskobi_replica earlier = {.number = 2, .view = 38, .epoch = 8}, outside = {.number = 2, .view = 4, .epoch = 9};
+    CHECK(tells(cetskobi_deliver_accepted(LENT, packet, 40, all, 2), 23, 0, 0, 0));
+    CHECK(tells(cetskobi_deliver_accepted(LENT, packet, 40, all, 1), 4, 0, 5, 7));
+    CHECK(tells(cetskobi_deliver_accepted(earlier, MEMORY, packet, 40, all, 0), 10, 9, 5, 1));
+    CHECK(tells(cetskobi_deliver_accepted(outside, MEMORY, packet, 40, all, 0), 1, 9, 5, 1));
+    CHECK(is(fresh) && store[CETSKOBI_VALUE_MAX] == 7);
+    struct cetskobi_arrival a = cetskobi_deliver_accepted(LENT, packet, 40, all, 0);
+    CHECK(tells(a, 0, 9, 5, 1) && answers(a.answer, 0, CETSKOBI_ACK, 4, VERSION));
+    CHECK(is(RECORD(.state = CETSKOBI_INVALID, .tie = 4, .writer = 5, .written_tie = 1, .version = VERSION, .len = 4)));
+    CHECK(holds("wing"));
+}
+
+/* What the header says of message i by these facts, word by word. */
+static struct cetskobi_fetched by_the_header(const uint8_t *packet, size_t len, struct cetskobi_accepted facts, size_t i) {
+    struct cetskobi_fetched f = {0};
+    if (i >= facts.count) {
+        f.number = facts.number != 0 ? facts.number : CETSKOBI_REFUSED_PACKET_INDEX;
+        return f;
+    }
+    if (4 + 16 * (i + 1) > len) {
+        f.number = CETSKOBI_REFUSED_PACKET_CONTENTS;
+        return f;
+    }
+    const uint8_t *entry = packet + 4 + 16 * i;
+    if (entry[13] * 256u + entry[14] + entry[15] > len) {
+        f.number = CETSKOBI_REFUSED_PACKET_ENTRY;
+        return f;
+    }
+    f.kind = entry[0];
+    f.sender = entry[1];
+    f.epoch = (uint32_t)entry[2] << 24 | (uint32_t)entry[3] << 16 | (uint32_t)entry[4] << 8 | entry[5];
+    f.index = entry[6] * 256u + entry[7];
+    f.version = (uint32_t)entry[8] << 24 | (uint32_t)entry[9] << 16 | (uint32_t)entry[10] << 8 | entry[11];
+    f.tie = entry[12];
+    f.at = entry[13] * 256u + entry[14];
+    f.len = entry[15];
+    return f;
+}
+
+/* Message i of a packet by facts that need not be its own: it is fetched as the header says, and delivered as what was fetched. */
+static void taken(const uint8_t *packet, size_t len, struct cetskobi_accepted facts, size_t i) {
+    struct cetskobi_fetched f = cetskobi_fetch_accepted(packet, len, facts, i);
+    CHECK(same_fetch(f, by_the_header(packet, len, facts, i)));
+    struct cetskobi_answer want = {.number = f.number};
+    struct cetskobi_message message = {.kind = f.kind, .sender = f.sender, .tie = f.tie, .epoch = f.epoch, .version = f.version};
+    lay(fresh);
+    if (f.number == 0) want = cetskobi_deliver(LENT, f.index, message, packet + f.at, f.len);
+    struct cetskobi_record records[COUNT];
+    uint8_t stored[STORE];
+    memcpy(records, table, sizeof table);
+    memcpy(stored, store, STORE);
+    lay(fresh);
+    struct cetskobi_arrival a = cetskobi_deliver_accepted(LENT, packet, len, facts, i);
+    CHECK(tells(a, want.number, f.epoch, f.sender, f.index) && answers(a.answer, want.number, want.kind, want.tie, want.version));
+    CHECK(memcmp(table, records, sizeof table) == 0 && memcmp(store, stored, STORE) == 0);
+}
+
+/* Facts of another packet, or made up. The packet is cut short at every place and then spoilt at every byte. It lies at the end of a page,
+ * and then at the beginning of one, with no memory beside it: to read outside it would end this program. */
+static void foreign_facts(void) {
+    size_t page = (size_t)sysconf(_SC_PAGESIZE);
+    uint8_t *pages = mmap(NULL, 3 * page, PROT_NONE, MAP_PRIVATE | MAP_ANONYMOUS, -1, 0);
+    if (pages == MAP_FAILED || mprotect(pages + page, page, PROT_READ | PROT_WRITE) != 0) {
+        CHECK(!"memory");
+        return;
+    }
+    static const uint8_t counts[] = {0, 1, 2, 3, 64, 255}, numbers[] = {0, 5, 22, 255}, bytes[] = {0, 3, 9, 15, 16, 37, 193, 255};
+    static const size_t messages[] = {0, 1, 2, 3, 63, 64, 254, 255, SIZE_MAX / 16, SIZE_MAX};
+    for (size_t len = 0; len <= sizeof two_messages; len++)
+        for (int end = 0; end < 2; end++) {
+            uint8_t *packet = pages + page + (end ? page - len : 0);
+            size_t ways = len == sizeof two_messages ? len * sizeof bytes : 0;
+            for (size_t spoilt = 0; spoilt <= ways && !failed; spoilt++) {
+                memcpy(packet, two_messages, len);
+                if (spoilt > 0) packet[(spoilt - 1) / sizeof bytes] = bytes[(spoilt - 1) % sizeof bytes];
+                CHECK(cetskobi_accept(packet, len).number == cetskobi_fetch(packet, len, 0).number);
+                for (size_t c = 0; c < sizeof counts; c++)
+                    for (size_t n = 0; n < sizeof numbers; n++)
+                        for (size_t m = 0; m < sizeof messages / sizeof *messages; m++)
+                            taken(packet, len, (struct cetskobi_accepted){.number = numbers[n], .count = counts[c]}, messages[m]);
+            }
+        }
+    munmap(pages, 3 * page);
 }
 
 static void playing(void) {
@@ -397,6 +525,8 @@ int main(void) {
     ending();
     bytes();
     packets();
+    accepted_once();
+    foreign_facts();
     playing();
     texts();
     return failed;

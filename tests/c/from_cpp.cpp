@@ -22,8 +22,12 @@ int main() {
     cetskobi_fetched fetched = cetskobi_fetch(packet, written.len, 0);
     cetskobi_message echo = {fetched.kind, fetched.sender, fetched.tie, fetched.epoch, fetched.version};
     uint8_t number = cetskobi_deliver(me, bytes, sizeof table, store, sizeof store, 0, echo, packet + fetched.at, fetched.len).number;
+    cetskobi_accepted accepted = cetskobi_accept(packet, written.len);
+    cetskobi_arrival arrival =
+        cetskobi_deliver_accepted(me, bytes, sizeof table, store, sizeof store, packet, written.len, accepted, 0);
     cetskobi_played played = cetskobi_play(nullptr, 0, printed, sizeof printed);
 
     bool right = reading.len == 0 && len == sizeof text && written.len == 24 && number == CETSKOBI_REFUSED_OTHER_SENDER && played.len == 2;
+    right = right && accepted.count == 1 && arrival.answer.number == number && arrival.sender == me.number;
     return right && std::strcmp(cetskobi_state_name(table[0].state), "write") == 0 ? 0 : 1;
 }

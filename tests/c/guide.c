@@ -141,7 +141,12 @@ static void a_worked_morning(void) {
     inv = sent(SET_2);
     CHECK(carries(inv, CETSKOBI_INV, 2, 5) && is(&one, CETSKOBI_REPLAY, 2, 5, 0));
     CHECK(cetskobi_deliver_packet(two.me, LENT(&two), inv.bytes, inv.len, 0).number == 10);
+    CHECK(missed_view(&two) == 0);
+    came(&two, inv);
+    silent();
+    CHECK(missed_view(&two) == 1 && is(&two, CETSKOBI_VALID, 1, 2, SET_1 | SET_5));
     CHECK(view_came(&two, 1, SET_1 | SET_2) == 0 && is(&two, CETSKOBI_VALID, 1, 2, SET_1 | SET_5));
+    CHECK(missed_view(&two) == 0);
     came(&one, sent(SET_1));
     silent();
     ticks(&one, 8);
@@ -156,6 +161,40 @@ static void a_worked_morning(void) {
 
     /* A view that is refused leaves the identity. */
     CHECK(view_came(&one, 1, SET_1 | SET_2) == 18 && one.me.epoch == 1 && one.me.view == (SET_1 | SET_2));
+}
+
+/* 5 is struck off at 1, under epochs 1 and then 4. 2 hears it only by messages, which it refuses; and so does 5. */
+static void a_view_that_was_missed(void) {
+    fresh();
+    CHECK(view_came(&one, 1, SET_1 | SET_2) == 0);
+    saves(&one, "robin");
+    struct packet first = sent(SET_2);
+    CHECK(view_came(&one, 4, SET_1 | SET_2) == 0);
+    struct packet second = sent(SET_2);
+    struct hut *late[] = {&two, &five};
+    for (size_t k = 0; k < 2; k++) {
+        CHECK(missed_view(late[k]) == 0);
+        came(late[k], first);
+        CHECK(missed_view(late[k]) == 1);
+        came(late[k], second);
+        came(late[k], first);
+        silent();
+        CHECK(missed_view(late[k]) == 4 && is(late[k], CETSKOBI_VALID, 0, 1, 0));
+    }
+    /* An older view is not the one that was missed; a refused one is none. */
+    CHECK(view_came(&two, 1, SET_1 | SET_2) == 0 && view_came(&two, 4, ALL) == 19 && missed_view(&two) == 4);
+    CHECK(view_came(&two, 4, SET_1 | SET_2) == 0 && missed_view(&two) == 0);
+    came(&two, second);
+    CHECK(carries(sent(SET_1), CETSKOBI_ACK, 1, 1));
+    /* A greater one than that was heard of will do, and older messages tell nothing. */
+    CHECK(view_came(&five, 5, SET_1 | SET_2) == 0);
+    came(&five, second);
+    CHECK(missed_view(&five) == 0 && cetskobi_read(five.me, LENT(&five), RING).number == 3);
+    /* Bytes that are no packet tell nothing either. */
+    second.bytes[0] = 2;
+    came(&one, second);
+    silent();
+    CHECK(one.heard == 0 && missed_view(&one) == 0);
 }
 
 static void two_saves_at_once(void) {
@@ -417,7 +456,10 @@ static void ticks_alone_settle_every_record(void) {
     fresh();
     for (int now = 0; now < 6000; now++) {
         if (now == 2000) CHECK(overtaken_by_five(&one) > 0 && view_came(&one, 1, SET_1 | SET_2) == 0);
-        if (now == 2100) CHECK(overtaken_by_five(&two) > 0 && view_came(&two, 1, SET_1 | SET_2) == 0);
+        if (now == 2100) {
+            CHECK(missed_view(&two) == 1); /* 1's messages have told it */
+            CHECK(overtaken_by_five(&two) > 0 && view_came(&two, 1, SET_1 | SET_2) == 0);
+        }
         a_tick(now, now < 1900 ? 3 : 2);
     }
     for (size_t i = 0; i < 30; i++) CHECK(settled(i));
@@ -452,6 +494,7 @@ static void going_over_once_settles_every_record(void) {
 
 int main(void) {
     a_worked_morning();
+    a_view_that_was_missed();
     two_saves_at_once();
     an_overtaken_laptop_replays();
     a_save_since_the_ring_was_opened();

@@ -104,6 +104,23 @@ static void deliver_packet(void) {
     number = cetskobi_deliver_packet(LENT, packet, packet_len, 0).number;
 }
 
+static struct cetskobi_accepted all;
+
+static void accept_packet(void) {
+    all = cetskobi_accept(packet, packet_len);
+    number = all.number | (all.count != CETSKOBI_MESSAGES_MAX);
+}
+
+static void fetch_accepted(void) {
+    number = cetskobi_fetch_accepted(packet, packet_len, all, CETSKOBI_MESSAGES_MAX - 1).number;
+}
+
+/* A full text, and then the last message. */
+static void deliver_accepted(void) {
+    number = cetskobi_deliver_accepted(LENT, packet, packet_len, all, 1).answer.number;
+    number |= cetskobi_deliver_accepted(LENT, packet, packet_len, all, CETSKOBI_MESSAGES_MAX - 1).answer.number;
+}
+
 /* Lines of every kind, over and over: the log fills, and the versions grow long. */
 static void play(void) {
     static const char lines[] = "write 0 A robin\ndeliver 1 0\ndeliver 0 1\nresend 0\nvalidate 0\nread 1\nreplay 3\n?\n"
@@ -152,6 +169,9 @@ int main(int argc, char **argv) {
         {"pack", pack, CETSKOBI_STACK},
         {"fetch", fetch, CETSKOBI_STACK},
         {"deliver_packet", deliver_packet, CETSKOBI_STACK},
+        {"accept", accept_packet, CETSKOBI_STACK},
+        {"fetch_accepted", fetch_accepted, CETSKOBI_STACK},
+        {"deliver_accepted", deliver_accepted, CETSKOBI_STACK},
         {"play", play, CETSKOBI_PLAY_STACK},
     };
     size_t beside = taken(nothing), most = 0;

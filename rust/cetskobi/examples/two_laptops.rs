@@ -50,9 +50,12 @@ fn send(left: Leaving) -> Result<Vec<u8>, Refusal> {
     Ok(bytes)
 }
 
-/// A packet comes: what leaves then, if anything does, as a packet.
+/// A packet comes. It is accepted as a whole, and then its messages are delivered,
+/// here one: what leaves, if anything does, as a packet.
 fn take(laptop: &mut Laptop, packet: &[u8]) -> Result<Option<Vec<u8>>, Refusal> {
-    let reply = laptop.deliver_packet(packet, 0)?;
+    let mut messages = packet::messages(packet)?;
+    let arrival = laptop.deliver_next(&mut messages);
+    let reply = arrival.expect("a packet has a message").reply()?;
     reply.leaving().map(send).transpose()
 }
 

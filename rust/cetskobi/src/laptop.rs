@@ -2,9 +2,9 @@
 
 use std::fmt;
 
-use crate::sys::{Answer, RECORD_BYTES};
-use crate::{packet, raw, Arriving, Envelope, Leaving, Members, Message, Record, Refusal};
-use crate::{Replica, Reply};
+use crate::sys::{self, Accepted, Answer, RECORD_BYTES};
+use crate::{packet, raw, Arrival, Arriving, Envelope, Leaving, Members, Message, Record};
+use crate::{Refusal, Replica, Reply};
 
 /// A laptop on memory that the caller lends: [`Laptop::start_in`] and
 /// [`Laptop::from_parts`].
@@ -192,20 +192,45 @@ impl<T: AsMut<[u8]>, S: AsMut<[u8]>> Laptop<T, S> {
         let (envelope, i) = (came.envelope(), came.envelope().record);
         let message = envelope.to_raw();
         let answer = raw::deliver(lent.me, lent.table, lent.store, i, message, came.body());
-        lent.replied(envelope, answer)
+        lent.replied(i, answer, envelope.sender)
     }
 
     /// Takes message `i` of a packet in: [`packet::fetch`], then [`deliver`](Laptop::deliver),
-    /// with what leaves there.
+    /// with what leaves there. The whole packet is judged first, at each call: for
+    /// all of its messages there is [`deliver_next`](Laptop::deliver_next).
     ///
     /// # Errors
     ///
     /// Those of [`packet::fetch`], then those of [`deliver`](Laptop::deliver).
     pub fn deliver_packet(&mut self, packet: &[u8], i: usize) -> Result<Reply<'_>, Refusal> {
-        let lent = self.lent();
-        let answer = raw::deliver_packet(lent.me, lent.table, lent.store, packet, i);
-        Refusal::check(answer.number)?;
-        lent.replied(packet::fetch(packet, i)?.envelope(), answer)
+        let accepted = raw::accept(packet);
+        self.lent().arrival(packet, accepted, i).reply()
+    }
+
+    /// Takes the next message of a packet in, as [`deliver`](Laptop::deliver) does;
+    /// None when there are no more. It takes constant time, as
+    /// [`packet::messages`] has judged the packet.
+    ///
+    /// ```
+    /// use cetskobi::{packet, Laptop, Leaving, Refusal};
+    ///
+    /// # fn came(hut: &mut Laptop, outbox: &mut Vec<Leaving>, bytes: &[u8]) -> Result<(), Refusal> {
+    /// let mut messages = packet::messages(bytes)?;
+    /// while let Some(arrival) = hut.deliver_next(&mut messages) {
+    ///     // A refused message is one message: go on with the next.
+    ///     let Ok(reply) = arrival.reply() else { continue };
+    ///     outbox.extend(reply.leaving().map(Leaving::into_owned));
+    /// }
+    /// # Ok(())
+    /// # }
+    /// ```
+    ///
+    /// The [`Arrival`] tells which message it was, also where it was refused. A
+    /// greater epoch than this laptop's says that it missed a view.
+    #[must_use = "a message that is not sent is heard by nobody"]
+    pub fn deliver_next(&mut self, messages: &mut packet::Messages<'_>) -> Option<Arrival<'_>> {
+        let (packet, accepted, i) = messages.advance()?;
+        Some(self.lent().arrival(packet, accepted, i))
     }
 
     fn lent(&mut self) -> Memory<'_> {
@@ -354,10 +379,26 @@ impl<'a> Memory<'a> {
         Ok(left.expect("a message leaves each of these events"))
     }
 
-    /// What leaves the delivery of this message.
-    fn replied(self, came: Envelope, answer: Answer) -> Result<Reply<'a>, Refusal> {
-        let leaving = self.leaving(came.record, answer, came.sender)?;
+    /// What leaves the delivery of a message of this sender about record `i`.
+    fn replied(self, i: usize, answer: Answer, sender: u8) -> Result<Reply<'a>, Refusal> {
+        let leaving = self.leaving(i, answer, sender)?;
         Ok(Reply { leaving })
+    }
+
+    /// Delivers message `i` of a packet of which this is known.
+    fn arrival(self, packet: &[u8], accepted: Accepted, i: usize) -> Arrival<'a> {
+        let sys::Arrival {
+            answer,
+            epoch,
+            sender,
+            index,
+        } = raw::deliver_accepted(self.me, self.table, self.store, packet, accepted, i);
+        Arrival {
+            sender,
+            epoch,
+            record: index,
+            reply: self.replied(index, answer, sender),
+        }
     }
 
     /// What leaves an event on record `i`; `sender` is that of the delivered message.

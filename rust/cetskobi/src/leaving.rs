@@ -116,9 +116,10 @@ impl<'a> Leaving<'a> {
 /// #![deny(unused_must_use)]
 /// # use cetskobi::{packet, Laptop, Leaving, Refusal};
 /// # fn came(hut: &mut Laptop, outbox: &mut Vec<Leaving>, bytes: &[u8]) -> Result<(), Refusal> {
-/// for message in packet::messages(bytes)? {
+/// let mut messages = packet::messages(bytes)?;
+/// while let Some(arrival) = hut.deliver_next(&mut messages) {
 ///     // A refused message is one message: go on with the next.
-///     let Ok(reply) = hut.deliver(message) else { continue };
+///     let Ok(reply) = arrival.reply() else { continue };
 ///     outbox.extend(reply.leaving().map(Leaving::into_owned));
 /// }
 /// # Ok(())

@@ -13,6 +13,8 @@
 //! * [`Leaving`] is what leaves an event: a message, its bytes and who gets it.
 //!   [`Arriving`] is what comes in.
 //! * [`packet`] puts messages into the bytes that go on air, and takes them out.
+//!   [`Laptop::deliver_next`] takes a packet's messages in, one by one, and an
+//!   [`Arrival`] is what came of one.
 //! * [`play()`] plays a script of a small group, as the playing program does.
 //! * [`raw`] has the exported functions as they are, over slices and numbers.
 //!
@@ -54,6 +56,7 @@
 #![warn(missing_docs)]
 #![deny(unsafe_code)]
 
+mod arrival;
 mod arriving;
 mod laptop;
 mod leaving;
@@ -66,6 +69,7 @@ mod record;
 mod refusal;
 pub mod sys;
 
+pub use arrival::Arrival;
 pub use arriving::Arriving;
 pub use laptop::{Laptop, Lent};
 pub use leaving::{Leaving, Reply};

@@ -3,6 +3,11 @@
 //! What [`pack`] writes reads back as the same messages, and a packet that
 //! [`fetch`] accepts is the one that [`pack`] makes of its messages.
 //!
+//! [`messages`] looks at a packet as a whole, once. Then each of its messages is
+//! taken in constant time, to be delivered ([`Laptop::deliver_next`]) or to be
+//! looked at. [`fetch`] and [`Laptop::deliver_packet`] look at the whole packet
+//! for one message.
+//!
 //! ```
 //! use cetskobi::{packet, Laptop, Refusal};
 //!
@@ -15,20 +20,24 @@
 //!
 //! // What the radio brought: laptop 5 acknowledges.
 //! let received = [1, 1, 0, 20, 2, 5, 0, 0, 0, 0, 0, 7, 0, 0, 0, 1, 2, 0, 20, 0];
-//! for message in packet::messages(&received)? {
+//! let mut messages = packet::messages(&received)?;
+//! while let Some(arrival) = laptop.deliver_next(&mut messages) {
 //!     // A refused message is one message: go on with the next.
-//!     let Ok(reply) = laptop.deliver(message) else { continue };
+//!     let Ok(reply) = arrival.reply() else { continue };
 //!     assert_eq!(reply.leaving(), None); // laptop 1 is still missing
 //! }
 //! assert!(laptop.record(7).is_some_and(|r| r.acks.contains(5)));
 //! # Ok(())
 //! # }
 //! ```
+//!
+//! [`Laptop::deliver_next`]: crate::Laptop::deliver_next
+//! [`Laptop::deliver_packet`]: crate::Laptop::deliver_packet
 
 use std::borrow::Borrow;
 use std::iter::FusedIterator;
 
-use crate::sys::MESSAGE_WORDS;
+use crate::sys::{Accepted, Fetched, MESSAGE_WORDS};
 use crate::{raw, Arriving, Envelope, Leaving, Message, Refusal};
 
 /// The most bytes of a packet.
@@ -40,7 +49,8 @@ pub const HEAD_LEN: usize = 4;
 /// The bytes of one message in the contents table; its body follows the table.
 pub const ENTRY_LEN: usize = 16;
 
-/// Message `i` of a packet. The whole packet is judged first.
+/// Message `i` of a packet. The whole packet is judged first, at each call: for
+/// more than one of its messages there is [`messages`].
 ///
 /// # Errors
 ///
@@ -48,7 +58,11 @@ pub const ENTRY_LEN: usize = 16;
 /// and [`PacketEntry`](Refusal::PacketEntry) for bytes that are no packet,
 /// [`PacketIndex`](Refusal::PacketIndex) for a packet with no message `i`.
 pub fn fetch(packet: &[u8], i: usize) -> Result<Arriving<'_>, Refusal> {
-    let f = raw::fetch(packet, i);
+    arriving(packet, raw::fetch(packet, i))
+}
+
+/// What arrives by a fetch from this packet.
+fn arriving(packet: &[u8], f: Fetched) -> Result<Arriving<'_>, Refusal> {
     Refusal::check(f.number)?;
     let message = Message::of(f.kind, f.version, f.tie).ok_or(Refusal::PacketEntry)?;
     let envelope = Envelope {
@@ -60,32 +74,68 @@ pub fn fetch(packet: &[u8], i: usize) -> Result<Arriving<'_>, Refusal> {
     Ok(Arriving::new(envelope, &packet[f.at..][..f.len]))
 }
 
-/// The messages of a packet, in their order.
+/// The messages of a packet, in their order. The whole packet is judged here,
+/// once.
 ///
 /// # Errors
 ///
-/// As [`fetch`], for bytes that are no packet.
+/// [`PacketHead`](Refusal::PacketHead), [`PacketContents`](Refusal::PacketContents)
+/// and [`PacketEntry`](Refusal::PacketEntry) for bytes that are no packet.
 pub fn messages(packet: &[u8]) -> Result<Messages<'_>, Refusal> {
-    fetch(packet, 0)?;
-    Ok(Messages { packet, next: 0 })
+    let accepted = raw::accept(packet);
+    Refusal::check(accepted.number)?;
+    Ok(Messages {
+        packet,
+        accepted,
+        next: 0,
+    })
 }
 
-/// The messages of a packet, in their order: [`messages`].
+/// The messages of an accepted packet that were not taken yet, in their order:
+/// [`messages`].
+///
+/// [`Laptop::deliver_next`](crate::Laptop::deliver_next) takes one and delivers
+/// it; as an iterator it gives them to look at, or for
+/// [`Laptop::deliver`](crate::Laptop::deliver). Both take constant time, and `len`
+/// says how many are left.
 #[derive(Clone, Debug)]
 pub struct Messages<'a> {
     packet: &'a [u8],
+    /// What is known of these very bytes.
+    accepted: Accepted,
+    /// The number of the next message, at most the count.
     next: usize,
+}
+
+impl<'a> Messages<'a> {
+    /// Takes the next message: its packet, what is known of that, and the message's
+    /// number.
+    pub(crate) fn advance(&mut self) -> Option<(&'a [u8], Accepted, usize)> {
+        let i = self.next;
+        if i == usize::from(self.accepted.count) {
+            return None;
+        }
+        self.next += 1;
+        Some((self.packet, self.accepted, i))
+    }
 }
 
 impl<'a> Iterator for Messages<'a> {
     type Item = Arriving<'a>;
 
     fn next(&mut self) -> Option<Arriving<'a>> {
-        let came = fetch(self.packet, self.next).ok()?;
-        self.next += 1;
-        Some(came)
+        let (packet, accepted, i) = self.advance()?;
+        let came = arriving(packet, raw::fetch_accepted(packet, accepted, i));
+        Some(came.expect("an accepted packet has as many messages as it counts"))
+    }
+
+    fn size_hint(&self) -> (usize, Option<usize>) {
+        let left = usize::from(self.accepted.count) - self.next;
+        (left, Some(left))
     }
 }
+
+impl ExactSizeIterator for Messages<'_> {}
 
 impl FusedIterator for Messages<'_> {}
 

@@ -14,7 +14,8 @@
 
 use crate::sys;
 
-pub use crate::sys::{Admission, Answer, Fetched, Message, Played, Reading, Replica, Written};
+pub use crate::sys::{Accepted, Admission, Answer, Arrival, Fetched, Message, Played, Reading};
+pub use crate::sys::{Replica, Written};
 pub use crate::sys::{GONE, MESSAGE_WORDS, RECORD_BYTES};
 
 /// Fresh start: table and store become those of fresh records, unless it is
@@ -135,7 +136,7 @@ pub fn recipients(me: Replica, kind: u8, sender: u8) -> u16 {
     unsafe { sys::cetskobi_recipients(me, kind, sender) }
 }
 
-/// Message `i` of a packet.
+/// Message `i` of a packet, which is looked at as a whole first, at each call.
 pub fn fetch(packet: &[u8], i: usize) -> Fetched {
     // SAFETY: one slice that is only read.
     unsafe { sys::cetskobi_fetch(packet.as_ptr(), packet.len(), i) }
@@ -149,7 +150,8 @@ pub fn pack(messages: &[u32], bodies: &[u8], out: &mut [u8]) -> Written {
     unsafe { sys::cetskobi_pack(m, m_len, b, b_len, out.as_mut_ptr(), out.len()) }
 }
 
-/// Delivery of message `i` of a packet: [`fetch`], then [`deliver`].
+/// Delivery of message `i` of a packet: [`fetch`], then [`deliver`]. Here too the
+/// whole packet is looked at first, at each call.
 pub fn deliver_packet(
     me: Replica,
     table: &mut [u8],
@@ -162,6 +164,42 @@ pub fn deliver_packet(
     unsafe {
         sys::cetskobi_deliver_packet(me, t, t_len, s, s_len, packet.as_ptr(), packet.len(), i)
     }
+}
+
+/// The whole of a packet, once: questions 20 to 22, and how many messages it has.
+pub fn accept(packet: &[u8]) -> Accepted {
+    // SAFETY: one slice that is only read.
+    unsafe { sys::cetskobi_accept(packet.as_ptr(), packet.len()) }
+}
+
+/// Message `i` of a packet, in constant time: what [`fetch`] answers, if
+/// `accepted` is what [`accept`] gave of these very bytes.
+///
+/// It may be anything else, and nothing outside the packet is read. Where `i` is
+/// not below its count, its number is the answer, or 23 if that is 0; else 21
+/// where entry `i` of the contents table does not lie within the packet, and 22
+/// where its bytes do not; else the entry as it stands there, of which question
+/// 22 has not been asked.
+pub fn fetch_accepted(packet: &[u8], accepted: Accepted, i: usize) -> Fetched {
+    // SAFETY: one slice that is only read, and numbers.
+    unsafe { sys::cetskobi_fetch_accepted(packet.as_ptr(), packet.len(), accepted, i) }
+}
+
+/// Delivery of message `i` of a packet, which is taken in constant time:
+/// [`fetch_accepted`], then [`deliver`]. With it comes which message it was, also
+/// where its delivery was refused.
+pub fn deliver_accepted(
+    me: Replica,
+    table: &mut [u8],
+    store: &mut [u8],
+    packet: &[u8],
+    accepted: Accepted,
+    i: usize,
+) -> Arrival {
+    let (t, t_len, s, s_len) = parts_mut(table, store);
+    let (p, p_len) = (packet.as_ptr(), packet.len());
+    // SAFETY: three slices; the two that are written are borrowed mutably, so apart from all.
+    unsafe { sys::cetskobi_deliver_accepted(me, t, t_len, s, s_len, p, p_len, accepted, i) }
 }
 
 /// The playing program on one script: what it prints stands at the front of

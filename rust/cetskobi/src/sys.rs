@@ -100,6 +100,33 @@ pub struct Fetched {
     pub len: usize,
 }
 
+/// What is known of a packet that was looked at as a whole: 0 and how many
+/// messages it has; or the number of the question that refused it, 20 to 22,
+/// and no messages.
+#[repr(C)]
+#[derive(Clone, Copy, Debug, PartialEq, Eq)]
+pub struct Accepted {
+    /// 0, or the number of the question that said no.
+    pub number: u8,
+    /// How many messages it has; 0 of a refused packet.
+    pub count: u8,
+}
+
+/// The answer to the delivery of a packet's message; and which message it was,
+/// also of a refused delivery. Where there was none to deliver these are 0.
+#[repr(C)]
+#[derive(Clone, Copy, Debug, PartialEq, Eq)]
+pub struct Arrival {
+    /// The delivery's answer.
+    pub answer: Answer,
+    /// The sender's epoch.
+    pub epoch: u32,
+    /// The number of the replica that sent it.
+    pub sender: u8,
+    /// The number of the record that it is about.
+    pub index: usize,
+}
+
 /// 0 or the number of the question that said no; and how many bytes were written.
 #[repr(C)]
 #[derive(Clone, Copy, Debug, PartialEq, Eq)]
@@ -148,6 +175,12 @@ unsafe extern "C" {
     pub fn cetskobi_pack(messages: *const u32, messages_len: usize, bodies: *const u8, bodies_len: usize, out: *mut u8, out_len: usize) -> Written;
     /// Delivery of message i of a packet: see [`Laptop::deliver_packet`](crate::Laptop::deliver_packet).
     pub fn cetskobi_deliver_packet(me: Replica, table: *mut u8, table_len: usize, store: *mut u8, store_len: usize, packet: *const u8, packet_len: usize, i: usize) -> Answer;
+    /// The whole of a packet, once: see [`packet::messages`](crate::packet::messages).
+    pub fn cetskobi_accept(packet: *const u8, packet_len: usize) -> Accepted;
+    /// Message i of an accepted packet: see [`packet::Messages`](crate::packet::Messages).
+    pub fn cetskobi_fetch_accepted(packet: *const u8, packet_len: usize, accepted: Accepted, i: usize) -> Fetched;
+    /// Delivery of message i of an accepted packet: see [`Laptop::deliver_next`](crate::Laptop::deliver_next).
+    pub fn cetskobi_deliver_accepted(me: Replica, table: *mut u8, table_len: usize, store: *mut u8, store_len: usize, packet: *const u8, packet_len: usize, accepted: Accepted, i: usize) -> Arrival;
     /// The playing program on one script: see [`play`](fn@crate::play).
     pub fn cetskobi_play(script: *const u8, script_len: usize, out: *mut u8, out_len: usize) -> Played;
 }

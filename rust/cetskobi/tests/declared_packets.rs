@@ -19,6 +19,57 @@ const PACKET_OF_TWO: [u8; 40] = [
     b'w', b'i', b'n', b'g',
 ];
 
+const INV: Fetched = Fetched {
+    number: 0,
+    kind: 1,
+    sender: 5,
+    tie: 4,
+    epoch: 9,
+    version: 0x0102_0304,
+    index: 1,
+    at: 36,
+    len: 4,
+};
+const ACK: Fetched = Fetched {
+    number: 0,
+    kind: 2,
+    sender: 5,
+    tie: 2,
+    epoch: 0,
+    version: 1,
+    index: 7,
+    at: 40,
+    len: 0,
+};
+
+/// A fetch refused by this question.
+const fn unfetched(number: u8) -> Fetched {
+    Fetched {
+        number,
+        kind: 0,
+        sender: 0,
+        tie: 0,
+        epoch: 0,
+        version: 0,
+        index: 0,
+        at: 0,
+        len: 0,
+    }
+}
+
+/// What is known of `PACKET_OF_TWO`.
+const TWO: Accepted = Accepted {
+    number: 0,
+    count: 2,
+};
+
+/// `PACKET_OF_TWO` with another byte at this place.
+fn with(place: usize, byte: u8) -> [u8; 40] {
+    let mut packet = PACKET_OF_TWO;
+    packet[place] = byte;
+    packet
+}
+
 #[test]
 fn body() {
     let writing = [3, 2, 2, 2, 6, 0, 0, 0, 6, 0, 0, 0, 0, 0, 62, 9];
@@ -59,32 +110,38 @@ fn recipients() {
 #[test]
 fn fetch() {
     let call = |i| unsafe { cetskobi_fetch(PACKET_OF_TWO.as_ptr(), PACKET_OF_TWO.len(), i) };
-    let inv = Fetched {
-        number: 0,
-        kind: 1,
-        sender: 5,
-        tie: 4,
-        epoch: 9,
-        version: 0x0102_0304,
-        index: 1,
-        at: 36,
-        len: 4,
+    assert_eq!(call(0), INV);
+    assert_eq!(call(1), ACK);
+    assert_eq!(call(2), unfetched(23));
+}
+
+#[test]
+fn accept() {
+    let call = |packet: &[u8]| unsafe { cetskobi_accept(packet.as_ptr(), packet.len()) };
+    let refused = |number| Accepted { number, count: 0 };
+    assert_eq!(call(&PACKET_OF_TWO), TWO);
+    assert_eq!(call(&PACKET_OF_TWO[..39]), refused(20));
+    assert_eq!(call(&with(1, 3)), refused(21));
+    assert_eq!(call(&with(4, 9)), refused(22));
+}
+
+#[test]
+fn fetch_accepted() {
+    let call = |packet: &[u8], accepted, i| unsafe {
+        cetskobi_fetch_accepted(packet.as_ptr(), packet.len(), accepted, i)
     };
-    let ack = Fetched {
-        number: 0,
-        kind: 2,
-        sender: 5,
-        tie: 2,
-        epoch: 0,
-        version: 1,
-        index: 7,
-        at: 40,
-        len: 0,
+    assert_eq!(call(&PACKET_OF_TWO, TWO, 0), INV);
+    assert_eq!(call(&PACKET_OF_TWO, TWO, 1), ACK);
+    assert_eq!(call(&PACKET_OF_TWO, TWO, 2), unfetched(23));
+    let refused = Accepted {
+        number: 22,
+        count: 0,
     };
-    assert_eq!(call(0), inv);
-    assert_eq!(call(1), ack);
-    assert_eq!(call(2).number, 23);
-    assert_eq!((call(2).at, call(2).len), (0, 0));
+    assert_eq!(call(&PACKET_OF_TWO, refused, 0), unfetched(22));
+    // Facts of another packet.
+    assert_eq!(call(&PACKET_OF_TWO[..35], TWO, 1), unfetched(21));
+    assert_eq!(call(&PACKET_OF_TWO[..39], TWO, 0), unfetched(22));
+    assert_eq!(call(&with(4, 9), TWO, 0), Fetched { kind: 9, ..INV });
 }
 
 #[test]
@@ -132,6 +189,79 @@ fn deliver_packet() {
     assert_eq!(call(&PACKET_OF_TWO, 2).number, 23);
     assert_eq!(call(&PACKET_OF_TWO, 1).number, 4);
     assert_eq!(call(&PACKET_OF_TWO, 0), accepted);
+    let invalid = [1, 4, 5, 1, 4, 3, 2, 1, 0, 0, 0, 0, 0, 0, 4, 9];
+    assert_eq!(table, [fresh, invalid].as_flattened());
+    assert_eq!(store[..192], [7; 192]);
+    assert_eq!(store[192..196], *b"wing");
+    assert_eq!(store[196..], [0; 188]);
+}
+
+#[test]
+fn deliver_accepted() {
+    let fresh = [0, 1, 1, 1, 0, 0, 0, 0, 0, 0, 0, 0, 0, 0, 0, 9];
+    let mut table = [fresh, fresh].concat();
+    let mut store = vec![7; 2 * 192];
+    let (t, s) = (table.as_mut_ptr(), store.as_mut_ptr());
+    let by = |me, packet: &[u8], accepted, i| unsafe {
+        cetskobi_deliver_accepted(
+            me,
+            t,
+            2 * RECORD_BYTES,
+            s,
+            2 * 192,
+            packet.as_ptr(),
+            packet.len(),
+            accepted,
+            i,
+        )
+    };
+    let call = |packet: &[u8], accepted, i| by(ME, packet, accepted, i);
+    let answered = |number| Answer {
+        number,
+        kind: 0,
+        tie: 0,
+        version: 0,
+    };
+    let none = |number| Arrival {
+        answer: answered(number),
+        epoch: 0,
+        sender: 0,
+        index: 0,
+    };
+    let head = Accepted {
+        number: 20,
+        count: 0,
+    };
+    assert_eq!(call(&PACKET_OF_TWO, head, 0), none(20));
+    assert_eq!(call(&PACKET_OF_TWO, TWO, 2), none(23));
+    assert_eq!(call(&PACKET_OF_TWO[..35], TWO, 1), none(21));
+    assert_eq!(call(&PACKET_OF_TWO[..39], TWO, 0), none(22));
+    // Refused, and told which message it was.
+    let ack = Arrival {
+        answer: answered(4),
+        epoch: 0,
+        sender: 5,
+        index: 7,
+    };
+    assert_eq!(call(&PACKET_OF_TWO, TWO, 1), ack);
+    let inv = Arrival {
+        answer: answered(10),
+        epoch: 9,
+        sender: 5,
+        index: 1,
+    };
+    let earlier = Replica { epoch: 8, ..ME };
+    assert_eq!(by(earlier, &PACKET_OF_TWO, TWO, 0), inv);
+    // No kind, by facts of another packet.
+    let answer = answered(12);
+    assert_eq!(call(&with(4, 9), TWO, 0), Arrival { answer, ..inv });
+    let answer = Answer {
+        number: 0,
+        kind: 2,
+        tie: 4,
+        version: 0x0102_0304,
+    };
+    assert_eq!(call(&PACKET_OF_TWO, TWO, 0), Arrival { answer, ..inv });
     let invalid = [1, 4, 5, 1, 4, 3, 2, 1, 0, 0, 0, 0, 0, 0, 4, 9];
     assert_eq!(table, [fresh, invalid].as_flattened());
     assert_eq!(store[..192], [7; 192]);

@@ -210,9 +210,12 @@ fn a_worked_morning() {
     let inv = one.sent([2]);
     assert_eq!(messages(&inv), [Message::Inv(second)]);
     one.is(State::Replay, second, 0);
+    assert_eq!(two.missed_view(), None);
     two.came(&inv);
     two.is(State::Valid, first, 1 << 1 | 1 << 5);
+    assert_eq!(two.missed_view(), Some(1));
     two.view_came(1, 6).expect("accepted");
+    assert_eq!(two.missed_view(), None);
     one.came(&two.sent([1]));
     one.ticks(8);
     two.came(&one.sent([2]));
@@ -223,6 +226,46 @@ fn a_worked_morning() {
     for hut in [&one, &two] {
         hut.shows(b"robin, wing 74");
     }
+}
+
+/// 5 is struck off, and then 2, under epochs 1 and 4. 1 hears it from the warden,
+/// the others only by messages, which they refuse.
+#[test]
+fn a_view_that_was_missed_shows() {
+    let start = |number| Hut::begin(number, 47, 8, Radio::default()).expect("a laptop");
+    let [mut one, mut two, mut three, mut five] = [1, 2, 3, 5].map(start);
+    one.view_came(1, 15).expect("accepted");
+    one.saves(b"robin");
+    let first = one.sent([0, 2, 3]);
+    one.view_came(4, 11).expect("accepted");
+    let second = one.sent([0, 3]);
+    for hut in [&mut two, &mut three, &mut five] {
+        assert_eq!(hut.missed_view(), None);
+        hut.came(&first);
+        assert_eq!(hut.missed_view(), Some(1));
+        hut.came(&second);
+        hut.came(&first);
+        assert_eq!(hut.missed_view(), Some(4));
+        hut.is(State::Valid, stamp(0, 0), 0);
+    }
+    // An older view is not the one that was missed; a refused one is none.
+    three.view_came(1, 15).expect("accepted");
+    assert_eq!(three.view_came(4, 63), Err(Refusal::ViewNotWithin));
+    assert_eq!(three.missed_view(), Some(4));
+    three.view_came(4, 11).expect("accepted");
+    assert_eq!(three.missed_view(), None);
+    three.came(&second);
+    three.sent([1]);
+    // A greater one than that was heard of will do, and older messages tell nothing.
+    five.view_came(5, 3).expect("accepted");
+    five.came(&second);
+    assert_eq!(five.missed_view(), None);
+    assert_eq!(five.open(RING), Err(Refusal::StruckOff));
+    // Bytes that are no packet tell nothing either.
+    let mut broken = second.clone();
+    broken[0] = 2;
+    assert_eq!(one.packet_came(&broken), Err(Refusal::PacketHead));
+    assert_eq!((one.heard, one.missed_view()), (0, None));
 }
 
 /// A set as the guide has it, such as {1,5}.
@@ -545,6 +588,7 @@ fn a_record_that_hung_is_freed_by_going_over() {
         clocks: vec![(0, 0); 8],
         messages: Vec::new(),
         to: 0,
+        heard: 0,
     };
     assert_eq!(two.sends_at(3000), []);
     two.is(State::InvalidWrite, GREATER, 0);
@@ -642,6 +686,9 @@ fn settles(mut dice: Dice) -> usize {
         // The warden strikes the dead laptop off; laptop 0 hears it late.
         if now == 700 || now == 900 {
             let told = if now == 700 { 1..4 } else { 0..1 };
+            // By then the others' messages have told it.
+            let heard = (now == 900).then_some(1);
+            assert!(huts[told.clone()].iter().all(|h| h.missed_view() == heard));
             for hut in &mut huts[told] {
                 let records = (0..RINGS).filter_map(|ring| hut.laptop.record(ring));
                 let waits = |r: &Record| r.state == State::InvalidWrite && r.writer == DYING as u8;

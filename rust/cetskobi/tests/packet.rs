@@ -1,9 +1,8 @@
 //! Packets of what leaves, and the playing program.
 
 use cetskobi::packet::{self, MESSAGES_MAX, PACKET_MAX};
-use cetskobi::{
-    play, Arriving, Envelope, Laptop, Leaving, Message, Refusal, Timestamp, SCRIPT_MAX,
-};
+use cetskobi::{play, raw, Arriving, Envelope, Laptop, Leaving, Message, Refusal, Reply};
+use cetskobi::{Timestamp, SCRIPT_MAX};
 
 const STAMP: Timestamp = Timestamp { version: 1, tie: 2 };
 
@@ -89,20 +88,219 @@ fn the_last_record() {
     assert_eq!(came.envelope().record, 4095);
 }
 
+/// Refused at once, and for every message alike; nothing is delivered.
 #[test]
 fn broken_packets() {
+    let refused = |packet: &[u8]| {
+        let mut laptop = Laptop::start(2, 0b10_0110, 8).unwrap();
+        assert!(laptop.write(7, b"wren").is_ok());
+        let before = laptop.clone();
+        let refusal = packet::messages(packet).err();
+        for i in [0, 1, 63, 64, usize::MAX] {
+            assert_eq!(packet::fetch(packet, i).err(), refusal);
+            assert_eq!(laptop.deliver_packet(packet, i).err(), refusal);
+        }
+        assert_eq!(laptop, before);
+        refusal
+    };
     let broken = |place: usize, byte| {
         let mut packet = ACK;
         packet[place] = byte;
-        packet::fetch(&packet, 0).err()
+        refused(&packet)
     };
-    assert_eq!(packet::fetch(&[], 0).err(), Some(Refusal::PacketHead));
+    assert_eq!(refused(&[]), Some(Refusal::PacketHead));
+    assert_eq!(refused(&ACK[..19]), Some(Refusal::PacketHead));
     assert_eq!(broken(0, 2), Some(Refusal::PacketHead));
     assert_eq!(broken(1, 2), Some(Refusal::PacketContents));
     assert_eq!(broken(4, 4), Some(Refusal::PacketEntry));
     assert_eq!(broken(18, 21), Some(Refusal::PacketEntry));
     // Record 4,096 fits the two bytes, and is refused.
     assert_eq!(broken(10, 16), Some(Refusal::PacketEntry));
+}
+
+/// One after another they are what a fetch gives, and what is left is counted.
+#[test]
+fn messages_are_what_is_fetched() {
+    let mut out = [0; PACKET_MAX];
+    for lengths in [
+        &[192; 1][..],
+        &[0; 2],
+        &[3, 0, 192, 1, 0],
+        &[192; 6],
+        &[0; 64],
+    ] {
+        let len = packet::pack(saved(lengths), &mut out).unwrap();
+        let packet = &out[..len];
+        let mut messages = packet::messages(packet).unwrap();
+        for i in 0..lengths.len() {
+            let left = lengths.len() - i;
+            assert_eq!(messages.len(), left);
+            assert_eq!(messages.size_hint(), (left, Some(left)));
+            // A clone goes on by itself.
+            assert_eq!(messages.clone().count(), left);
+            assert_eq!(messages.next(), packet::fetch(packet, i).ok());
+        }
+        assert_eq!((messages.len(), messages.next()), (0, None));
+        let beyond = packet::fetch(packet, lengths.len());
+        assert_eq!(
+            (messages.next(), beyond.err()),
+            (None, Some(Refusal::PacketIndex))
+        );
+    }
+}
+
+/// Messages for laptop 2 of {1,2,5} at epoch 1, whose record 0 is in state write:
+/// each kind from each sender and of each epoch, accepted ones among them.
+fn of_every_sort() -> Vec<[u32; raw::MESSAGE_WORDS]> {
+    let mut words = Vec::new();
+    for (epoch, sender) in [
+        (0, 1),
+        (1, 1),
+        (1, 2),
+        (1, 5),
+        (1, 9),
+        (2, 5),
+        (u32::MAX, 1),
+    ] {
+        for record in [0, 1, 7, 4095] {
+            words.push([1, sender, epoch, record, 3, sender, 4]);
+            words.push([2, sender, epoch, record, 1, 2, 0]);
+            words.push([3, sender, epoch, record, 3, sender, 0]);
+        }
+    }
+    words
+}
+
+/// What leaves, or the refusal.
+fn replied(reply: Result<Reply, Refusal>) -> Result<Option<Leaving<'static>>, Refusal> {
+    reply.map(|reply| reply.leaving().map(Leaving::into_owned))
+}
+
+/// A packet taken in one pass leaves a laptop as its messages one by one do, each
+/// by its number, and each by a fetch and a delivery: answers, what leaves, memory.
+#[test]
+fn a_packet_in_one_pass() {
+    let mut start = Laptop::start(2, 0b10_0110, 8).unwrap();
+    start.change_view(1, 0b10_0110).unwrap();
+    assert!(start.write(0, b"wren").is_ok());
+    let mut numbers = [0; 32];
+    let mut out = [0; PACKET_MAX];
+    for (count, from) in [(1, 0), (2, 5), (7, 11), (64, 0), (64, 20)] {
+        // Packets of so many, from there on; then round again.
+        let words: Vec<u32> = (of_every_sort().iter().cycle().skip(from).take(count))
+            .flatten()
+            .copied()
+            .collect();
+        let texts = words.chunks(7).filter(|w| w[0] == 1).count();
+        let written = raw::pack(&words, &b"wing".repeat(texts), &mut out);
+        assert_eq!(written.number, 0);
+        let packet = &out[..written.len];
+
+        let [mut once, mut each, mut by_hand] = [start.clone(), start.clone(), start.clone()];
+        let mut messages = packet::messages(packet).unwrap();
+        for i in 0..count {
+            let came = packet::fetch(packet, i).unwrap();
+            let arrival = once.deliver_next(&mut messages).expect("one more");
+            let told = (arrival.sender(), arrival.epoch(), arrival.record());
+            let Envelope {
+                sender,
+                epoch,
+                record,
+                ..
+            } = came.envelope();
+            assert_eq!(told, (sender, epoch, record), "message {i}");
+            let reply = replied(arrival.reply());
+            assert_eq!(
+                reply,
+                replied(each.deliver_packet(packet, i)),
+                "message {i}"
+            );
+            assert_eq!(reply, replied(by_hand.deliver(came)), "message {i}");
+            assert!(once == each && once == by_hand, "message {i}");
+            numbers[usize::from(reply.map_or_else(Refusal::number, |_| 0))] += 1;
+            assert_eq!(messages.len(), count - i - 1);
+        }
+        assert_eq!(once.deliver_next(&mut messages), None);
+        assert_eq!(once.deliver_next(&mut messages), None);
+        assert!(once == each);
+    }
+    let came = numbers.iter().enumerate().filter(|n| *n.1 > 0);
+    let came: Vec<usize> = came.map(|n| n.0).collect();
+    assert_eq!(came, [0, 4, 10, 11, 13, 14]);
+}
+
+/// Whichever question refuses it: who sent it, at which epoch, about which record.
+#[test]
+fn a_refused_arrival_tells_which_message_it_was() {
+    let mut out = [0; PACKET_MAX];
+    let mut told = |me: &Laptop, words: [u32; raw::MESSAGE_WORDS]| {
+        let written = raw::pack(&words, b"", &mut out);
+        let mut messages = packet::messages(&out[..written.len]).unwrap();
+        let mut laptop = me.clone();
+        let arrival = laptop.deliver_next(&mut messages).unwrap();
+        let message = (arrival.sender(), arrival.epoch(), arrival.record());
+        let refusal = arrival.reply().unwrap_err();
+        assert_eq!(laptop, *me);
+        (message, refusal)
+    };
+    let mut me = Laptop::start(2, 0b10_0110, 2).unwrap();
+    me.change_view(3, 0b10_0110).unwrap();
+    // A view that it missed, and a message that is late.
+    assert_eq!(
+        told(&me, [3, 5, 4, 1, 6, 5, 0]),
+        ((5, 4, 1), Refusal::OtherEpoch)
+    );
+    let last = told(&me, [3, 1, u32::MAX, 1, 6, 5, 0]);
+    assert_eq!(last, ((1, u32::MAX, 1), Refusal::OtherEpoch));
+    assert_eq!(
+        told(&me, [1, 5, 0, 0, 6, 5, 0]),
+        ((5, 0, 0), Refusal::OtherEpoch)
+    );
+    assert_eq!(
+        told(&me, [2, 15, 3, 1, 6, 2, 0]),
+        ((15, 3, 1), Refusal::OtherSender)
+    );
+    assert_eq!(
+        told(&me, [2, 1, 3, 0, 6, 2, 0]),
+        ((1, 3, 0), Refusal::StrayAck)
+    );
+    assert_eq!(
+        told(&me, [3, 1, 3, 0, 6, 2, 0]),
+        ((1, 3, 0), Refusal::StrayVal)
+    );
+    assert_eq!(
+        told(&me, [1, 1, 4, 2, 6, 2, 0]),
+        ((1, 4, 2), Refusal::StrayRecord)
+    );
+    // Damaged here, and struck off here.
+    let (identity, mut table, store) = me.clone().into_parts();
+    table[16] = 5;
+    let damaged = Laptop::from_parts(identity, table, store);
+    let refused = told(&damaged, [1, 1, 4, 1, 6, 2, 0]);
+    assert_eq!(refused, ((1, 4, 1), Refusal::UnsoundRecord));
+    me.change_view(4, 0b10_0010).unwrap();
+    assert_eq!(
+        told(&me, [1, 1, 5, 1, 6, 2, 0]),
+        ((1, 5, 1), Refusal::StruckOff)
+    );
+}
+
+/// What the iterator gave is passed by, and a delivery goes on behind it.
+#[test]
+fn a_message_that_was_looked_at_is_taken() {
+    let mut two = Laptop::start(2, 0b10_0110, 8).unwrap();
+    let mut out = [0; PACKET_MAX];
+    let len = packet::pack(saved(&[1, 2, 3]), &mut out).unwrap();
+    let mut messages = packet::messages(&out[..len]).unwrap();
+    let mut next = || {
+        two.deliver_next(&mut messages)
+            .map(|a| (a.record(), messages.next()))
+    };
+    let (record, came) = next().unwrap();
+    assert_eq!((record, came.unwrap().envelope().record), (0, 1));
+    assert_eq!(next(), Some((2, None)));
+    assert_eq!(next(), None);
+    assert_eq!([0, 1, 2].map(|i| two.shows_valid(i)), [false, true, false]);
 }
 
 #[test]

@@ -52,10 +52,11 @@ pub(crate) fn in_flight(fault: Fault, bytes: &[u8], laptops: u8, rng: &mut Rng) 
         return None;
     }
     let mut out = bytes.to_vec();
+    let accepted = raw::accept(bytes);
     for (k, m) in packet::messages(bytes).ok()?.enumerate() {
         match (fault, m.envelope().message) {
             (Fault::Text, Message::Inv(_)) if !m.body().is_empty() => {
-                out[raw::fetch(bytes, k).at] ^= 1;
+                out[raw::fetch_accepted(bytes, accepted, k).at] ^= 1;
             }
             (Fault::Sender, Message::Ack(_)) => {
                 // The second byte of its entry.

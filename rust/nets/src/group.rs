@@ -1,6 +1,7 @@
 //! The laptops of the group. Every event goes through here: it is counted,
 //! remembered, and agreement is checked after it.
 
+use cetskobi::packet::Messages;
 use cetskobi::{Arriving, Envelope, Laptop, Leaving, Members, Message, Record, Refusal, Reply};
 use cetskobi::{State, Timestamp};
 use std::collections::BTreeMap;
@@ -26,6 +27,21 @@ pub(crate) struct EventCounts {
     pub completed: u64,
     /// INV, ACK, VAL.
     pub messages: [u64; 3],
+    /// Packets that were accepted, and the messages in them.
+    pub packets: u64,
+    pub arrived: u64,
+    /// Entries looked at, if at each message the whole packet were.
+    pub walked: u64,
+}
+
+impl EventCounts {
+    /// A packet of so many messages was accepted.
+    pub fn packet(&mut self, messages: usize) {
+        let messages = messages as u64;
+        self.packets += 1;
+        self.arrived += messages;
+        self.walked += messages * messages;
+    }
 }
 
 /// The group under watch.
@@ -49,6 +65,13 @@ pub(crate) type Left = Result<Option<Leaving<'static>>, Refusal>;
 
 /// What leaves an event, unless agreement failed after it.
 pub(crate) type Watched = Result<Left, Disagreement>;
+
+/// What came of a packet's message: what its arrival tells, and what leaves.
+pub(crate) struct Came {
+    pub epoch: u32,
+    pub record: usize,
+    pub left: Left,
+}
 
 /// The same, of an event that always sends.
 fn sent(left: Result<Leaving, Refusal>) -> Left {
@@ -137,15 +160,27 @@ impl Group {
         self.watched(number, i, Kind::Resend, None, answer)
     }
 
-    /// Message `k` of a packet, which is `came`.
-    pub fn deliver_packet(
+    /// The next message of a packet; None when there are no more.
+    pub fn deliver_next(
         &mut self,
         number: u8,
-        packet: &[u8],
-        k: usize,
-        came: Envelope,
-    ) -> Watched {
-        self.deliver(number, came, |l| replied(l.deliver_packet(packet, k)))
+        messages: &mut Messages<'_>,
+    ) -> Result<Option<Came>, Disagreement> {
+        // Only to be watched and remembered; the hut has what the arrival tells.
+        let Some(next) = messages.clone().next() else {
+            return Ok(None);
+        };
+        let (mut epoch, mut record) = (0, 0);
+        let left = self.deliver(number, next.envelope(), |l| {
+            let arrival = l.deliver_next(messages).expect("there is a next one");
+            (epoch, record) = (arrival.epoch(), arrival.record());
+            replied(arrival.reply())
+        })?;
+        Ok(Some(Came {
+            epoch,
+            record,
+            left,
+        }))
     }
 
     /// A message that came, handed over as another.

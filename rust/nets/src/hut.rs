@@ -3,11 +3,12 @@
 
 use std::collections::BTreeMap;
 
-use cetskobi::{packet, Arriving, Envelope, Members, Message, Refusal, State, Timestamp};
+use cetskobi::packet::{self, Messages};
+use cetskobi::{Arriving, Envelope, Members, Message, Refusal, State, Timestamp};
 
 use crate::agreement::Disagreement;
 use crate::fault::Fault;
-use crate::group::{Group, Left, Watched};
+use crate::group::{Came, Group, Left, Watched};
 use crate::outbox::Outbox;
 use crate::Tick;
 
@@ -30,6 +31,12 @@ pub(crate) struct Hut {
     number: u8,
     outbox: Outbox,
     timers: BTreeMap<usize, Timer>,
+    /// The greatest epoch of a message that came.
+    heard: u32,
+    /// Since when that is greater than the laptop's own: a view is missing here.
+    missing: Option<Tick>,
+    /// How long a view was missing after the hut had heard so, each time.
+    pub missed: Vec<Tick>,
     fault: Option<Fault>,
 }
 
@@ -42,6 +49,9 @@ impl Hut {
             number,
             outbox: Outbox::default(),
             timers: BTreeMap::new(),
+            heard: 0,
+            missing: None,
+            missed: Vec::new(),
             fault,
         }
     }
@@ -70,22 +80,18 @@ impl Hut {
         Ok(self.put_again(group, i, answer, WAIT_FIRST))
     }
 
-    /// A packet comes: its messages one by one.
+    /// A packet comes: its messages one by one, in one pass.
     pub fn packet_came(&mut self, group: &mut Group, bytes: &[u8]) -> Done {
-        let Ok(messages) = packet::messages(bytes) else {
+        let Ok(mut messages) = packet::messages(bytes) else {
             return Ok(());
         };
-        for (k, m) in messages.enumerate() {
-            let Envelope {
-                record, message, ..
-            } = m.envelope();
-            if self.fault == Some(Fault::Val) && matches!(message, Message::Val(_)) {
-                continue;
-            }
-            match self.take(group, bytes, k, m)? {
+        group.counts.packet(messages.len());
+        while let Some(came) = self.take(group, &mut messages)? {
+            self.hears(group, came.epoch);
+            match came.left {
                 Ok(Some(left)) if matches!(left.envelope().message, Message::Val(_)) => {
                     // The last acknowledgement has come. Its VAL may be lost, as any.
-                    self.put_again(group, record, Ok(Some(left)), WAIT_FIRST);
+                    self.put_again(group, came.record, Ok(Some(left)), WAIT_FIRST);
                 }
                 Ok(Some(left)) => self.outbox.put(left),
                 Ok(None) | Err(_) => {}
@@ -94,12 +100,25 @@ impl Hut {
         Ok(())
     }
 
+    /// A message was of this epoch. A greater one than the laptop's says that it
+    /// missed a view.
+    fn hears(&mut self, group: &Group, epoch: u32) {
+        self.heard = self.heard.max(epoch);
+        if self.heard > group.laptop(self.number).epoch() {
+            self.missing.get_or_insert(group.now);
+        }
+    }
+
     /// The warden's view comes.
     pub fn view_came(&mut self, group: &mut Group, epoch: u32, view: Members) -> Done {
-        match group.change_view(self.number, epoch, view)? {
-            Ok(_) => self.go_over(group),
-            Err(_) => Ok(()),
+        if group.change_view(self.number, epoch, view)?.is_err() {
+            return Ok(());
         }
+        if self.heard <= epoch {
+            let since = self.missing.take();
+            self.missed.extend(since.map(|tick| group.now - tick));
+        }
+        self.go_over(group)
     }
 
     /// The clock: records whose wait is over.
@@ -121,18 +140,36 @@ impl Hut {
         self.outbox.packets()
     }
 
-    /// Takes message `k` of a packet in.
-    fn take(&mut self, group: &mut Group, bytes: &[u8], k: usize, m: Arriving) -> Watched {
-        if self.fault == Some(Fault::Epoch) {
-            let epoch = group.laptop(self.number).epoch();
-            let handed = Envelope {
-                epoch,
-                ..m.envelope()
-            };
-            let handed = Arriving::new(handed, m.body());
-            return group.deliver_as(self.number, m.envelope(), handed);
+    /// Takes the next message of a packet in.
+    fn take(
+        &self,
+        group: &mut Group,
+        messages: &mut Messages<'_>,
+    ) -> Result<Option<Came>, Disagreement> {
+        let is_val = |m: Arriving| matches!(m.envelope().message, Message::Val(_));
+        match self.fault {
+            Some(Fault::Epoch) => messages.next().map(|m| self.twist(group, m)).transpose(),
+            Some(Fault::Val) => {
+                while messages.clone().next().is_some_and(is_val) {
+                    messages.next();
+                }
+                group.deliver_next(self.number, messages)
+            }
+            _ => group.deliver_next(self.number, messages),
         }
-        group.deliver_packet(self.number, bytes, k, m.envelope())
+    }
+
+    /// Hands a message over as if it were of the laptop's own epoch.
+    fn twist(&self, group: &mut Group, m: Arriving) -> Result<Came, Disagreement> {
+        let came = m.envelope();
+        let epoch = group.laptop(self.number).epoch();
+        let handed = Arriving::new(Envelope { epoch, ..came }, m.body());
+        let left = group.deliver_as(self.number, came, handed)?;
+        Ok(Came {
+            epoch,
+            record: came.record,
+            left,
+        })
     }
 
     /// Once over all records, after a change of view.
@@ -281,6 +318,47 @@ mod tests {
         sent(&mut zero);
         assert_eq!(sent_at(&mut zero, group, 2000), [1024]);
         assert_eq!(sent_at(&mut two, group, 2000), []);
+    }
+
+    /// 2 is struck off, which 0 is told at once and 1 later: 1 hears of it by the
+    /// epoch of 0's messages, which it refuses.
+    #[test]
+    fn a_view_that_is_missing_is_heard_of() {
+        let (mut group, [mut zero, mut one, mut two]) = huts();
+        let group = &mut group;
+        let seen = zero.open(group, 0).expect("agreement").expect("shown");
+        assert_eq!(zero.save(group, 0, seen, b"Wren"), Ok(true));
+        one.packet_came(group, &sent(&mut zero)).expect("agreement");
+        let ack = sent(&mut one);
+        let view = Members::from(0b011);
+        zero.view_came(group, 1, view).expect("agreement");
+        let inv = sent(&mut zero);
+        assert_eq!((one.heard, one.missing), (0, None));
+        for tick in [10, 14] {
+            group.now = tick;
+            one.packet_came(group, &inv).expect("agreement");
+            assert_eq!((one.heard, one.missing), (1, Some(10)));
+        }
+        // What is late tells nothing, nor does a view that is refused.
+        zero.packet_came(group, &ack).expect("agreement");
+        assert_eq!((zero.heard, zero.missing), (0, None));
+        one.view_came(group, 0, view).expect("agreement");
+        assert_eq!(one.missed, []);
+        group.now = 25;
+        for hut in [&mut one, &mut two] {
+            hut.view_came(group, 1, view).expect("agreement");
+        }
+        assert_eq!((one.missing, &one.missed[..]), (None, &[15][..]));
+        one.packet_came(group, &inv).expect("agreement");
+        assert_eq!(one.missing, None);
+        // 2 had heard nothing.
+        assert_eq!(two.missed, []);
+        // Five packets came, of a message each, and this is what was counted.
+        let counts = &group.counts;
+        assert_eq!((counts.packets, counts.arrived, counts.walked), (5, 5, 5));
+        group.counts.packet(64);
+        let counts = &group.counts;
+        assert_eq!((counts.arrived, counts.walked), (69, 5 + 4096));
     }
 
     /// 0's save reaches 1 alone, and 0 is struck off.

@@ -202,6 +202,7 @@ impl Morning {
             settled,
             last_change: self.group.last_change,
             ticks: self.group.now,
+            missed: self.huts.into_iter().flat_map(|h| h.missed).collect(),
         }
     }
 

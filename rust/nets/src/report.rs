@@ -37,6 +37,8 @@ pub struct Report {
     pub(crate) settled: Settled,
     pub(crate) last_change: Tick,
     pub(crate) ticks: Tick,
+    /// How long each view was missing after its laptop had heard of it.
+    pub(crate) missed: Vec<Tick>,
 }
 
 impl Report {
@@ -103,6 +105,20 @@ impl Report {
     /// later one's laptop was struck off.
     pub fn given_up(&self) -> u64 {
         self.events.given_up
+    }
+
+    /// Entries of packets that were looked at to take the messages out that came:
+    /// each once to accept its packet and once to be taken. And how many it would
+    /// be, if at each message the whole packet were looked at.
+    pub fn entries(&self) -> [u64; 2] {
+        [2 * self.events.arrived, self.events.walked]
+    }
+
+    /// How often a laptop heard of a view by a message's epoch before the warden's
+    /// word came, and the longest time between the two.
+    pub fn views_missed(&self) -> (usize, u32) {
+        let longest = self.missed.iter().max().copied();
+        (self.missed.len(), longest.unwrap_or(0))
     }
 
     /// Bytes that all laptops send an hour, while birds come.
@@ -198,6 +214,11 @@ impl Report {
         });
         let remark = "of the engine, refused ones too, for each save finished or replaced";
         line_of(f, "events a save", &events, remark)?;
+        let [once, each] = self.entries().map(grouped);
+        let packets = grouped(self.events.packets);
+        let remark =
+            format!("in {packets} packets: {once} entries looked at, and {each} without Wish 4");
+        line(f, "messages heard", self.events.arrived, &remark)?;
         line(
             f,
             "refused by 15",
@@ -223,6 +244,13 @@ impl Report {
             self.settled.lost as u64,
             "nobody had heard of them when their laptop died",
         )?;
+        let (views, longest) = self.views_missed();
+        let lead = match views {
+            0 => String::new(),
+            _ => format!("up to {} ", seconds(longest)),
+        };
+        let remark = format!("heard of by a message's epoch {lead}before the warden's word");
+        line(f, "views missed", views as u64, &remark)?;
         self.open(f)?;
         line(
             f,

@@ -31,6 +31,9 @@ fn all_saved(settings: &Settings, report: &Report) {
     assert!(settings.deaths > 0 || given_up == 0, "{settings:?}");
     // Finished or replaced, unless a laptop was struck off.
     assert!(settings.deaths > 0 || ends[2] == 0, "{settings:?}");
+    // A view is missed only where one is issued.
+    let (missed, _) = report.views_missed();
+    assert!(settings.deaths > 0 || missed == 0, "{settings:?}");
     // The last acknowledgement settles the record. Only after a view is a
     // validation asked for.
     let [_, own] = report.validations();
@@ -48,6 +51,8 @@ fn the_default_morning() {
     assert!(report.replays() > 0, "nothing was replayed");
     assert_eq!(report.given_up(), 1, "the save of record 740");
     assert_eq!(report.unsettled(), [119, 1734, 28], "ten laptops");
+    assert_eq!(report.views_missed(), (5, 300), "3 and 6, for so long");
+    assert_eq!(report.entries(), [177_604, 274_712]);
     for refusal in [
         Refusal::NotReadable,
         Refusal::OtherEpoch,

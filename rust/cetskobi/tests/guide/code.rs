@@ -13,6 +13,8 @@ struct Hut {
     /// What goes into the next packet, and to whom.
     messages: Vec<Leaving<'static>>,
     to: u16,
+    /// The greatest epoch of a message that came.
+    heard: u32,
 }
 
 /// What became of a save.
@@ -27,7 +29,7 @@ enum Fate {
 impl Hut {
     fn begin(number: u8, view: u16, count: usize, radio: Radio) -> Result<Hut, Refusal> {
         let laptop = Laptop::start(number, view, count)?;
-        Ok(Hut { laptop, radio, clocks: vec![(0, 0); count], messages: Vec::new(), to: 0 })
+        Ok(Hut { laptop, radio, clocks: vec![(0, 0); count], messages: Vec::new(), to: 0, heard: 0 })
     }
 
     /// Sends what waits for it, as one packet.
@@ -90,9 +92,12 @@ impl Hut {
         }
     }
 
+    /// All messages of a packet, in one pass.
     fn packet_came(&mut self, bytes: &[u8]) -> Result<(), Refusal> {
-        for m in packet::messages(bytes)? {
-            let Ok(reply) = self.laptop.deliver(m) else { continue };
+        let mut messages = packet::messages(bytes)?;
+        while let Some(arrival) = self.laptop.deliver_next(&mut messages) {
+            self.heard = self.heard.max(arrival.epoch()); // told of a refused message too
+            let Ok(reply) = arrival.reply() else { continue };
             let Some(left) = reply.leaving().map(Leaving::into_owned) else { continue };
             match left.envelope().message {
                 // That was the last ACK: the record is valid, and all others are told.
@@ -102,6 +107,11 @@ impl Hut {
         }
         self.send();
         Ok(())
+    }
+
+    /// Asked after every packet: the epoch of a view that was issued and did not come here. Ask the warden for it.
+    fn missed_view(&self) -> Option<u32> {
+        (self.heard > self.laptop.epoch()).then_some(self.heard)
     }
 
     /// Tries what may move a record on from here.
