@@ -6,7 +6,7 @@ use std::process::ExitCode;
 use std::time::Instant;
 
 use compare::group::{self, by_hand, by_packet};
-use compare::packet::{deliver, fetch, pack};
+use compare::packet::{accept, arrive, deliver, facts, fetch, pack};
 use compare::settings::Settings;
 use compare::shrink::Found;
 use compare::{leaving, script, settling, single};
@@ -14,7 +14,7 @@ use compare::{leaving, script, settling, single};
 /// Runs a part of the comparison, and shows what it counted.
 type Part = fn(&Settings) -> Result<String, String>;
 
-const PARTS: [(&str, Part); 9] = [
+const PARTS: [(&str, Part); 12] = [
     ("single", |settings| {
         shown(
             single::compare(settings, single::by_model),
@@ -27,6 +27,12 @@ const PARTS: [(&str, Part); 9] = [
     ("group-by-packet", |settings| {
         shown(
             group::compare(settings, by_packet, single::on_table),
+            listed,
+        )
+    }),
+    ("group-in-one-pass", |settings| {
+        shown(
+            group::compare_in_packets(settings, single::on_table),
             listed,
         )
     }),
@@ -65,6 +71,27 @@ const PARTS: [(&str, Part); 9] = [
             )
         })
     }),
+    ("accept", |settings| {
+        shown(accept::compare(settings, accept::BY_MODEL), |tally| {
+            format!(
+                "packets {}\nmessages {}\nwith foreign facts {}, {} of them entries that 22 was not asked of",
+                answers(&tally.packets),
+                answers(&tally.own),
+                cases(&tally.foreign),
+                tally.unasked
+            )
+        })
+    }),
+    ("arrive", |settings| {
+        shown(arrive::compare(settings, arrive::by_model), |tally| {
+            format!(
+                "{}\nwith foreign facts {}, their entries {}",
+                answers(&tally.own),
+                cases(&tally.foreign),
+                answers(&tally.entries)
+            )
+        })
+    }),
     ("script", |settings| {
         shown(script::compare(settings, script::by_model), |tally| {
             format!(
@@ -100,6 +127,13 @@ fn listed(tally: &group::Tally) -> String {
 fn answers(counts: &[u64]) -> String {
     let counts = counts.iter().enumerate().filter(|(_, &times)| times > 0);
     let counts = counts.map(|(answer, times)| format!("{answer}:{times}"));
+    counts.collect::<Vec<_>>().join(" ")
+}
+
+/// What the header says with foreign facts.
+fn cases(counts: &[u64; 5]) -> String {
+    let counts = facts::Told::ALL.iter().zip(counts);
+    let counts = counts.map(|(told, times)| format!("{told:?}:{times}"));
     counts.collect::<Vec<_>>().join(" ")
 }
 

@@ -2,7 +2,7 @@
 
 use std::ptr::{null, null_mut};
 
-use cetskobi::sys::{self, Answer, Message, Replica, GONE};
+use cetskobi::sys::{self, Accepted, Answer, Message, Replica, GONE};
 
 const ME: Replica = Replica {
     number: 0,
@@ -42,8 +42,12 @@ fn no_memory() {
         assert_eq!(sys::cetskobi_resend(ME, t, 0, s, 0, 0).number, 2);
         let delivered = sys::cetskobi_deliver(ME, t, 0, s, 0, 0, INV, null(), 0);
         assert_eq!(delivered.number, 2);
-        let delivered = sys::cetskobi_deliver_packet(ME, t, 0, s, 0, PACKET.as_ptr(), 20, 0);
+        let packet = PACKET.as_ptr();
+        let delivered = sys::cetskobi_deliver_packet(ME, t, 0, s, 0, packet, 20, 0);
         assert_eq!(delivered.number, 2);
+        let all = sys::cetskobi_accept(packet, 20);
+        let arrival = sys::cetskobi_deliver_accepted(ME, t, 0, s, 0, packet, 20, all, 0);
+        assert_eq!((arrival.answer.number, arrival.sender), (2, 1));
         for kind in 0..5 {
             let len = if kind == 1 { GONE } else { 0 };
             assert_eq!(sys::cetskobi_body(t, 0, s, 0, 0, sent(kind, 0, 0)), len);
@@ -94,6 +98,16 @@ fn no_packet_no_script() {
         let (t, s) = (null_mut(), null_mut());
         let delivered = sys::cetskobi_deliver_packet(ME, t, 0, s, 0, null(), 0, 0);
         assert_eq!(delivered.number, 20);
+        let all = sys::cetskobi_accept(null(), 0);
+        assert_eq!((all.number, all.count), (20, 0));
+        // With its own facts, and with others.
+        for (number, count, answer) in [(20, 0, 20), (0, 0, 23), (0, 1, 21), (9, 255, 21)] {
+            let all = Accepted { number, count };
+            let fetched = sys::cetskobi_fetch_accepted(null(), 0, all, 0);
+            assert_eq!((fetched.number, fetched.at, fetched.len), (answer, 0, 0));
+            let arrival = sys::cetskobi_deliver_accepted(ME, t, 0, s, 0, null(), 0, all, 0);
+            assert_eq!((arrival.answer.number, arrival.index), (answer, 0));
+        }
         let packed = sys::cetskobi_pack(null(), 0, null(), 0, null_mut(), 0);
         assert_eq!(packed.number, 24);
         let played = sys::cetskobi_play(null(), 0, out.as_mut_ptr(), 2);

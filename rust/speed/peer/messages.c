@@ -42,7 +42,7 @@ static inline struct cetskobi_answer take_val(record *r, struct cetskobi_message
     return sent(CETSKOBI_NONE, 0, 0);
 }
 
-/* Inlined in both callers: a call more would pass all of this through memory. */
+/* Inlined in its callers: a call more would pass all of this through memory. */
 __attribute__((always_inline))
 static inline struct cetskobi_answer deliver(struct cetskobi_replica me, uint8_t *table, size_t table_len, uint8_t *store,
                                              size_t store_len, size_t i, struct cetskobi_message m, const uint8_t *value, size_t value_len)
@@ -131,12 +131,14 @@ static inline uint8_t ask_packet(const uint8_t *packet, size_t packet_len, size_
     return i < count ? 0 : CETSKOBI_REFUSED_PACKET_INDEX;
 }
 
-struct cetskobi_fetched peer_fetch(const uint8_t *packet, size_t packet_len, size_t i)
+/* The entry of message i, which is there, with its bytes. */
+static inline const uint8_t *entry_at(const uint8_t *packet, size_t i)
 {
-    uint8_t no = ask_packet(packet, packet_len, i);
-    if (no)
-        return (struct cetskobi_fetched){.number = no};
-    const uint8_t *e = packet + HEAD_BYTES + CONTENTS_BYTES * i;
+    return packet + HEAD_BYTES + CONTENTS_BYTES * i;
+}
+
+static inline struct cetskobi_fetched fetched(const uint8_t *e)
+{
     return (struct cetskobi_fetched){
         .kind = e[0],
         .sender = e[1],
@@ -149,16 +151,80 @@ struct cetskobi_fetched peer_fetch(const uint8_t *packet, size_t packet_len, siz
     };
 }
 
+static inline struct cetskobi_message message_of(const uint8_t *e)
+{
+    return (struct cetskobi_message){.kind = e[0], .sender = e[1], .tie = e[12], .epoch = load4(e + 2), .version = load4(e + 8)};
+}
+
+struct cetskobi_fetched peer_fetch(const uint8_t *packet, size_t packet_len, size_t i)
+{
+    uint8_t no = ask_packet(packet, packet_len, i);
+    if (no)
+        return (struct cetskobi_fetched){.number = no};
+    return fetched(entry_at(packet, i));
+}
+
 struct cetskobi_answer peer_deliver_packet(struct cetskobi_replica me, uint8_t *table, size_t table_len, uint8_t *store, size_t store_len,
                                            const uint8_t *packet, size_t packet_len, size_t i)
 {
     uint8_t no = ask_packet(packet, packet_len, i);
     if (no)
         return refused(no);
-    const uint8_t *e = packet + HEAD_BYTES + CONTENTS_BYTES * i;
-    struct cetskobi_message m = {.kind = e[0], .sender = e[1], .tie = e[12], .epoch = load4(e + 2), .version = load4(e + 8)};
+    const uint8_t *e = entry_at(packet, i);
+    struct cetskobi_message m = message_of(e);
     return deliver(me, table, table_len, store, store_len, load2(e + 6), m, packet + load2(e + 13), e[15]);
 }
+
+/* ---- packets in one pass */
+
+struct cetskobi_accepted peer_accept(const uint8_t *packet, size_t packet_len)
+{
+    /* Every packet has a message 0: 23 is not answered. */
+    uint8_t no = ask_packet(packet, packet_len, 0);
+    if (no)
+        return (struct cetskobi_accepted){.number = no};
+    return (struct cetskobi_accepted){.count = packet[1]};
+}
+
+/* What is asked of message i once its packet is accepted. The facts may be of other bytes: entry and body are to lie within these. */
+static inline uint8_t ask_accepted(const uint8_t *packet, size_t packet_len, struct cetskobi_accepted accepted, size_t i)
+{
+    if (i >= accepted.count)
+        return accepted.number ? accepted.number : CETSKOBI_REFUSED_PACKET_INDEX;
+    if (HEAD_BYTES + CONTENTS_BYTES * (i + 1) > packet_len)
+        return CETSKOBI_REFUSED_PACKET_CONTENTS;
+    const uint8_t *e = entry_at(packet, i);
+    size_t at = load2(e + 13), len = e[15];
+    return at + len <= packet_len ? 0 : CETSKOBI_REFUSED_PACKET_ENTRY;
+}
+
+struct cetskobi_fetched peer_fetch_accepted(const uint8_t *packet, size_t packet_len, struct cetskobi_accepted accepted, size_t i)
+{
+    uint8_t no = ask_accepted(packet, packet_len, accepted, i);
+    if (no)
+        return (struct cetskobi_fetched){.number = no};
+    return fetched(entry_at(packet, i));
+}
+
+struct cetskobi_arrival peer_deliver_accepted(struct cetskobi_replica me, uint8_t *table, size_t table_len, uint8_t *store,
+                                              size_t store_len, const uint8_t *packet, size_t packet_len,
+                                              struct cetskobi_accepted accepted, size_t i)
+{
+    uint8_t no = ask_accepted(packet, packet_len, accepted, i);
+    if (no)
+        return (struct cetskobi_arrival){.answer = refused(no)};
+    const uint8_t *e = entry_at(packet, i);
+    struct cetskobi_message m = message_of(e);
+    size_t index = load2(e + 6);
+    return (struct cetskobi_arrival){
+        .answer = deliver(me, table, table_len, store, store_len, index, m, packet + load2(e + 13), e[15]),
+        .epoch = m.epoch,
+        .sender = m.sender,
+        .index = index,
+    };
+}
+
+/* ---- writing packets */
 
 /* Question 24 of a message's fields. */
 static inline bool good_message(const struct cetskobi_entry *e)

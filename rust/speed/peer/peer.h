@@ -33,4 +33,11 @@ struct cetskobi_written peer_pack(const uint32_t *messages, size_t messages_len,
 struct cetskobi_answer peer_deliver_packet(struct cetskobi_replica me, uint8_t *table, size_t table_len, uint8_t *store, size_t store_len,
                                            const uint8_t *packet, size_t packet_len, size_t i);
 
+/* A packet in one pass. The facts may be those of other bytes, or none of any: the header says what is answered then. */
+struct cetskobi_accepted peer_accept(const uint8_t *packet, size_t packet_len);
+struct cetskobi_fetched peer_fetch_accepted(const uint8_t *packet, size_t packet_len, struct cetskobi_accepted accepted, size_t i);
+struct cetskobi_arrival peer_deliver_accepted(struct cetskobi_replica me, uint8_t *table, size_t table_len, uint8_t *store,
+                                              size_t store_len, const uint8_t *packet, size_t packet_len,
+                                              struct cetskobi_accepted accepted, size_t i);
+
 #endif

@@ -2,7 +2,7 @@
 
 use std::array::from_fn;
 
-use cetskobi::sys::{self, Admission, Answer, Message, Reading, Replica, Written};
+use cetskobi::sys::{self, Admission, Answer, Arrival, Message, Reading, Replica, Written};
 use cetskobi::Record;
 
 use crate::side::{Answers, Told};
@@ -51,6 +51,12 @@ impl Answers for Answer {
     fn told(&self) -> Told {
         let sent = [self.kind.into(), self.tie.into(), self.version as usize];
         (self.number, sent)
+    }
+}
+
+impl Answers for Arrival {
+    fn told(&self) -> Told {
+        self.answer.told()
     }
 }
 

@@ -8,7 +8,8 @@ pub mod pointers;
 macro_rules! over_slices {
     ($side:ident) => {
         use crate::pointers::$side as side;
-        use cetskobi::sys::{Admission, Answer, Fetched, Message, Reading, Replica, Written};
+        use cetskobi::sys::{Accepted, Admission, Answer, Arrival, Fetched, Message, Reading};
+        use cetskobi::sys::{Replica, Written};
 
         // SAFETY, for each call: every pointer and length come from one slice, and what
         // is written is borrowed mutably, so it overlaps nothing else that is passed.
@@ -105,6 +106,30 @@ macro_rules! over_slices {
         ) -> Answer {
             let (t, s, p) = (table.as_mut_ptr(), store.as_mut_ptr(), packet.as_ptr());
             unsafe { side::deliver_packet(me, t, table.len(), s, store.len(), p, packet.len(), i) }
+        }
+
+        #[inline(always)]
+        pub fn accept(packet: &[u8]) -> Accepted {
+            unsafe { side::accept(packet.as_ptr(), packet.len()) }
+        }
+
+        #[inline(always)]
+        pub fn fetch_accepted(packet: &[u8], accepted: Accepted, i: usize) -> Fetched {
+            unsafe { side::fetch_accepted(packet.as_ptr(), packet.len(), accepted, i) }
+        }
+
+        #[inline(always)]
+        pub fn deliver_accepted(
+            me: Replica,
+            table: &mut [u8],
+            store: &mut [u8],
+            packet: &[u8],
+            accepted: Accepted,
+            i: usize,
+        ) -> Arrival {
+            let (t, s, p) = (table.as_mut_ptr(), store.as_mut_ptr(), packet.as_ptr());
+            let (t_len, s_len, p_len) = (table.len(), store.len(), packet.len());
+            unsafe { side::deliver_accepted(me, t, t_len, s, s_len, p, p_len, accepted, i) }
         }
     };
 }

@@ -10,6 +10,9 @@ use crate::lent::{self, both, Lent};
 use crate::plain::{self, Plain};
 use crate::side::{About, On};
 
+/// The bytes of a packet.
+type Packet = Vec<u8>;
+
 /// Messages that go into a packet, for both sides.
 #[derive(Clone)]
 struct Parcel {
@@ -44,7 +47,7 @@ impl Parcel {
         parcel
     }
 
-    fn packet(&self) -> Vec<u8> {
+    fn packet(&self) -> Packet {
         let mut out = vec![0; 1400];
         let total = model::packet::write(&self.entries, &self.bodies, &mut out);
         out.truncate(total.expect("a packet"));
@@ -52,41 +55,17 @@ impl Parcel {
     }
 }
 
+/// The messages of a full packet.
+const MOST: usize = 64;
+
 /// A full packet: 64 messages and 1,400 bytes.
 fn full(records: usize) -> Parcel {
-    let lens: [usize; 64] = std::array::from_fn(|k| if k < 52 { 6 } else { 5 });
+    let lens: [usize; MOST] = std::array::from_fn(|k| if k < 52 { 6 } else { 5 });
     Parcel::new(records, &lens)
 }
 
 pub fn all(n: usize, visit: &mut impl Visit) {
-    let packet = full(64).packet();
-    assert_eq!(packet.len(), 1400);
-    visit.case(
-        other(
-            "fetch-64",
-            "fetch of each of the 64 messages of a full packet",
-            n,
-            number(64),
-        ),
-        both!(by => On {
-            lent: packet.clone(),
-            prepare: |_: &mut _, _| (),
-            call: |packet: &mut Vec<u8>, _| {
-                (0..64)
-                    .filter(|&k| black_box(by::fetch(packet, k)).number == 0)
-                    .count()
-            },
-        }),
-        || On {
-            lent: packet.clone(),
-            prepare: |_: &mut _, _| (),
-            call: |packet: &mut Vec<u8>, _| {
-                (0..64)
-                    .filter(|&k| black_box(model::packet::fetch(packet, k)).is_ok())
-                    .count()
-            },
-        },
-    );
+    fetch(n, visit);
     pack(
         other(
             "pack-64",
@@ -114,10 +93,73 @@ pub fn all(n: usize, visit: &mut impl Visit) {
         &[full(n)],
         visit,
     );
-    let title = "delivery from a packet of one message, 32 bytes";
+    deliver_full(n, visit);
     let single = |k: usize| Parcel::new((n + k + 1).saturating_sub(64).max(1), &[TEXT.len()]);
     let singles: Vec<Parcel> = (0..64).map(single).collect();
+    let title = "delivery from a packet of one message, 32 bytes";
     deliver(event("packet-1", title, n, sent(2, 8, 5)), &singles, visit);
+    let title = "delivery from a packet of one message in one pass, 32 bytes";
+    let pass = event("packet-1-pass", title, n, sent(2, 8, 5));
+    deliver_single(pass, &singles, visit);
+}
+
+/// Every message of a full packet, each by a fetch of its own and all in one pass.
+fn fetch(n: usize, visit: &mut impl Visit) {
+    let packet = full(MOST).packet();
+    assert_eq!(packet.len(), 1400);
+    visit.case(
+        other(
+            "fetch-64",
+            "fetch of each of the 64 messages of a full packet",
+            n,
+            number(MOST),
+        ),
+        both!(by => On {
+            lent: packet.clone(),
+            prepare: |_: &mut _, _| (),
+            call: |packet: &mut Packet, _| {
+                (0..MOST)
+                    .filter(|&k| black_box(by::fetch(packet, k)).number == 0)
+                    .count()
+            },
+        }),
+        || On {
+            lent: packet.clone(),
+            prepare: |_: &mut _, _| (),
+            call: |packet: &mut Packet, _| {
+                (0..MOST)
+                    .filter(|&k| black_box(model::packet::fetch(packet, k)).is_ok())
+                    .count()
+            },
+        },
+    );
+    visit.case(
+        other(
+            "fetch-pass",
+            "all 64 messages of a full packet in one pass",
+            n,
+            number(MOST),
+        ),
+        both!(by => On {
+            lent: packet.clone(),
+            prepare: |_: &mut _, _| (),
+            call: |packet: &mut Packet, _| {
+                let all = by::accept(packet);
+                (0..usize::from(all.count))
+                    .filter(|&k| black_box(by::fetch_accepted(packet, all, k)).number == 0)
+                    .count()
+            },
+        }),
+        || On {
+            lent: packet.clone(),
+            prepare: |_: &mut _, _| (),
+            call: |packet: &mut Packet, _| {
+                let all = model::packet::accept(packet)?;
+                let taken = |&k: &usize| black_box(all.message(k)).is_ok();
+                Ok((0..all.count()).filter(taken).count())
+            },
+        },
+    );
 }
 
 fn pack(about: About, parcel: Parcel, visit: &mut impl Visit) {
@@ -141,13 +183,13 @@ fn pack(about: About, parcel: Parcel, visit: &mut impl Visit) {
 }
 
 /// Packets, and for each of 64 calls its packet and its message there.
-type Post = (Vec<Vec<u8>>, Vec<(usize, usize)>);
+type Post = (Vec<Packet>, Vec<(usize, usize)>);
 
 /// Packets with 64 messages in all: the last is delivered to the last record, and so on back.
 fn deliver(about: About, parcels: &[Parcel], visit: &mut impl Visit) {
     let n = about.records;
     let count = 64 / parcels.len();
-    let packets: Vec<Vec<u8>> = parcels.iter().map(Parcel::packet).collect();
+    let packets: Vec<Packet> = parcels.iter().map(Parcel::packet).collect();
     let post: Post = (packets, (0..64).map(|k| (k / count, k % count)).collect());
     visit.case(
         about,
@@ -167,6 +209,110 @@ fn deliver(about: About, parcels: &[Parcel], visit: &mut impl Visit) {
                 let (p, k) = m.input.1[i + 64 - n];
                 let packet = m.input.0[p].as_slice();
                 model::packet::deliver(&m.replica, &mut m.table, &mut m.store, packet, k)
+            },
+        },
+    );
+}
+
+/// The same packets of one message, each accepted and then delivered.
+fn deliver_single(about: About, parcels: &[Parcel], visit: &mut impl Visit) {
+    let n = about.records;
+    let packets: Vec<Packet> = parcels.iter().map(Parcel::packet).collect();
+    visit.case(
+        about,
+        both!(by => On {
+            lent: Lent::new(ME, n, VALID, packets.clone()),
+            prepare: |e: &mut Lent<Vec<Packet>>, i| e.set(i, VALID),
+            call: move |e: &mut Lent<Vec<Packet>>, i: usize| {
+                let packet = e.input[i + 64 - n].as_slice();
+                let all = by::accept(packet);
+                by::deliver_accepted(e.me, &mut e.table, &mut e.store, packet, all, 0)
+            },
+        }),
+        || On {
+            lent: Plain::new(ME, n, VALID, packets.clone()),
+            prepare: |m: &mut Plain<_>, i| m.table[i] = plain::record(VALID),
+            call: move |m: &mut Plain<Vec<Packet>>, i: usize| {
+                let packet = m.input[i + 64 - n].as_slice();
+                let all = model::packet::accept(packet)?;
+                all.deliver(&m.replica, &mut m.table, &mut m.store, 0)
+            },
+        },
+    );
+}
+
+/// All messages of a full packet, each by a delivery of its own and all in one pass. One call
+/// is a whole packet, about 64 records that no other call has: they are prepared together. So
+/// the table has 64 records for each call, of which there are at most 64.
+fn deliver_full(n: usize, visit: &mut impl Visit) {
+    let each = event(
+        "packet-each",
+        "delivery of each of the 64 messages of a full packet",
+        n,
+        number(MOST),
+    );
+    let pass = event(
+        "packet-pass",
+        "delivery of all 64 messages of a full packet in one pass",
+        n,
+        number(MOST),
+    );
+    let (from, records) = (each.from, MOST * (n - each.from));
+    let packets: Vec<Packet> = (from..n)
+        .map(|i| full(MOST * (i - from + 1)).packet())
+        .collect();
+    let own = move |i: usize| MOST * (i - from)..MOST * (i - from + 1);
+    let prepare = move |e: &mut Lent<Vec<Packet>>, i| own(i).for_each(|k| e.set(k, VALID));
+    let prepare_plain =
+        move |m: &mut Plain<Vec<Packet>>, i| m.table[own(i)].fill(plain::record(VALID));
+    visit.case(
+        each,
+        both!(by => On {
+            lent: Lent::new(ME, records, VALID, packets.clone()),
+            prepare,
+            call: move |e: &mut Lent<Vec<Packet>>, i: usize| {
+                let Lent { me, table, store, input } = e;
+                let packet = input[i - from].as_slice();
+                let mut deliver = |k| by::deliver_packet(*me, table, store, packet, k);
+                (0..MOST)
+                    .filter(|&k| black_box(deliver(k)).number == 0)
+                    .count()
+            },
+        }),
+        || On {
+            lent: Plain::new(ME, records, VALID, packets.clone()),
+            prepare: prepare_plain,
+            call: move |m: &mut Plain<Vec<Packet>>, i: usize| {
+                let packet = m.input[i - from].as_slice();
+                let mut deliver =
+                    |k| model::packet::deliver(&m.replica, &mut m.table, &mut m.store, packet, k);
+                (0..MOST).filter(|&k| black_box(deliver(k)).is_ok()).count()
+            },
+        },
+    );
+    visit.case(
+        pass,
+        both!(by => On {
+            lent: Lent::new(ME, records, VALID, packets.clone()),
+            prepare,
+            call: move |e: &mut Lent<Vec<Packet>>, i: usize| {
+                let Lent { me, table, store, input } = e;
+                let packet = input[i - from].as_slice();
+                let all = by::accept(packet);
+                let mut deliver = |k| by::deliver_accepted(*me, table, store, packet, all, k);
+                (0..usize::from(all.count))
+                    .filter(|&k| black_box(deliver(k)).answer.number == 0)
+                    .count()
+            },
+        }),
+        || On {
+            lent: Plain::new(ME, records, VALID, packets.clone()),
+            prepare: prepare_plain,
+            call: move |m: &mut Plain<Vec<Packet>>, i: usize| {
+                let all = model::packet::accept(&m.input[i - from])?;
+                let mut deliver = |k| all.deliver(&m.replica, &mut m.table, &mut m.store, k);
+                let taken = |&k: &usize| matches!(black_box(deliver(k)), Ok((_, Ok(_))));
+                Ok((0..all.count()).filter(taken).count())
             },
         },
     );

@@ -79,6 +79,15 @@ impl Answers for engine::Answer {
     }
 }
 
+impl Answers for Result<(Envelope, engine::Answer), Refusal> {
+    fn told(&self) -> Told {
+        match self {
+            Ok((_, answer)) => answer.told(),
+            Err(refusal) => (refusal.number(), [0; 3]),
+        }
+    }
+}
+
 impl Answers for Result<usize, Refusal> {
     fn told(&self) -> Told {
         let len = self.unwrap_or(0);

@@ -8,8 +8,9 @@ pub const GONE: usize = usize::MAX;
 /// include/cetskobi.h, in the archive.
 pub mod engine {
     pub use cetskobi::sys::{
-        cetskobi_body as body, cetskobi_deliver as deliver,
-        cetskobi_deliver_packet as deliver_packet, cetskobi_fetch as fetch, cetskobi_pack as pack,
+        cetskobi_accept as accept, cetskobi_body as body, cetskobi_deliver as deliver,
+        cetskobi_deliver_accepted as deliver_accepted, cetskobi_deliver_packet as deliver_packet,
+        cetskobi_fetch as fetch, cetskobi_fetch_accepted as fetch_accepted, cetskobi_pack as pack,
         cetskobi_read as read, cetskobi_recipients as recipients, cetskobi_replay as replay,
         cetskobi_resend as resend, cetskobi_start as start, cetskobi_validate as validate,
         cetskobi_view as view, cetskobi_write as write,
@@ -19,7 +20,7 @@ pub mod engine {
 /// peer/peer.h, compiled by build.rs.
 #[rustfmt::skip]
 pub mod peer {
-    use cetskobi::sys::{Admission, Answer, Fetched, Message, Reading, Replica, Written};
+    use cetskobi::sys::{Accepted, Admission, Answer, Arrival, Fetched, Message, Reading, Replica, Written};
 
     unsafe extern "C" {
         #[link_name = "peer_start"]
@@ -48,5 +49,11 @@ pub mod peer {
         pub fn pack(messages: *const u32, messages_len: usize, bodies: *const u8, bodies_len: usize, out: *mut u8, out_len: usize) -> Written;
         #[link_name = "peer_deliver_packet"]
         pub fn deliver_packet(me: Replica, table: *mut u8, table_len: usize, store: *mut u8, store_len: usize, packet: *const u8, packet_len: usize, i: usize) -> Answer;
+        #[link_name = "peer_accept"]
+        pub fn accept(packet: *const u8, packet_len: usize) -> Accepted;
+        #[link_name = "peer_fetch_accepted"]
+        pub fn fetch_accepted(packet: *const u8, packet_len: usize, accepted: Accepted, i: usize) -> Fetched;
+        #[link_name = "peer_deliver_accepted"]
+        pub fn deliver_accepted(me: Replica, table: *mut u8, table_len: usize, store: *mut u8, store_len: usize, packet: *const u8, packet_len: usize, accepted: Accepted, i: usize) -> Arrival;
     }
 }

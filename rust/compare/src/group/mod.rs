@@ -34,11 +34,29 @@ pub fn compare(
     carry: Carry,
     other: OnTable,
 ) -> Result<Tally, Box<Found<Run>>> {
+    compare_runs(settings, carry, other, false)
+}
+
+/// The same, but some messages come several at once, in packets that are accepted
+/// once; the others come out of packets of their own.
+pub fn compare_in_packets(settings: &Settings, other: OnTable) -> Result<Tally, Box<Found<Run>>> {
+    compare_runs(settings, by_packet, other, true)
+}
+
+fn compare_runs(
+    settings: &Settings,
+    carry: Carry,
+    other: OnTable,
+    packets: bool,
+) -> Result<Tally, Box<Found<Run>>> {
     let mut rng = settings.rng("group");
     let mut tally = Tally::new();
     for (records, entries, runs) in SIZES {
         for _ in 0..runs * settings.times {
             let (mut run, mut schedule) = Schedule::start(&mut rng, records);
+            if packets {
+                schedule.in_packets();
+            }
             let mut play = |run: &mut Run| {
                 let mut group = Group::start(run, carry, other)?;
                 for id in 0..entries {

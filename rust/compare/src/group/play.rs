@@ -1,11 +1,12 @@
 use std::collections::BTreeMap;
 
-use cetskobi::raw::{self, Answer, Message, Replica};
+use cetskobi::raw::{self, Accepted, Answer, Message, Replica};
 use model::engine::{bit, has, Record, State};
 
 use super::member::Member;
 use super::{Entry, Run, Tally, What};
 use crate::bytes::Bytes;
+use crate::packet::EntryWords;
 use crate::single::{by_engine, Case, Event, Kind, Outcome};
 
 /// A message that left, with the bytes it left with, and whom it is for.
@@ -27,21 +28,63 @@ pub fn by_hand(post: &Post, me: Replica, table: &mut [u8], store: &mut [u8]) -> 
 
 /// The delivery out of a packet, where it is the second message.
 pub fn by_packet(post: &Post, me: Replica, table: &mut [u8], store: &mut [u8]) -> Answer {
-    let message = post.message;
     let ack = [2, 0, 0, 0, 0, 0, 0];
-    let entry = [
-        message.kind.into(),
-        message.sender.into(),
-        message.epoch,
-        post.i as u32,
-        message.version,
-        message.tie.into(),
-        post.value.len() as u32,
-    ];
     let mut packet = [0; 1400];
     // Were it refused, no packet would be delivered: the answers would differ.
-    let written = raw::pack(&[ack, entry].concat(), &post.value, &mut packet);
+    let written = raw::pack(&[ack, post.entry()].concat(), &post.value, &mut packet);
     raw::deliver_packet(me, table, store, &packet[..written.len], 1)
+}
+
+impl Post {
+    /// Its words in a packet.
+    fn entry(&self) -> EntryWords {
+        let message = self.message;
+        [
+            message.kind.into(),
+            message.sender.into(),
+            message.epoch,
+            self.i as u32,
+            message.version,
+            message.tie.into(),
+            self.value.len() as u32,
+        ]
+    }
+
+    /// The bytes that it takes in a packet.
+    pub fn size(&self) -> usize {
+        16 + self.value.len()
+    }
+
+    /// Its delivery to this laptop.
+    fn delivery(&self, me: Replica) -> Case {
+        let event = Event::Deliver {
+            message: self.message,
+            value: self.value.clone(),
+        };
+        Case::on(me, self.i, event)
+    }
+}
+
+/// The packet of these, by the engine.
+fn packet_of(posts: &[&Post]) -> Result<Vec<u8>, String> {
+    let words: Vec<EntryWords> = posts.iter().map(|post| post.entry()).collect();
+    let bodies: Vec<&[u8]> = posts.iter().map(|post| &post.value[..]).collect();
+    let mut packet = vec![0; 1400];
+    let written = raw::pack(words.as_flattened(), &bodies.concat(), &mut packet);
+    if written.number != 0 {
+        return Err(format!("no packet: {written:?}"));
+    }
+    packet.truncate(written.len);
+    Ok(packet)
+}
+
+/// A packet that has come to a laptop, accepted once.
+struct Arrived {
+    at: usize,
+    /// The posts that it was made of, by their ids; some may be none.
+    of: Vec<usize>,
+    packet: Vec<u8>,
+    accepted: Accepted,
 }
 
 /// An event of the model on its own table and store.
@@ -54,6 +97,8 @@ pub struct Group {
     carry: Carry,
     other: OnTable,
     since: usize,
+    /// The packet that the last entry took a message of.
+    arrived: Option<Arrived>,
 }
 
 impl Group {
@@ -66,6 +111,7 @@ impl Group {
             carry,
             other,
             since: 0,
+            arrived: None,
         })
     }
 
@@ -76,10 +122,10 @@ impl Group {
     /// Plays one entry by both, and compares what it can have touched. The
     /// whole memory is compared now and then.
     pub fn play(&mut self, entry: &Entry, tally: &mut Tally) -> Result<(), String> {
-        let Some((case, outcome)) = self.by_engine(entry) else {
+        let at = |what: String| format!("entry {} at {}: {what}", entry.id, entry.at);
+        let Some((case, outcome)) = self.by_engine(entry).map_err(at)? else {
             return Ok(());
         };
-        let at = |what: String| format!("entry {} at {}: {what}", entry.id, entry.at);
         let member = &mut self.members[entry.at];
         let before = member.table.get(case.i).copied();
         let expected = (self.other)(&case, &mut member.table, &mut member.store);
@@ -90,7 +136,16 @@ impl Group {
         member.same(case.i).map_err(at)?;
         let more = before.and_then(|before| given_up(member, &case, before, &outcome));
         let label = label(member, &case, before.map(|record| record.state), &outcome);
-        for label in more.into_iter().chain([label]) {
+        let mut labels = Vec::from_iter(more);
+        if let What::Packet { of, k } = &entry.what {
+            labels.push(format!("one pass: {label}"));
+            if *k == 0 {
+                let many = ["fewer than 8", "8 or more"][usize::from(of.len() >= 8)];
+                labels.push(format!("one pass: of {many}"));
+            }
+        }
+        labels.push(label);
+        for label in labels {
             *tally.entry(label).or_default() += 1;
         }
 
@@ -109,25 +164,68 @@ impl Group {
 
     /// The entry's event, and what the engine did. None for a delivery of
     /// nothing.
-    fn by_engine(&mut self, entry: &Entry) -> Option<(Case, Outcome)> {
-        let member = self.members.get_mut(entry.at)?;
+    fn by_engine(&mut self, entry: &Entry) -> Result<Option<(Case, Outcome)>, String> {
+        let Some(member) = self.members.get_mut(entry.at) else {
+            return Ok(None);
+        };
         let of = match &entry.what {
             What::Own { i, event } => {
                 let case = Case::on(member.me, *i, event.clone());
                 let outcome = by_engine(&case, &mut member.memory);
-                return Some((case, outcome));
+                return Ok(Some((case, outcome)));
             }
             What::Deliver { of } => of,
+            What::Packet { of, k } => return self.in_one_pass(entry.at, of, *k),
         };
-        let post = self.posts.get(of)?;
-        let event = Event::Deliver {
-            message: post.message,
-            value: post.value.clone(),
+        let Some(post) = self.posts.get(of) else {
+            return Ok(None);
         };
-        let case = Case::on(member.me, post.i, event);
+        let case = post.delivery(member.me);
         let (table, store) = member.memory.lend();
         let answer = (self.carry)(post, member.me, table, store);
-        Some((case, Outcome::of(member.me, answer)))
+        Ok(Some((case, Outcome::of(member.me, answer))))
+    }
+
+    /// The post that is the `k`th of these comes to the laptop at this place, in a
+    /// packet of them all. If the entry before took a message of it too, it has been
+    /// accepted then.
+    fn in_one_pass(
+        &mut self,
+        at: usize,
+        of: &[usize],
+        k: usize,
+    ) -> Result<Option<(Case, Outcome)>, String> {
+        let there = |id: &usize| self.posts.get(id);
+        let Some(post) = of.get(k).and_then(there) else {
+            return Ok(None);
+        };
+        let arrived = match self.arrived.take() {
+            Some(arrived) if (arrived.at, &arrived.of[..]) == (at, of) => arrived,
+            _ => {
+                let posts: Vec<&Post> = of.iter().filter_map(there).collect();
+                let packet = packet_of(&posts)?;
+                Arrived {
+                    at,
+                    of: of.to_vec(),
+                    accepted: raw::accept(&packet),
+                    packet,
+                }
+            }
+        };
+        let i = of[..k].iter().filter_map(there).count();
+        let member = &mut self.members[at];
+        let case = post.delivery(member.me);
+        let (table, store) = member.memory.lend();
+        let Arrived {
+            packet, accepted, ..
+        } = &arrived;
+        let arrival = raw::deliver_accepted(member.me, table, store, packet, *accepted, i);
+        let told = (arrival.sender, arrival.epoch, arrival.index);
+        if told != (post.message.sender, post.message.epoch, post.i) {
+            return Err(format!("{post:?} arrives as {arrival:?}"));
+        }
+        self.arrived = Some(arrived);
+        Ok(Some((case, Outcome::of(member.me, arrival.answer))))
     }
 
     /// A message that leaves joins the posts. A validation sets a floor for

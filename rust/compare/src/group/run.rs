@@ -18,6 +18,9 @@ pub enum What {
     Own { i: usize, event: Event },
     /// The message that left the entry of this id; nothing if none did.
     Deliver { of: usize },
+    /// The same for one of these, which come in one packet: entries of the same
+    /// packet, one behind the other, take it in one pass.
+    Packet { of: Vec<usize>, k: usize },
 }
 
 /// A group that has just started fresh, and the list of its entries.
@@ -84,7 +87,15 @@ impl Smaller for Run {
             }
             _ => None,
         });
-        let rest = records.chain(alike).chain(first).chain(plain);
+        // A message by itself in the place of one in a packet.
+        let alone = (0..self.entries.len()).filter_map(|k| match &self.entries[k].what {
+            What::Packet { of, k: place } => {
+                let of = *of.get(*place)?;
+                Some(self.with(|run| run.entries[k].what = What::Deliver { of }))
+            }
+            _ => None,
+        });
+        let rest = records.chain(alike).chain(first).chain(plain).chain(alone);
         Box::new(fewer.chain(rest))
     }
 }

@@ -4,9 +4,10 @@
 use std::collections::VecDeque;
 
 use model::engine::{bit, has};
+use model::packet::{COUNT_LIMIT, PACKET_LIMIT};
 use model::rng::Rng;
 
-use super::{Group, Member, Run, What};
+use super::{Group, Member, Post, Run, What};
 use crate::crossing::Fields;
 use crate::single::{some_bytes, Event};
 
@@ -29,6 +30,8 @@ pub struct Schedule {
     last: Option<usize>,
     /// Entries that were asked for: they come next.
     asked: VecDeque<(usize, What)>,
+    /// Messages come in packets too, several at once.
+    packets: bool,
 }
 
 impl Schedule {
@@ -58,6 +61,7 @@ impl Schedule {
             hot,
             last: None,
             asked: VecDeque::new(),
+            packets: false,
         };
         let run = Run {
             numbers,
@@ -66,6 +70,12 @@ impl Schedule {
             entries: Vec::new(),
         };
         (run, schedule)
+    }
+
+    /// From now on some messages come several at once, in packets that are accepted
+    /// once.
+    pub fn in_packets(&mut self) {
+        self.packets = true;
     }
 
     /// Asks for an entry. Gives its id.
@@ -269,6 +279,9 @@ impl Schedule {
         };
         let chosen = count - 1 - rng.below(young);
         let (of, at) = self.under_way[chosen];
+        if self.packets && rng.chance(1, 4) {
+            return self.packet(rng, group, at);
+        }
         if rng.chance(9, 10) {
             self.under_way.remove(chosen);
         }
@@ -277,6 +290,37 @@ impl Schedule {
             self.under_way.pop();
         }
         (at, What::Deliver { of })
+    }
+
+    /// What is under way to this laptop, as far as it goes into a packet, and now and
+    /// then what was sent to it lately, once more. Each message is an entry, and they
+    /// come one after another.
+    fn packet(&mut self, rng: &mut Rng, group: &Group, at: usize) -> (usize, What) {
+        let number = group.members[at].me.number;
+        let again = match rng.below(3) {
+            0 => self.id.saturating_sub(30)..self.id,
+            _ => 0..0,
+        };
+        let again = group.posts.range(again);
+        let again = again.filter(|(_, post)| has(post.to, number));
+        let under_way = self.under_way.iter().filter(|&&(_, to)| to == at);
+        let ids = under_way.map(|&(id, _)| id).chain(again.map(|(&id, _)| id));
+
+        let mut of: Vec<usize> = Vec::new();
+        let mut room = PACKET_LIMIT - 4;
+        for id in ids {
+            let size = group.posts.get(&id).map_or(0, Post::size);
+            if size <= room && of.len() < COUNT_LIMIT {
+                room -= size;
+                of.push(id);
+            }
+        }
+        self.under_way
+            .retain(|(id, to)| *to != at || !of.contains(id) || rng.chance(1, 10));
+        for k in 1..of.len() {
+            self.ask(at, What::Packet { of: of.clone(), k });
+        }
+        (at, What::Packet { of, k: 0 })
     }
 }
 

@@ -91,27 +91,12 @@ pub fn compare(settings: &Settings, other: Deliver) -> Result<Tally, Box<Found<C
 
 /// The message of a random delivery among others; sometimes the packet is
 /// damaged, or another message is asked for.
-fn some_delivery(rng: &mut Rng) -> Case {
+pub(super) fn some_delivery(rng: &mut Rng) -> Case {
     loop {
         let lent = some_case(rng);
-        let Event::Deliver { message, value } = &lent.event else {
+        let Some((letters, mut i)) = some_letters_with(rng, &lent) else {
             continue;
         };
-        let letter = Letter {
-            words: [
-                message.kind.into(),
-                message.sender.into(),
-                message.epoch,
-                u32::try_from(lent.i).unwrap_or(u32::MAX),
-                message.version,
-                message.tie.into(),
-                value.len() as u32,
-            ],
-            body: value.to_vec(),
-        };
-        let mut letters: Vec<Letter> = (0..rng.below(6)).map(|_| some_letter(rng, 192)).collect();
-        let mut i = rng.below(letters.len() + 1);
-        letters.insert(i, letter);
         // What no writer makes stands for itself in a damaged packet.
         let Some(mut packet) = packet_of(&letters) else {
             continue;
@@ -125,6 +110,33 @@ fn some_delivery(rng: &mut Rng) -> Case {
         let packet = Bytes(packet);
         return Case { lent, packet, i };
     }
+}
+
+/// The message of this case among others, and its place there; none if the case is
+/// no delivery.
+pub(super) fn some_letters_with(
+    rng: &mut Rng,
+    lent: &single::Case,
+) -> Option<(Vec<Letter>, usize)> {
+    let Event::Deliver { message, value } = &lent.event else {
+        return None;
+    };
+    let letter = Letter {
+        words: [
+            message.kind.into(),
+            message.sender.into(),
+            message.epoch,
+            u32::try_from(lent.i).unwrap_or(u32::MAX),
+            message.version,
+            message.tie.into(),
+            value.len() as u32,
+        ],
+        body: value.to_vec(),
+    };
+    let mut letters: Vec<Letter> = (0..rng.below(6)).map(|_| some_letter(rng, 192)).collect();
+    let i = rng.below(letters.len() + 1);
+    letters.insert(i, letter);
+    Some((letters, i))
 }
 
 impl Case {

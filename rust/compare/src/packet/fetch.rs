@@ -1,8 +1,9 @@
 //! Fetching message i of a packet of any bytes.
 
 use cetskobi::raw::{self, Fetched};
-use model::engine::Refusal;
+use model::engine::{Envelope, Refusal};
 use model::packet;
+use model::rng::Rng;
 
 use super::{damage, packet_of, set_total, some_packet, Letter};
 use crate::bytes::Bytes;
@@ -33,7 +34,12 @@ pub fn by_engine(packet: &[u8], i: usize) -> Fetched {
 }
 
 pub fn by_model(packet: &[u8], i: usize) -> Fetched {
-    match packet::fetch(packet, i) {
+    fetched(packet, packet::fetch(packet, i))
+}
+
+/// What the model gives of this packet, as numbers.
+pub(super) fn fetched(packet: &[u8], got: Result<(Envelope, &[u8]), Refusal>) -> Fetched {
+    match got {
         Ok((envelope, body)) => {
             let (kind, tie, version) = sent_of(Some(envelope.message));
             Fetched {
@@ -48,14 +54,14 @@ pub fn by_model(packet: &[u8], i: usize) -> Fetched {
                 len: body.len(),
             }
         }
-        Err(refusal) => refused(refusal),
+        Err(refusal) => refused(refusal.number()),
     }
 }
 
 /// A refused fetch has no message, and the empty part.
-fn refused(refusal: Refusal) -> Fetched {
+pub(super) fn refused(number: u8) -> Fetched {
     Fetched {
-        number: refusal.number(),
+        number,
         kind: 0,
         sender: 0,
         tie: 0,
@@ -81,38 +87,27 @@ struct Bench {
 type Differs = Result<(), Box<Found<Case>>>;
 
 impl Bench {
-    /// Every message of the packet, made of a whole one, and the places past the last.
-    fn packet(&mut self, packet: &[u8], whole: &[u8]) -> Differs {
-        let count = packet.get(1).map_or(0, |&count| usize::from(count));
-        let within = if by_engine(packet, 0).number == 0 {
-            count
+    /// Messages of the packet, the last, and the places past it.
+    fn packet(&mut self, look: &Look) -> Differs {
+        let packet = look.packet;
+        let count = look.count();
+        if look.all || count <= FEW {
+            let within = if by_engine(packet, 0).number == 0 {
+                count
+            } else {
+                1
+            };
+            for i in 0..within {
+                self.fetch(packet, i)?;
+            }
         } else {
-            1
-        };
-        for i in 0..within {
-            self.fetch(packet, i)?;
+            let turn = self.tally.packets as usize % count;
+            for i in [0, turn, count - 1] {
+                self.fetch(packet, i)?;
+            }
         }
-        self.ends(packet, whole)
-    }
-
-    /// The same, but of a packet of many messages some, each in its turn.
-    fn some_of(&mut self, packet: &[u8], whole: &[u8]) -> Differs {
-        let count = packet.get(1).map_or(0, |&count| usize::from(count));
-        if count <= FEW {
-            return self.packet(packet, whole);
-        }
-        let turn = self.tally.packets as usize % count;
-        for i in [0, turn, count - 1] {
-            self.fetch(packet, i)?;
-        }
-        self.ends(packet, whole)
-    }
-
-    /// The last message, and the places past it.
-    fn ends(&mut self, packet: &[u8], whole: &[u8]) -> Differs {
         self.tally.packets += 1;
-        self.tally.damaged += u64::from(packet != whole);
-        let count = packet.get(1).map_or(0, |&count| usize::from(count));
+        self.tally.damaged += u64::from(packet != look.whole);
         for i in [count.wrapping_sub(1), count, count + 1, usize::MAX] {
             self.fetch(packet, i)?;
         }
@@ -130,62 +125,96 @@ impl Bench {
         let again = |case: &Case| difference(case, self.other);
         Err(Box::new(shrink(Case { packet, i }, what, again)))
     }
-
-    /// Every byte with every value; every length, with and without its total;
-    /// and more bytes behind.
-    fn around(&mut self, whole: &[u8]) -> Differs {
-        self.packet(whole, whole)?;
-        let mut packet = whole.to_vec();
-        for at in 0..whole.len() {
-            for value in 0..=255 {
-                packet[at] = value;
-                self.some_of(&packet, whole)?;
-            }
-            packet[at] = whole[at];
-        }
-        for len in 0..whole.len() {
-            self.packet(&whole[..len], whole)?;
-            let mut packet = whole[..len].to_vec();
-            set_total(&mut packet);
-            self.packet(&packet, whole)?;
-        }
-        for more in 1..40 {
-            let mut packet = whole.to_vec();
-            packet.resize(whole.len() + more, 1);
-            self.packet(&packet, whole)?;
-            set_total(&mut packet);
-            self.packet(&packet, whole)?;
-        }
-        Ok(())
-    }
 }
 
 /// A packet of more messages than this has many.
 const FEW: usize = 8;
 
+pub fn compare(settings: &Settings, other: Fetch) -> Result<Tally, Box<Found<Case>>> {
+    let tally = Tally::default();
+    let mut bench = Bench { other, tally };
+    each_packet(settings, &mut settings.rng("fetch"), |look| {
+        bench.packet(&look)
+    })?;
+    Ok(bench.tally)
+}
+
+/// A packet that is looked at.
+pub(super) struct Look<'a> {
+    pub packet: &'a [u8],
+    /// The packet that it was before it was damaged.
+    pub whole: &'a [u8],
+    /// Every message is to be looked at, else some where there are many.
+    pub all: bool,
+}
+
+impl Look<'_> {
+    /// How many messages it says that it has.
+    pub fn count(&self) -> usize {
+        self.packet.get(1).map_or(0, |&count| usize::from(count))
+    }
+}
+
 /// Random damaged packets of the usual count.
 const DAMAGED: usize = 650_000;
 
-pub fn compare(settings: &Settings, other: Fetch) -> Result<Tally, Box<Found<Case>>> {
-    let mut rng = settings.rng("fetch");
-    let tally = Tally::default();
-    let mut bench = Bench { other, tally };
-    bench.around(&packet_of(&ringing()).expect("the paper's packet"))?;
-    bench.around(&packet_of(&three()).expect("three messages"))?;
-    bench.around(&full())?;
+/// Packets of every kind, whole and damaged.
+pub(super) fn each_packet<E>(
+    settings: &Settings,
+    rng: &mut Rng,
+    mut look: impl FnMut(Look) -> Result<(), E>,
+) -> Result<(), E> {
+    around(
+        &packet_of(&ringing()).expect("the paper's packet"),
+        &mut look,
+    )?;
+    around(&packet_of(&three()).expect("three messages"), &mut look)?;
+    around(&full(), &mut look)?;
     for _ in 0..6 * settings.times {
-        let whole = some_packet(&mut rng);
-        bench.around(&whole[..])?;
+        around(&some_packet(rng), &mut look)?;
     }
     for _ in 0..DAMAGED * settings.times {
-        let whole = some_packet(&mut rng);
+        let whole = some_packet(rng);
         let mut packet = whole.clone();
         for _ in 0..1 + rng.below(3) {
-            damage(&mut rng, &mut packet);
+            damage(rng, &mut packet);
         }
-        bench.packet(&packet, &whole)?;
+        look(Look {
+            packet: &packet,
+            whole: &whole,
+            all: true,
+        })?;
     }
-    Ok(bench.tally)
+    Ok(())
+}
+
+/// Every byte with every value; every length, with and without its total; and
+/// more bytes behind.
+fn around<E>(whole: &[u8], mut look: impl FnMut(Look) -> Result<(), E>) -> Result<(), E> {
+    let mut of = |packet: &[u8], all: bool| look(Look { packet, whole, all });
+    of(whole, true)?;
+    let mut packet = whole.to_vec();
+    for at in 0..whole.len() {
+        for value in 0..=255 {
+            packet[at] = value;
+            of(&packet, false)?;
+        }
+        packet[at] = whole[at];
+    }
+    for len in 0..whole.len() {
+        of(&whole[..len], true)?;
+        let mut packet = whole[..len].to_vec();
+        set_total(&mut packet);
+        of(&packet, true)?;
+    }
+    for more in 1..40 {
+        let mut packet = whole.to_vec();
+        packet.resize(whole.len() + more, 1);
+        of(&packet, true)?;
+        set_total(&mut packet);
+        of(&packet, true)?;
+    }
+    Ok(())
 }
 
 /// 01: ACK of (1,2) for record 7 from 5 at epoch 0.

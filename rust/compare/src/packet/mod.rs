@@ -1,6 +1,9 @@
-//! Packets, whole and damaged: fetching, packing, delivering.
+//! Packets, whole and damaged: fetching, packing, delivering; and in one pass.
 
+pub mod accept;
+pub mod arrive;
 pub mod deliver;
+pub mod facts;
 pub mod fetch;
 pub mod pack;
 mod some;

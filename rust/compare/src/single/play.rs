@@ -1,3 +1,5 @@
+use std::fmt::Debug;
+
 use cetskobi::raw::{self, Admission, Answer, Replica};
 use model::engine::{number, Envelope, Record};
 use model::rng::Rng;
@@ -79,10 +81,7 @@ pub fn by_model(case: &Case, memory: &mut Memory) -> Outcome {
 }
 
 /// Lets the model move the table of this memory.
-pub fn on_memory(
-    memory: &mut Memory,
-    event: impl FnOnce(&mut [Record], &mut [u8]) -> Outcome,
-) -> Outcome {
+pub fn on_memory<O>(memory: &mut Memory, event: impl FnOnce(&mut [Record], &mut [u8]) -> O) -> O {
     let before = table_of(memory.table());
     let mut table = before.clone();
     let outcome = event(&mut table, memory.lend().1);
@@ -197,12 +196,12 @@ impl Bench {
     }
 
     /// The same for any two events on the memory that the case lends.
-    pub fn compare(
+    pub fn compare<O: PartialEq + Debug>(
         &mut self,
         case: &Case,
-        engine: impl FnOnce(&mut Memory) -> Outcome,
-        other: impl FnOnce(&mut Memory) -> Outcome,
-    ) -> Result<Outcome, String> {
+        engine: impl FnOnce(&mut Memory) -> O,
+        other: impl FnOnce(&mut Memory) -> O,
+    ) -> Result<O, String> {
         self.lay(case);
         self.other.clone_from(&self.engine);
         let (a, b) = (engine(&mut self.engine), other(&mut self.other));
@@ -211,7 +210,7 @@ impl Bench {
         }
         match self.engine.difference(&self.other) {
             None => Ok(a),
-            Some(what) => Err(format!("{what} (engine, other), answer {}", a.number)),
+            Some(what) => Err(format!("{what} (engine, other), answer {a:?}")),
         }
     }
 }

@@ -4,7 +4,7 @@
 mod read;
 mod write;
 
-pub use read::{deliver, fetch};
+pub use read::{accept, deliver, fetch, Accepted};
 pub use write::write;
 
 use crate::engine::{Envelope, Record, Replica};

@@ -6,14 +6,8 @@ use crate::engine::{ask, Answer, Envelope, Message, Record, Refusal, Replica, Ti
 /// The whole packet is judged first, the entries behind `index` included. A
 /// refused fetch gives no part; the paper's empty part stands for it.
 pub fn fetch(packet: &[u8], index: usize) -> Result<(Envelope, &[u8]), Refusal> {
-    let count = ask_head(packet)?;
-    let contents_end = HEAD + ENTRY * count;
-    let contents = packet.get(HEAD..contents_end);
-    let contents = contents.ok_or(Refusal::PacketContents)?;
-
-    let mut offset = contents_end;
+    let (entries, mut offset) = ask_contents(packet)?;
     let mut found = None;
-    let (entries, _) = contents.as_chunks();
     for (i, bytes) in entries.iter().enumerate() {
         let entry = decode(bytes, offset).ok_or(Refusal::PacketEntry)?;
         let end = offset + usize::from(entry.len);
@@ -41,6 +35,72 @@ pub fn deliver(
     replica.deliver(table, store, &envelope, body)
 }
 
+/// A packet that questions 20 to 22 let pass. The whole of it was judged once;
+/// each of its messages is then taken in constant time (02, Wish 4).
+#[derive(Clone, Copy, Debug)]
+pub struct Accepted<'a> {
+    packet: &'a [u8],
+    /// The contents table, an entry for each message.
+    entries: &'a [[u8; ENTRY]],
+}
+
+/// Judges the whole packet.
+pub fn accept(packet: &[u8]) -> Result<Accepted<'_>, Refusal> {
+    let (entries, mut offset) = ask_contents(packet)?;
+    for bytes in entries {
+        let entry = decode(bytes, offset).ok_or(Refusal::PacketEntry)?;
+        offset += usize::from(entry.len);
+    }
+    ask(offset == packet.len(), Refusal::PacketEntry)?;
+    Ok(Accepted { packet, entries })
+}
+
+impl<'a> Accepted<'a> {
+    /// How many messages it has: 1 to 64.
+    pub fn count(&self) -> usize {
+        self.entries.len()
+    }
+
+    /// Message `index`, with its body as that part of the packet: what [`fetch`]
+    /// gives of these bytes. Of the questions only 23 is left.
+    #[inline]
+    pub fn message(&self, index: usize) -> Result<(Envelope, &'a [u8]), Refusal> {
+        let bytes = self.entries.get(index).ok_or(Refusal::PacketIndex)?;
+        let timestamp = timestamp_of(bytes);
+        // Question 22 has let no other kind pass.
+        let message = match bytes[0] {
+            1 => Message::Inv(timestamp),
+            2 => Message::Ack(timestamp),
+            _ => Message::Val(timestamp),
+        };
+        let Entry { envelope, len } = entry_of(bytes, message);
+        let offset = offset_of(bytes);
+        // Nor a body that does not lie within the packet.
+        let body = self.packet.get(offset..offset + usize::from(len));
+        Ok((envelope, body.ok_or(Refusal::PacketEntry)?))
+    }
+
+    /// Delivers message `index`: question 23, then those of the delivery. The
+    /// envelope tells which message came, also where its delivery is refused.
+    pub fn deliver(
+        &self,
+        replica: &Replica,
+        table: &mut [Record],
+        store: &mut [u8],
+        index: usize,
+    ) -> Result<(Envelope, Answer), Refusal> {
+        let (envelope, body) = self.message(index)?;
+        Ok((envelope, replica.deliver(table, store, &envelope, body)))
+    }
+}
+
+/// 01, questions 20 and 21. Gives the contents table, and where it ends.
+fn ask_contents(packet: &[u8]) -> Result<(&[[u8; ENTRY]], usize), Refusal> {
+    let end = HEAD + ENTRY * ask_head(packet)?;
+    let contents = packet.get(HEAD..end).ok_or(Refusal::PacketContents)?;
+    Ok((contents.as_chunks().0, end))
+}
+
 /// 01, question 20. Gives the count of messages.
 fn ask_head(packet: &[u8]) -> Result<usize, Refusal> {
     let [format, count, high, low, ..] = *packet else {
@@ -60,24 +120,38 @@ fn ask_head(packet: &[u8]) -> Result<usize, Refusal> {
 
 /// 01, question 22, for one entry whose body would begin at `offset`.
 fn decode(bytes: &[u8; ENTRY], offset: usize) -> Option<Entry> {
-    let [kind, sender, e0, e1, e2, e3, r0, r1, v0, v1, v2, v3, tie, o0, o1, len] = *bytes;
-    let timestamp = Timestamp {
-        version: u32::from_be_bytes([v0, v1, v2, v3]),
-        tie,
-    };
-    let message = match kind {
+    let timestamp = timestamp_of(bytes);
+    let message = match bytes[0] {
         1 => Message::Inv(timestamp),
         2 => Message::Ack(timestamp),
         3 => Message::Val(timestamp),
         _ => return None,
     };
+    let entry = entry_of(bytes, message);
+    (offset_of(bytes) == offset && entry.is_good()).then_some(entry)
+}
+
+// The fields of an entry: kind, sender, epoch (4), record (2), version (4),
+// tie-breaker, body offset (2), body length.
+
+/// The entry of these bytes, whose kind and timestamp make this message.
+fn entry_of(bytes: &[u8; ENTRY], message: Message) -> Entry {
+    let [_, sender, e0, e1, e2, e3, r0, r1, .., len] = *bytes;
     let envelope = Envelope {
         sender,
         epoch: u32::from_be_bytes([e0, e1, e2, e3]),
         record: usize::from(u16::from_be_bytes([r0, r1])),
         message,
     };
-    let entry = Entry { envelope, len };
-    let placed = usize::from(u16::from_be_bytes([o0, o1])) == offset;
-    (placed && entry.is_good()).then_some(entry)
+    Entry { envelope, len }
+}
+
+fn timestamp_of(bytes: &[u8; ENTRY]) -> Timestamp {
+    let [.., v0, v1, v2, v3, tie, _, _, _] = *bytes;
+    Timestamp::new(u32::from_be_bytes([v0, v1, v2, v3]), tie)
+}
+
+fn offset_of(bytes: &[u8; ENTRY]) -> usize {
+    let [.., o0, o1, _] = *bytes;
+    usize::from(u16::from_be_bytes([o0, o1]))
 }

@@ -4,7 +4,7 @@ use model::engine::{number, Envelope, Message, Refusal};
 use model::packet::{self, Entry};
 use model::rng::Rng;
 
-use crate::support::{ack, from, inv, messages_of, packet_of, rng, ts, val, Member};
+use crate::support::{ack, from, in_one_pass, inv, messages_of, packet_of, rng, ts, val, Member};
 
 /// A packet of an INV with the body "B7" and an ACK.
 fn two() -> Vec<u8> {
@@ -17,6 +17,11 @@ fn packets_read() {
         let mut bytes = two();
         change(&mut bytes);
         assert_eq!(number(&packet::fetch(&bytes, index)), no);
+        // 02, Wish 4: the same numbers in the same order, 20 to 22 of the packet
+        // and 23 of the message.
+        let accepted = packet::accept(&bytes);
+        assert_eq!(number(&accepted), if no == 23 { 0 } else { no });
+        assert_eq!(number(&accepted.and_then(|all| all.message(index))), no);
     };
     is(0, 0, &|_| ());
     is(0, 1, &|_| ());
@@ -110,10 +115,12 @@ fn packets_written() {
     is_bad(&|e| e.len = 193);
 }
 
-/// An accepted packet is the one that the writer makes of its messages. Answers
-/// whether it was accepted.
+/// An accepted packet is the one that the writer makes of its messages, whether
+/// they are fetched or taken in one pass. Answers whether it was accepted.
 fn reads_back(bytes: &[u8]) -> bool {
-    let Ok(messages) = messages_of(bytes) else {
+    let messages = messages_of(bytes);
+    assert_eq!(in_one_pass(bytes), messages);
+    let Ok(messages) = messages else {
         return false;
     };
     assert_eq!(packet_of(&messages).as_deref(), Ok(bytes));
@@ -156,7 +163,8 @@ fn round_trips() {
         let messages = some_messages(&mut rng);
         let messages: Vec<_> = messages.iter().map(|(e, b)| (*e, &b[..])).collect();
         let bytes = packet_of(&messages).expect("accepted");
-        assert_eq!(messages_of(&bytes), Ok(messages));
+        assert_eq!(messages_of(&bytes), Ok(messages.clone()));
+        assert_eq!(in_one_pass(&bytes), Ok(messages));
         longest = longest.max(bytes.len());
     }
     assert!(longest > 1350, "only short packets");
@@ -259,4 +267,93 @@ fn delivery_from_a_packet() {
         let _ = direct.deliver(&envelope, body);
     }
     assert_eq!(member, direct);
+}
+
+/// What is taken of an accepted packet is what a fetch gives, the body at the same
+/// place of the packet.
+#[test]
+fn messages_in_one_pass() {
+    let place = |body: &[u8]| (body.as_ptr(), body.len());
+    let mut rng = rng();
+    for _ in 0..3000 {
+        let messages = some_messages(&mut rng);
+        let messages: Vec<_> = messages.iter().map(|(e, b)| (*e, &b[..])).collect();
+        let bytes = packet_of(&messages).expect("accepted");
+        let accepted = packet::accept(&bytes).expect("accepted");
+        assert_eq!(accepted.count(), messages.len());
+        for (i, message) in messages.iter().enumerate() {
+            let (envelope, body) = accepted.message(i).expect("a message");
+            assert_eq!((envelope, body), *message);
+            let fetched = packet::fetch(&bytes, i).expect("a message");
+            assert_eq!(place(body), place(fetched.1));
+        }
+        for past in [messages.len(), messages.len() + 1, 64, 255, 256, usize::MAX] {
+            assert_eq!(accepted.message(past), Err(Refusal::PacketIndex));
+        }
+    }
+}
+
+#[test]
+fn delivery_in_one_pass() {
+    let mut member = Member::ringing();
+    let bytes = two();
+    let accepted = packet::accept(&bytes).expect("accepted");
+    let mut deliver = |index| {
+        let Member {
+            replica,
+            table,
+            store,
+        } = &mut member;
+        accepted.deliver(replica, table, store, index)
+    };
+    let first = (from(5, inv(1, 5)), Ok(Some(ack(1, 5))));
+    assert_eq!(deliver(0), Ok(first));
+    // Refused, and still known.
+    let second = (from(1, ack(1, 2)), Err(Refusal::StrayAck));
+    assert_eq!(deliver(1), Ok(second));
+    assert_eq!(deliver(2), Err(Refusal::PacketIndex));
+
+    let mut one_by_one = Member::ringing();
+    for index in 0..3 {
+        let _ = one_by_one.deliver_packet(&bytes, index);
+    }
+    assert_eq!(member, one_by_one);
+}
+
+/// Every message of random packets: the answers and the memory are those of the
+/// deliveries one by one.
+#[test]
+fn random_deliveries_in_one_pass() {
+    let mut rng = rng();
+    let mut answers = [0; 26];
+    for _ in 0..3000 {
+        let mut messages = some_messages(&mut rng);
+        for (envelope, _) in &mut messages {
+            // Mostly such as the member takes.
+            envelope.sender = [1, 5, 5, 2][rng.below(4)];
+            envelope.epoch = u32::from(rng.chance(1, 8));
+            envelope.record = rng.below(4);
+        }
+        let messages: Vec<_> = messages.iter().map(|(e, b)| (*e, &b[..])).collect();
+        let bytes = packet_of(&messages).expect("accepted");
+        let accepted = packet::accept(&bytes).expect("accepted");
+        let mut member = Member::start(2, 0b10_0110, 3);
+        let mut one_by_one = member.clone();
+        for (i, (envelope, _)) in messages.iter().enumerate() {
+            let expected = one_by_one.deliver_packet(&bytes, i);
+            let Member {
+                replica,
+                table,
+                store,
+            } = &mut member;
+            let answer = accepted.deliver(replica, table, store, i);
+            assert_eq!(answer, Ok((*envelope, expected)));
+            answers[usize::from(number(&expected))] += 1;
+        }
+        assert_eq!(member, one_by_one);
+    }
+    println!("{answers:?}");
+    for answer in [0, 4, 10, 11, 13, 14] {
+        assert!(answers[answer] > 100, "{answer}: {}", answers[answer]);
+    }
 }

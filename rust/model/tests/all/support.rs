@@ -140,3 +140,9 @@ pub fn messages_of(bytes: &[u8]) -> Result<Vec<(Envelope, &[u8])>, Refusal> {
         .map(|i| packet::fetch(bytes, i))
         .collect()
 }
+
+/// The same in one pass: the packet is judged once.
+pub fn in_one_pass(bytes: &[u8]) -> Result<Vec<(Envelope, &[u8])>, Refusal> {
+    let accepted = packet::accept(bytes)?;
+    (0..accepted.count()).map(|i| accepted.message(i)).collect()
+}

@@ -1,9 +1,10 @@
 //! Groups from their fresh start: every event in the states that events lead to,
-//! messages by themselves and out of packets, by both sides side by side.
+//! messages by themselves, out of packets, and several in one pass, by both sides
+//! side by side.
 
 use std::collections::BTreeMap;
 
-use cetskobi::sys::{Answer, Message, Replica};
+use cetskobi::sys::{Answer, Arrival, Message, Replica};
 use compare::bytes::Bytes;
 use compare::crossing::Fields;
 use compare::memory::Memory;
@@ -36,10 +37,45 @@ struct Member {
 }
 
 /// A message that left, about record `i`, with its bytes.
+#[derive(Clone)]
 struct Post {
     message: Message,
     i: usize,
     body: Vec<u8>,
+}
+
+impl Post {
+    /// Its words in a packet.
+    fn entry(&self) -> [u32; 7] {
+        let message = &self.message;
+        [
+            message.kind.into(),
+            message.sender.into(),
+            message.epoch,
+            self.i as u32,
+            message.version,
+            message.tie.into(),
+            self.body.len() as u32,
+        ]
+    }
+
+    /// Its delivery to this replica.
+    fn delivery(&self, me: Replica) -> Case {
+        let (message, value) = (self.message, Bytes(self.body.clone()));
+        Case::on(me, self.i, Event::Deliver { message, value })
+    }
+}
+
+/// The packet of these, alike by both sides.
+fn packed(posts: &[Post]) -> Vec<u8> {
+    let entries: Vec<[u32; 7]> = posts.iter().map(Post::entry).collect();
+    let bodies: Vec<&[u8]> = posts.iter().map(|post| &post.body[..]).collect();
+    let (entries, bodies) = (entries.as_flattened(), bodies.concat());
+    let (mut x, mut y) = ([0; 1400], [0; 1400]);
+    let written = engine::pack(entries, &bodies, &mut x);
+    assert_eq!(written, peer::pack(entries, &bodies, &mut y));
+    assert_eq!((written.number, x), (0, y));
+    x[..written.len].to_vec()
 }
 
 struct Group {
@@ -50,6 +86,8 @@ struct Group {
     tally: Tally,
     last: Last,
     replays: Replays,
+    /// Messages that came with others in one pass.
+    passed: u64,
 }
 
 impl Group {
@@ -66,6 +104,7 @@ impl Group {
             tally,
             last,
             replays,
+            passed: 0,
         };
         for (at, &number) in numbers.iter().enumerate() {
             let (mut table, mut store) = ([0; 16 * RECORDS], [0; 192 * RECORDS]);
@@ -129,43 +168,80 @@ impl Group {
         }
     }
 
-    /// A message, mostly a late one, comes to a member.
+    /// A message, mostly a late one, comes to a member: by itself, out of a packet, or
+    /// with others in one pass.
     fn deliver(&mut self, rng: &mut Rng, at: usize) {
-        let few = self.posts.len().min([10, 10, 10, 1000][rng.below(4)]);
-        let Some(k) = self.posts.len().checked_sub(1 + rng.below(few)) else {
+        let Some(post) = self.some_post(rng) else {
             return;
         };
-        let Post { message, i, body } = &self.posts[k];
-        if rng.chance(1, 2) {
-            let (message, i, value) = (*message, *i, Bytes(body.clone()));
-            self.play(at, i, Event::Deliver { message, value });
-            return;
+        match rng.below(8) {
+            0..4 => {
+                let Case { i, event, .. } = post.delivery(self.members[at].me);
+                self.play(at, i, event);
+            }
+            4..7 => {
+                let packet = packed(std::slice::from_ref(&post));
+                self.both(at, &post, |me, memory, by_engine| {
+                    let (table, store) = memory.lend();
+                    let deliver = [peer::deliver_packet, engine::deliver_packet];
+                    deliver[usize::from(by_engine)](me, table, store, &packet, 0)
+                });
+            }
+            _ => {
+                let mut posts = vec![post];
+                for _ in 0..rng.below(6) {
+                    posts.extend(self.some_post(rng));
+                }
+                self.pass(at, &posts);
+            }
         }
-        let entry = [
-            message.kind.into(),
-            message.sender.into(),
-            message.epoch,
-            *i as u32,
-            message.version,
-            message.tie.into(),
-            body.len() as u32,
-        ];
-        let (mut x, mut y) = ([0; 1400], [0; 1400]);
-        let written = engine::pack(&entry, body, &mut x);
-        assert_eq!(written, peer::pack(&entry, body, &mut y));
-        assert_eq!((written.number, x), (0, y));
-        let packet = &x[..written.len];
+    }
+
+    fn some_post(&self, rng: &mut Rng) -> Option<Post> {
+        let few = self.posts.len().min([10, 10, 10, 1000][rng.below(4)]);
+        let k = self.posts.len().checked_sub(1 + rng.below(few))?;
+        Some(self.posts[k].clone())
+    }
+
+    /// A packet of these is accepted once, and each of its messages delivered.
+    fn pass(&mut self, at: usize, posts: &[Post]) {
+        let packet = packed(posts);
+        let all = engine::accept(&packet);
+        assert_eq!(all, peer::accept(&packet));
+        assert_eq!((all.number, usize::from(all.count)), (0, posts.len()));
+        for (k, post) in posts.iter().enumerate() {
+            self.both(at, post, |me, memory, by_engine| {
+                let (table, store) = memory.lend();
+                let deliver = [peer::deliver_accepted, engine::deliver_accepted];
+                let deliver = deliver[usize::from(by_engine)];
+                let arrival = deliver(me, table, store, &packet, all, k);
+                let Arrival {
+                    answer,
+                    epoch,
+                    sender,
+                    index,
+                } = arrival;
+                let m = post.message;
+                assert_eq!((epoch, sender, index), (m.epoch, m.sender, post.i));
+                answer
+            });
+            self.passed += 1;
+        }
+    }
+
+    /// The delivery of this post by both sides, each on its memory.
+    fn both(
+        &mut self,
+        at: usize,
+        post: &Post,
+        deliver: impl Fn(Replica, &mut Memory, bool) -> Answer,
+    ) {
         let member = &mut self.members[at];
-        let before = member.engine.record(*i);
-        let (table, store) = member.engine.lend();
-        let a = engine::deliver_packet(member.me, table, store, packet, 0);
-        let (table, store) = member.peer.lend();
-        let b = peer::deliver_packet(member.me, table, store, packet, 0);
-        let value = Bytes(body.clone());
-        let message = *message;
-        let case = Case::on(member.me, *i, Event::Deliver { message, value });
-        let (a, b) = (Outcome::of(member.me, a), Outcome::of(member.me, b));
-        self.same(at, &case, before, &a, &b);
+        let me = member.me;
+        let before = member.engine.record(post.i);
+        let a = Outcome::of(me, deliver(me, &mut member.engine, true));
+        let b = Outcome::of(me, deliver(me, &mut member.peer, false));
+        self.same(at, &post.delivery(me), before, &a, &b);
     }
 
     /// An event by both sides: its number.
@@ -234,13 +310,17 @@ fn random_groups() {
     println!("{settings}");
     let mut rng = settings.rng("group of peers");
     let (mut tally, mut last, mut replays) = (Tally::new(), [0; 3], [[0; 2]; 2]);
+    let mut passed = 0;
     for _ in 0..RUNS * settings.times {
         let mut group = Group::start(&mut rng, tally, last, replays);
         for _ in 0..STEPS {
             group.step(&mut rng);
         }
         (tally, last, replays) = (group.tally, group.last, group.replays);
+        passed += group.passed;
     }
+    println!("{passed} messages in one pass");
+    assert!(passed >= 100_000);
     let reached: [(Kind, &[usize]); 10] = [
         (Kind::Start, &[0]),
         (Kind::View, &[0, 3, 18, 19]),
@@ -259,7 +339,7 @@ fn random_groups() {
     println!("the last ACK at X, W, R: {last:?}");
     assert!(last.iter().all(|&times| times >= 20));
     println!("replays at I, X, accepted and refused by 16: {replays:?}");
-    // 201 and 4,841, 340 and 6,656 were counted.
+    // 160 and 5,130, 343 and 6,179 were counted.
     for ([accepted, refused], floor) in replays.into_iter().zip([[100, 3000], [200, 4000]]) {
         assert!(accepted >= floor[0] && refused >= floor[1], "{replays:?}");
     }

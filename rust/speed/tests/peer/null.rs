@@ -2,7 +2,7 @@
 
 use std::ptr::{null, null_mut};
 
-use cetskobi::sys::{Answer, Message, Replica};
+use cetskobi::sys::{Accepted, Answer, Message, Replica};
 use speed::pointers::{engine, peer, GONE};
 
 const ME: Replica = Replica {
@@ -53,6 +53,18 @@ fn no_memory() {
         deliver_packet(ME, t, 0, s, 0, null(), 0, 0);
         fetch(null(), 0, 0);
         pack(null(), 0, null(), 0, null_mut(), 0);
+        accept(null(), 0);
+    }
+    // The packet's own facts, and others.
+    for (number, count) in [(0, 1), (20, 0), (0, 0), (0, 255), (7, 1), (7, 0)] {
+        let facts = Accepted { number, count };
+        for i in [0, 1, usize::MAX] {
+            same! {
+                fetch_accepted(null(), 0, facts, i);
+                deliver_accepted(ME, t, 0, s, 0, null(), 0, facts, i);
+                deliver_accepted(ME, t, 0, s, 0, packet.as_ptr(), 20, facts, i);
+            }
+        }
     }
     assert_eq!(unsafe { peer::body(t, 0, s, 0, 0, LEFT) }, GONE);
 }

@@ -1,7 +1,10 @@
 //! Packets, whole and damaged, and lists of messages, good and bad.
 
+use cetskobi::sys::{Accepted, Arrival, Fetched};
 use compare::memory::Memory;
-use compare::packet::{deliver, fetch, pack};
+use compare::packet::accept::{self, Side};
+use compare::packet::facts::Told;
+use compare::packet::{arrive, deliver, fetch, pack};
 use compare::settings::Settings;
 use compare::single::Outcome;
 use speed::peer;
@@ -44,4 +47,85 @@ fn delivered() {
         }
         Err(found) => panic!("{settings}\n{found}"),
     }
+}
+
+const PEER: Side = Side {
+    accept: peer::accept,
+    fetch: peer::fetch_accepted,
+};
+
+/// With facts of another packet, or made-up ones, each case of the header.
+fn each_case(what: &str, counts: &[u64; 5]) {
+    for (told, &times) in Told::ALL.iter().zip(counts) {
+        println!("{times:8} times {what} with foreign facts: {told:?}");
+        assert!(times >= 1000, "{what}: {told:?} {times} times");
+    }
+}
+
+#[test]
+fn accepted() {
+    let settings = Settings::from_env();
+    match accept::compare(&settings, PEER) {
+        Ok(tally) => {
+            often("accept", &tally.packets, &[0, 20, 21, 22], 1000);
+            often("accepted fetch", &tally.own, &[0, 20, 21, 22, 23], 1000);
+            each_case("accepted fetch", &tally.foreign);
+            assert!(tally.unasked >= 1000);
+        }
+        Err(found) => panic!("{settings}\n{found}"),
+    }
+}
+
+fn arrives(case: &arrive::Case, memory: &mut Memory) -> Arrival {
+    let deliver::Case { lent, packet, i } = &case.delivery;
+    let facts = case.facts.unwrap_or_else(|| peer::accept(packet));
+    let (table, store) = memory.lend();
+    peer::deliver_accepted(lent.me, table, store, packet, facts, *i)
+}
+
+#[test]
+fn arrived() {
+    let settings = Settings::from_env();
+    match arrive::compare(&settings, arrives) {
+        Ok(tally) => {
+            let answers = deliver::Case::answers();
+            often("accepted delivery", &tally.own, &answers, 100);
+            assert!(tally.later >= 100);
+            each_case("accepted delivery", &tally.foreign);
+            let answers = [0, 1, 2, 3, 4, 5, 10, 11, 12, 13, 14];
+            often("delivery of an entry", &tally.entries, &answers, 100);
+            assert!(tally.unasked >= 1000);
+        }
+        Err(found) => panic!("{settings}\n{found}"),
+    }
+}
+
+/// Wrong peers are found.
+#[test]
+fn wrong_peers_are_found() {
+    // It trusts the facts: 22 is not answered.
+    fn trusts(packet: &[u8], facts: Accepted, i: usize) -> Fetched {
+        let right = peer::fetch_accepted(packet, facts, i);
+        if Told::of(packet, facts, i) == Told::NoBytes {
+            return Fetched { number: 0, ..right };
+        }
+        right
+    }
+    let side = Side {
+        fetch: trusts,
+        ..PEER
+    };
+    let found = accept::compare(&Settings::USUAL, side).expect_err("a difference");
+    println!("{found}");
+
+    // It tells nothing of a refused message.
+    fn silent(case: &arrive::Case, memory: &mut Memory) -> Arrival {
+        let right = arrives(case, memory);
+        match right.answer.number {
+            0 => right,
+            _ => Arrival { index: 0, ..right },
+        }
+    }
+    let found = arrive::compare(&Settings::USUAL, silent).expect_err("a difference");
+    println!("{found}");
 }
