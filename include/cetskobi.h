@@ -164,7 +164,7 @@ struct cetskobi_accepted {
 
 /* The answer to the delivery of a packet's message; and which message it was, also of a refused delivery: the number of the record that it
  * is about, its sender and its epoch. An epoch greater than this laptop's, which question 10 refuses, is the sign that it missed a view.
- * Where there was no message to deliver (20 to 23) these are 0. */
+ * Where no message was taken, which by a packet's own facts is so where the answer is 20 to 23, these are 0. */
 struct cetskobi_arrival {
     struct cetskobi_answer answer;
     uint32_t epoch;
@@ -282,9 +282,10 @@ struct cetskobi_answer cetskobi_deliver_packet(struct cetskobi_replica me, uint8
  *
  * For every packet and every i they answer what cetskobi_fetch and cetskobi_deliver_packet answer, if accepted is what cetskobi_accept gave
  * of these very bytes: copy them first out of a buffer in which the radio may put its next packet. Whatever else accepted is, of another
- * packet say, they answer too, and read nothing outside the packet: where i is not below accepted.count, accepted.number, or 23 if that is
- * 0; else 21 where entry i of the contents table does not lie within the packet; else 22 where its bytes do not; else the entry as it
- * stands there, of which question 22 has not been asked. Its delivery asks all questions of its own. */
+ * packet say, they answer too, and read nothing outside the packet: where i is not below accepted.count, with accepted.number, or with 23
+ * if that is 0; else, and accepted.number is then not looked at, with 21 where entry i of the contents table does not lie within the
+ * packet; with 22 where its offset and length together are past the packet's end; else with the entry as it stands there, of which question
+ * 22 has not been asked. Its delivery asks all questions of its own. */
 CETSKOBI_MUST_USE
 struct cetskobi_accepted cetskobi_accept(const uint8_t *packet, size_t packet_len);
 CETSKOBI_MUST_USE
