@@ -24,6 +24,8 @@ Wish 1|what an ACK does, and that nobody waits once all have replied|hermes.Last
 Wish 2|that a replay gives an overtaken save up, and that no record hangs|hermes.Overtaken.GivenUp hermes.Overtaken.NobodyHangs|crates/hermes/proofs/Overtaken.antt:given-up crates/hermes/proofs/Overtaken.antt:nobody-hangs
 Wish 3|that a record settles|hermes.Settling.Settling|crates/hermes/proofs/Settling.antt:settling
 Wish 3|by which events, whoever drives, and that no fewer will do|hermes.Recipe.RecipeSettles hermes.Recipe.AnyDriverSettles hermes.Tight.Tight hermes.Tight.Exact|crates/hermes/proofs/Settling.antt:recipe-settles crates/hermes/proofs/Settling.antt:any-driver-settles crates/hermes/proofs/Tight.antt:tight crates/hermes/proofs/Tight.antt:exact
+Wish 4|that all of a packet in one pass is each message by itself|packet_format.Accepting.TakenIsFetched packet_format.Accepting.TakenIsGood packet_format.Accepting.AcceptedTells packet_format.Accepting.TakenLiesWithin|crates/packet_format/proofs/Accepting.antt:taken-is-fetched crates/packet_format/proofs/Accepting.antt:taken-is-good crates/packet_format/proofs/Accepting.antt:accepted-tells crates/packet_format/proofs/Accepting.antt:taken-lies-within
+Wish 4|the same, as C calls the functions|export_packets.OnePass.OnePass export_packets.OnePass.ToldAtOnce export_packets.OnePass.NothingOutside export_accepted.OnePass.DeliversAll|crates/export_packets/proofs/OnePass.antt:one-pass crates/export_packets/proofs/OnePass.antt:told-at-once crates/export_packets/proofs/OnePass.antt:nothing-outside crates/export_accepted/proofs/OnePass.antt:delivers-all
 END
 
 grep -nE '^(pub )?(struct|enum) ' crates/*/src/*.rt >"$dir/types"
