@@ -29,7 +29,7 @@ use Rattle.hermes.specs.Event.{invStep, ackStep, completes, deliverStep, send, 
 use Rattle.hermes.specs.Node.{Node, Outcome, indexOf, identity, newcomer, startRefusal, begin, start, apply, viewed, recordOf}
 use Rattle.hermes.specs.Node as hermes
 use Rattle.hermes.specs.Run as run
-use Rattle.hermes.specs.Run.{Logged, received, logged, Action, Entry, Group, Result, Found, found, missing, find, perform, nodeAfter, logAfter, result, advance}
+use Rattle.hermes.specs.Run.{Logged, received, Action, Entry, Group, Result, Found, found, missing, find, perform, nodeAfter, logAfter, result, advance}
 use Rattle.hermes.specs.Agreement as agreement-of
 use Rattle.hermes.specs.Agreement.{FreshStart, Started, AsIssued, Entries, IsAccepted, Validation, Agreement, Shows, Sees, Alike}
 use Rattle.hermes.proofs.Apply.{Applied, refused, accepted, applied, its-own}

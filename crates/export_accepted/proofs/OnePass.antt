@@ -17,12 +17,10 @@ use Rattle.packet_format.specs.Accepting.{accepted, taken, fetchedOf}
 use Rattle.packet_format.proofs.Entries.{good-parts}
 use Rattle.packet_format.proofs.Accepting.{taken-is-fetched, taken-is-good}
 use Rattle.packet_event.specs.Arrival.{receivedOf, receiptOf, receipt}
-use Rattle.export_numbers.specs.declared.numbers.CetskobiReplica.{CetskobiReplica}
 use Rattle.export_numbers.specs.Crossing.{receivedIn}
 use Rattle.export_records.specs.Layout.{tableOf}
 use Rattle.export_calls.specs.Calls.{nodeOf}
 use Rattle.export_arrival.specs.Arrival.{numbersOf}
-use Rattle.export_accepted.specs.declared.accepted.CetskobiArrival.{CetskobiArrival}
 use Rattle.export_accepted.specs.Arrival.{Came, takenReceipt}
 use Rattle.export_accepted.specs.OnePass.{AsFetched, DeliversAll}
 

@@ -1,17 +1,15 @@
 -- A message taken crosses as the one fetched: its entry is good, so that its fields are those of its message.
-use Prim.Native.Nat.{ℕ, suc, _+_, _≤_}
+use Prim.Native.Nat.{ℕ, _+_, _≤_}
 use mathlib.Core.Path.{_≡_, refl, sym, ap, _∙_}
 use mathlib.Core.List.{List}
 use native.Mathlib.Omega.{arith}
 use lib.ListN.{length}
-use Rattle.packet_format.specs.declared.entry.Fields.{Fields}
 use Rattle.packet_format.specs.declared.answer.Fetched.{Fetched}
 use Rattle.packet_format.specs.declared.answer.Taken.{Taken}
 use Rattle.packet_format.specs.declared.answer.Taken.the-variants.{Entry, Refused}
 use Rattle.packet_format.specs.Accepting.{accepted, taken, fetchedOf}
 use Rattle.packet_format.proofs.Entries.{good-parts, message-back}
 use Rattle.packet_format.proofs.Accepting.{taken-is-fetched, taken-is-good, accepted-tells, taken-lies-within}
-use Rattle.export_fields.specs.declared.answers.CetskobiFetched.{CetskobiFetched}
 use Rattle.export_fields.specs.Answers.{fieldsOut, fetchedOut, takenOut, acceptedIn}
 use Rattle.export_packets.specs.OnePass.{OnePass, ToldAtOnce, NothingOutside}
 

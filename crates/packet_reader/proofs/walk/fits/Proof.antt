@@ -1,6 +1,5 @@
 -- The offset first: where it is another, the second part of the question says no.
-use mathlib.Core.Path.{sym, ap, _∙_}
-use mathlib.Core.Bool.{Bool, _&&_}
+use mathlib.Core.Path.{sym, _∙_}
 use borrow.Author.Tests.{eq-eqb, ne-eqb}
 use Rattle.hermes_record.proofs.Tests.{and-true, and-false}
 use Rattle.packet_format.specs.Entry.{good}

@@ -3,7 +3,6 @@ use mathlib.Core.Path.{refl, sym}
 use Prim.Native.Nat.{_-_}
 use borrow.Author.Needs.{needs}
 use native.Mathlib.Omega.{arith}
-use borrow.Author.Tests.{not-true, not-false}
 use lib.ListN.{length-drop}
 use Rattle.packet_format.proofs.Reading.{part-to-end}
 use Rattle.packet_format.proofs.Tests.{yes, no}
