@@ -150,7 +150,7 @@ plans =
     ∷ by 0 (replay 0)  -- 16: the record is valid
     ∷ by 1 (view 0 7)  -- 18: the epoch that it has
     ∷ by 1 (view 1 3)
-    ∷ by 1 (deliverPacket (packetOf (val ∷ [])) 0)
+    ∷ by 1 (deliverAccepted (packetOf (val ∷ [])) (acceptAnswer (packetOf (inv ∷ inv ∷ []))) 0)  -- by the facts of another, which do no harm
     ∷ by 1 (deliver 0 valNumbers [])  -- 14: it has come already
     ∷ by 1 (deliver 0 unknown [])  -- 12: a kind that there is not
     ∷ by 1 (write 0 (66 ∷ []))  -- B: the INV leaves
