@@ -163,8 +163,8 @@ struct cetskobi_accepted {
 };
 
 /* The answer to the delivery of a packet's message; and which message it was, also of a refused delivery: the number of the record that it
- * is about, its sender and its epoch. An epoch greater than this laptop's, which question 10 refuses, is the sign that it missed a view.
- * Where no message was taken, which by a packet's own facts is so where the answer is 20 to 23, these are 0. */
+ * is about, its sender and its epoch. An epoch greater than this laptop's is the sign that it missed a view, whichever question refused the
+ * message: 10, or an earlier one. Where no message was taken they are 0: by this packet's own facts, where answer.number is 20 to 23. */
 struct cetskobi_arrival {
     struct cetskobi_answer answer;
     uint32_t epoch;
@@ -280,6 +280,7 @@ struct cetskobi_answer cetskobi_deliver_packet(struct cetskobi_replica me, uint8
  *     struct cetskobi_accepted all = cetskobi_accept(packet, packet_len);
  *     for (size_t i = 0; i < all.count; i++) ... cetskobi_deliver_accepted(me, .., packet, packet_len, all, i) ...
  *
+ * The loop goes by the count: a refused arrival is one message, and the next is still to be delivered.
  * For every packet and every i they answer what cetskobi_fetch and cetskobi_deliver_packet answer, if accepted is what cetskobi_accept gave
  * of these very bytes: copy them first out of a buffer in which the radio may put its next packet. Whatever else accepted is, of another
  * packet say, they answer too, and read nothing outside the packet: where i is not below accepted.count, with accepted.number, or with 23

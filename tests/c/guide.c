@@ -177,22 +177,35 @@ static void a_view_that_was_missed(void) {
         came(late[k], first);
         CHECK(missed_view(late[k]) == 1);
         came(late[k], second);
-        came(late[k], first);
         silent();
         CHECK(missed_view(late[k]) == 4 && is(late[k], CETSKOBI_VALID, 0, 1, 0));
+        /* A damaged epoch tells of a view that nobody issued, until the next message; one from outside the view tells nothing. */
+        struct packet damaged = second;
+        damaged.bytes[6] ^= 64;
+        came(late[k], damaged);
+        CHECK(missed_view(late[k]) == 1073741828);
+        came(late[k], second);
+        CHECK(missed_view(late[k]) == 4);
+        damaged.bytes[5] = 3;
+        came(late[k], damaged);
+        silent();
+        CHECK(missed_view(late[k]) == 4);
     }
-    /* An older view is not the one that was missed; a refused one is none. */
-    CHECK(view_came(&two, 1, SET_1 | SET_2) == 0 && view_came(&two, 4, ALL) == 19 && missed_view(&two) == 4);
+    /* An older view is not the one that was missed, and the next message tells it again; a refused one is none. */
+    CHECK(view_came(&two, 1, SET_1 | SET_2) == 0 && missed_view(&two) == 0);
+    came(&two, second);
+    CHECK(view_came(&two, 4, ALL) == 19 && missed_view(&two) == 4);
     CHECK(view_came(&two, 4, SET_1 | SET_2) == 0 && missed_view(&two) == 0);
     came(&two, second);
     CHECK(carries(sent(SET_1), CETSKOBI_ACK, 1, 1));
-    /* A greater one than that was heard of will do, and older messages tell nothing. */
-    CHECK(view_came(&five, 5, SET_1 | SET_2) == 0);
+    /* A laptop that has the view without itself has missed none, whatever comes then. */
+    CHECK(view_came(&five, 1, SET_1 | SET_2) == 0);
     came(&five, second);
     CHECK(missed_view(&five) == 0 && cetskobi_read(five.me, LENT(&five), RING).number == 3);
-    /* Bytes that are no packet tell nothing either. */
+    /* Older messages tell nothing, and neither do bytes that are no packet. */
+    came(&one, first);
     second.bytes[0] = 2;
-    came(&one, second);
+    CHECK(packet_came(&one, second.bytes, second.len) == 20);
     silent();
     CHECK(one.heard == 0 && missed_view(&one) == 0);
 }

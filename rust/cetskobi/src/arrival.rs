@@ -7,7 +7,7 @@ use crate::{Refusal, Reply};
 ///
 /// Sender, epoch and record are told also where the delivery was refused. So a
 /// laptop hears that it missed a view: by a message of a greater epoch than its
-/// own, which question 10 refuses.
+/// own, whichever question refused it, 10 or an earlier one.
 ///
 /// ```
 /// #![deny(unused_must_use)]
@@ -21,7 +21,7 @@ use crate::{Refusal, Reply};
 /// net.change_view(1, 0b011)?;
 /// let len = packet::pack([net.write(0, b"Wren")?], &mut bytes)?;
 ///
-/// let epoch = hut.epoch();
+/// let epoch = hut.epoch(); // before: an arrival borrows the laptop
 /// let mut newest = epoch;
 /// let mut messages = packet::messages(&bytes[..len])?;
 /// while let Some(arrival) = hut.deliver_next(&mut messages) {
@@ -31,8 +31,9 @@ use crate::{Refusal, Reply};
 /// }
 /// assert!(newest > epoch); // "a newer view was issued: ask the warden"
 ///
-/// // With that view it takes the message, once it comes again.
-/// hut.change_view(newest, 0b011)?;
+/// // With that view, of which the warden gives both epoch and laptops, it takes
+/// // the message, once it comes again.
+/// hut.change_view(1, 0b011)?;
 /// let mut messages = packet::messages(&bytes[..len])?;
 /// let arrival = hut.deliver_next(&mut messages).expect("its one message");
 /// assert!(arrival.reply()?.leaving().is_some());
@@ -42,7 +43,9 @@ use crate::{Refusal, Reply};
 /// ```
 ///
 /// It borrows the laptop as [`Reply`] does, and dropped unseen it does not
-/// compile either:
+/// compile either. Always take its [`reply`](Arrival::reply): one that is only
+/// asked for its epoch, or by `is_some`, goes without a warning, and what left
+/// with it is as good as lost on air.
 ///
 /// ```compile_fail
 /// #![deny(unused_must_use)]

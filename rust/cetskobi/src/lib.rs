@@ -4,7 +4,7 @@
 //! protocol with membership epochs, over a radio link that loses, repeats and
 //! holds back messages. The engine behind this crate is written in Rattle and
 //! proved: for every input the answer, the records and the store are what
-//! document 01 says, with Wishes 1 and 2 of document 02. This crate calls it with
+//! document 01 says, with Wishes 1, 2 and 4 of document 02. This crate calls it with
 //! Rust's types and adds no rule.
 //!
 //! * [`Laptop`] is one laptop with its records. Each event on it is accepted,

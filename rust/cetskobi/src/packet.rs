@@ -97,8 +97,10 @@ pub fn messages(packet: &[u8]) -> Result<Messages<'_>, Refusal> {
 /// [`Laptop::deliver_next`](crate::Laptop::deliver_next) takes one and delivers
 /// it; as an iterator it gives them to look at, or for
 /// [`Laptop::deliver`](crate::Laptop::deliver). Both take constant time, and `len`
-/// says how many are left.
+/// says how many are left. What one laptop has taken is gone for another: clone it
+/// to deliver one packet to several laptops in one memory.
 #[derive(Clone, Debug)]
+#[must_use = "no message has been taken in"]
 pub struct Messages<'a> {
     packet: &'a [u8],
     /// What is known of these very bytes.

@@ -244,24 +244,38 @@ fn a_view_that_was_missed_shows() {
         hut.came(&first);
         assert_eq!(hut.missed_view(), Some(1));
         hut.came(&second);
-        hut.came(&first);
         assert_eq!(hut.missed_view(), Some(4));
         hut.is(State::Valid, stamp(0, 0), 0);
+        // A damaged epoch tells of a view that nobody issued, until the next message;
+        // one from outside the view tells nothing.
+        let mut damaged = second.clone();
+        damaged[6] ^= 64;
+        hut.came(&damaged);
+        assert_eq!(hut.missed_view(), Some(4 | 64 << 24));
+        hut.came(&second);
+        assert_eq!(hut.missed_view(), Some(4));
+        damaged[5] = 4;
+        hut.came(&damaged);
+        assert_eq!(hut.missed_view(), Some(4));
     }
-    // An older view is not the one that was missed; a refused one is none.
+    // An older view is not the one that was missed, and the next message tells it
+    // again; a refused one is none.
     three.view_came(1, 15).expect("accepted");
+    assert_eq!(three.missed_view(), None);
+    three.came(&second);
     assert_eq!(three.view_came(4, 63), Err(Refusal::ViewNotWithin));
     assert_eq!(three.missed_view(), Some(4));
     three.view_came(4, 11).expect("accepted");
     assert_eq!(three.missed_view(), None);
     three.came(&second);
     three.sent([1]);
-    // A greater one than that was heard of will do, and older messages tell nothing.
-    five.view_came(5, 3).expect("accepted");
+    // A laptop that has the view without itself has missed none, whatever comes then.
+    five.view_came(1, 15).expect("accepted");
     five.came(&second);
     assert_eq!(five.missed_view(), None);
     assert_eq!(five.open(RING), Err(Refusal::StruckOff));
-    // Bytes that are no packet tell nothing either.
+    // Older messages tell nothing, and neither do bytes that are no packet.
+    one.came(&first);
     let mut broken = second.clone();
     broken[0] = 2;
     assert_eq!(one.packet_came(&broken), Err(Refusal::PacketHead));

@@ -13,7 +13,7 @@ struct Hut {
     /// What goes into the next packet, and to whom.
     messages: Vec<Leaving<'static>>,
     to: u16,
-    /// The greatest epoch of a message that came.
+    /// The epoch of the last message that had a greater one than this laptop; 0 since a view was taken.
     heard: u32,
 }
 
@@ -95,8 +95,12 @@ impl Hut {
     /// All messages of a packet, in one pass.
     fn packet_came(&mut self, bytes: &[u8]) -> Result<(), Refusal> {
         let mut messages = packet::messages(bytes)?;
+        let (epoch, view) = (self.laptop.epoch(), self.laptop.view()); // now: an arrival borrows the laptop
         while let Some(arrival) = self.laptop.deliver_next(&mut messages) {
-            self.heard = self.heard.max(arrival.epoch()); // told of a refused message too
+            // Told of a refused message too. A newer view is within this one, and so is its sender.
+            if arrival.epoch() > epoch && view.contains(arrival.sender()) {
+                self.heard = arrival.epoch();
+            }
             let Ok(reply) = arrival.reply() else { continue };
             let Some(left) = reply.leaving().map(Leaving::into_owned) else { continue };
             match left.envelope().message {
@@ -111,7 +115,8 @@ impl Hut {
 
     /// Asked after every packet: the epoch of a view that was issued and did not come here. Ask the warden for it.
     fn missed_view(&self) -> Option<u32> {
-        (self.heard > self.laptop.epoch()).then_some(self.heard)
+        let counts = self.laptop.view().contains(self.laptop.number());
+        (counts && self.heard > 0).then_some(self.heard)
     }
 
     /// Tries what may move a record on from here.
@@ -156,6 +161,7 @@ impl Hut {
 
     fn view_came(&mut self, epoch: u32, view: u16) -> Result<(), Refusal> {
         self.laptop.change_view(epoch, view)?;
+        self.heard = 0;
         self.go_over();
         Ok(())
     }
