@@ -40,7 +40,9 @@ use Rattle.export_calls.specs.Part.{PartAt}
 use Rattle.export_outgoing.specs.Leaving.{Along, along, alongOf, AlongAt}
 use Rattle.export_outgoing.proofs.Sent.{asked-body}
 use Rattle.export_arrival.specs.Arrival.{Arrived}
-use Rattle.check_air.specs.Air.{Sending, sevenOf, wordsSent, bodiesSent, Called, Packed, ThroughTheAir}
+use Rattle.export_accepted.specs.OnePass.{arrivalFor}
+use Rattle.export_accepted.proofs.OnePass.{delivers-all}
+use Rattle.check_air.specs.Air.{Sending, sevenOf, wordsSent, bodiesSent, Called, Packed, ThroughTheAir, AcceptedThroughTheAir}
 
 -- ---- what leaves an event has the laptop's header and crosses as its answer
 
@@ -221,3 +223,11 @@ through-the-air before after s x packet c p me table store table′ store′ a h
     let arrived : Arrived (nodeOf me table store) table packet (Found (entryLeft x) at) a table′ store′ =
     subst (λ (f : Fetched). Arrived (nodeOf me table store) table packet f a table′ store′) found h in
     delivers (nodeOf me table store) table packet (entryLeft x) at (x .body) a table′ store′ brings arrived
+
+pub accepted-through-the-air : AcceptedThroughTheAir
+accepted-through-the-air before after s x packet c p me table store table′ store′ r h =
+    let d = delivers-all me table store packet (length before) r table′ store′ h in
+    record {
+      done = through-the-air before after s x packet c p me table store table′ store′ (r .answer) (d .arrived);
+      tells = d .message ∙ ap (λ (f : Fetched). arrivalFor f (r .answer)) (found-left before after s x packet c p .1);
+    }

@@ -151,6 +151,7 @@ every-call-may-follow issued log = record {
   packets = λ p i h. inl h;
   broken = λ p i h. inr h;
   accepted = λ p a i h. inl h;
+  foreign = λ p a i k e. inr (record { number = k; refused = e });
   unaccepted = λ p i h. inr (untaken p i h);
   validations = λ i. tt;
   resends = λ i. tt;

@@ -1,4 +1,4 @@
--- Through the air: what left a call on one laptop, packed by `cetskobi_pack` and delivered from that packet by `cetskobi_deliver_packet` on another,
+-- Through the air: what left a call on one laptop, packed by `cetskobi_pack` and delivered from that packet, by `cetskobi_deliver_packet` or by the packet's facts, on another,
 -- is the delivery of the message that left, which is what a deliver entry of demand 3's runs does.
 use Prim.Native.Nat.{ℕ, _*_}
 use mathlib.Core.Path.{_≡_}
@@ -17,6 +17,9 @@ use Rattle.export_calls.specs.Calls.{nodeOf, Done}
 use Rattle.export_outgoing.specs.Leaving.{alongOf, AlongAt}
 use Rattle.export_packets.specs.Calls.{packAnswer, packOutput}
 use Rattle.export_arrival.specs.Arrival.{Arrived}
+use Rattle.packet_format.specs.Accepting.{accepted, taken}
+use Rattle.export_accepted.specs.declared.accepted.CetskobiArrival.{CetskobiArrival}
+use Rattle.export_accepted.specs.Arrival.{Came}
 
 -- ---- what a caller packs
 
@@ -49,7 +52,7 @@ abbrev pub Leaves : Node → ℕ → Event → List ℕ → Logged → Type 0
 Leaves n i e v x = logged [] (apply higher n i e v .node) (sentBy (apply higher n i e v .answer)) ≡ x ∷ []
 
 -- The first: an exported event was called, message x left it, and `cetskobi_body` was then asked for its bytes. An ACK that left
--- `cetskobi_deliver_packet` is among these, since by `ThroughTheAir` that call does what `called` says.
+-- `cetskobi_deliver_packet` or `cetskobi_deliver_accepted` is among these, since by `ThroughTheAir` that call does what `called` says.
 pub record Called (x : Logged) (s : Sending) : Type 0 where
   pub table : List ℕ
   pub store : List ℕ
@@ -78,3 +81,15 @@ ThroughTheAir = (before after : List Sending) (s : Sending) (x : Logged) (packet
     → (me : CetskobiReplica) (table store table′ store′ : List ℕ) (a : CetskobiAnswer)
     → Arrived (nodeOf me table store) table packet (fetched packet (length before)) a table′ store′
     → Done (nodeOf me table store) table (x .header .index) (Deliver (received x)) (x .body) a table′ store′
+
+-- The same by the facts of the packet (02, Wish 4); and the arrival tells whose message left, of which epoch and about which record.
+pub record CameThrough (x : Logged) (me : CetskobiReplica) (table store : List ℕ) (r : CetskobiArrival) (table′ store′ : List ℕ) : Type 0 where
+  pub done : Done (nodeOf me table store) table (x .header .index) (Deliver (received x)) (x .body) (r .answer) table′ store′
+  pub tells : r ≡ record { answer = r .answer; epoch = x .header .epoch; sender = x .header .sender; index = x .header .index }
+
+abbrev pub AcceptedThroughTheAir : Type 0
+AcceptedThroughTheAir = (before after : List Sending) (s : Sending) (x : Logged) (packet : List ℕ)
+    → Called x s → Packed (before ++ s ∷ after) packet
+    → (me : CetskobiReplica) (table store table′ store′ : List ℕ) (r : CetskobiArrival)
+    → Came (nodeOf me table store) table packet (taken packet (accepted packet) (length before)) r table′ store′
+    → CameThrough x me table store r table′ store′

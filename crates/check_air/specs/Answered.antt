@@ -77,6 +77,7 @@ pub record AnyCall (issued : ℕ → ℕ) (log : List Logged) : Type 0 where
   pub packets : (p : List ℕ) (i : ℕ) → FromAir log p i → Fair issued log (deliverPacket p i)
   pub broken : (p : List ℕ) (i : ℕ) → Broken p i → Fair issued log (deliverPacket p i)
   pub accepted : (p : List ℕ) (a : CetskobiAccepted) (i : ℕ) → FromAir log p i → Fair issued log (deliverAccepted p a i)
+  pub foreign : (p : List ℕ) (a : CetskobiAccepted) (i k : ℕ) → taken p (acceptedIn a) i ≡ Refused k → Fair issued log (deliverAccepted p a i)
   pub unaccepted : (p : List ℕ) (i : ℕ) → Broken p i → Fair issued log (deliverAccepted p (acceptAnswer p) i)
   pub validations : (i : ℕ) → Fair issued log (validate i)
   pub resends : (i : ℕ) → Fair issued log (resend i)

@@ -1,4 +1,4 @@
--- The exported functions on packets: what they answer, and that they are inverse.
+-- The exported functions on packets: what they answer, that they are inverse, and that one pass gives what each fetch gives.
 pub mod Calls
 pub mod RoundTrip
 pub mod OnePass

@@ -8,8 +8,8 @@ use native.Mathlib.Nat.{not-suc-le-zero, le-of-suc-le-suc}
 use native.Mathlib.Omega.{arith}
 use borrow.Author.Tests.{ne-eqb, le-leb, lt-leb, lt-ltb, le-ltb, leb-true, leb-false, ltb-true, ltb-false, eqb-true}
 use lib.Dec.{eqb, leb, ltb}
-use lib.ListN.{length, take, drop, length-drop}
-use lib.Seq.{drop-drop, length-take-le}
+use lib.ListN.{length, take, drop}
+use lib.Seq.{drop-drop}
 use Rattle.hermes_record.proofs.Tests.{both}
 use Rattle.hermes.specs.Store.{Bytes}
 use Rattle.packet_format.specs.declared.entry.Fields.{Fields}
@@ -87,7 +87,7 @@ refused-by (suc k) f n = refl
 module _ (p : List ℕ) (a : Accepted) (i : ℕ) where
   pub take-refused : a .count ≤ i → (a .number ≡ 0 → ⊥) → Refused (a .number) ≡ taken p a i
   unfolding taken takeRefusal
-  take-refused l n = simp (le-ltb _ _ l, ne-eqb _ _ n) (refused-by (a .number) (fieldsOf (drop (entryPlace i) p)) n)
+  take-refused l n = simp (le-ltb _ _ l, ne-eqb _ _ n) (refused-by (a .number) _ n)
 
   pub take-23 : a .count ≤ i → a .number ≡ 0 → Refused 23 ≡ taken p a i
   unfolding taken takeRefusal
@@ -162,8 +162,8 @@ module _ (p : List ℕ) (i : ℕ) where
   beyond-fetched : Whole p → countOf p ≤ i → fetched p i ≡ fetch.Refused 23
   beyond-fetched w l = sym (fetch-23 p i (w .passed20) (w .passed21) (w .passed22) l)
 
--- a message of a whole packet, or a number past its count
-split : (i n : ℕ) → (i < n) ⊎ (n ≤ i)
+-- a number below another, or not
+pub split : (i n : ℕ) → (i < n) ⊎ (n ≤ i)
 split i n = asked (ltb i n) refl
   where
     asked : (b : Bool) → ltb i n ≡ b → (i < n) ⊎ (n ≤ i)
@@ -247,5 +247,4 @@ taken-lies-within p a i f t =
     let g = fieldsOf (drop (entryPlace i) p) in
     let s = entry-taken (takeRefusal p a i) g f t in
     let y = all-yes (ltb i (a .count)) (leb (entryPlace (suc i)) (length p)) (leb (g .offset + g .len) (length p)) _ (some-number (a .number)) (s .0) in
-    let inside : f .offset + f .len ≤ length p = subst (λ (x : Fields). x .offset + x .len ≤ length p) (s .1) (leb-true (g .offset + g .len) (length p) (y .1)) in
-    (leb-true _ _ (y .0), inside, length-take-le (f .len) (drop (f .offset) p) (rw (length-drop (f .offset) p) (omega arith)))
+    subst (λ (x : Fields). x .offset + x .len ≤ length p) (s .1) (leb-true (g .offset + g .len) (length p) (y .1))

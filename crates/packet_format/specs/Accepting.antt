@@ -14,7 +14,7 @@ use Rattle.packet_format.specs.declared.answer.Fetched.the-variants as f
 use Rattle.packet_format.specs.declared.answer.Taken.{Taken}
 use Rattle.packet_format.specs.declared.answer.Taken.the-variants.{Entry, Refused}
 use Rattle.packet_format.specs.Entry.{fieldsOf, entryOf, good}
-use Rattle.packet_format.specs.Reading.{countOf, entryPlace, question20, question21, question22, fetched, bodyOf}
+use Rattle.packet_format.specs.Reading.{countOf, entryPlace, question20, question21, question22, fetched}
 
 -- ---- the packet as a whole
 
@@ -86,7 +86,6 @@ pub record Tells (p : List ℕ) (a : Accepted) : Type 0 where
 abbrev pub AcceptedTells : Type 0
 AcceptedTells = (p : List ℕ) → Tells p (accepted p)
 
--- Whatever the facts, also those of another packet: the bytes of a message taken lie within this one, all of them.
+-- Whatever the facts, also those of another packet: the body of a message taken lies within this one.
 abbrev pub TakenLiesWithin : Type 0
-TakenLiesWithin = (p : List ℕ) (a : Accepted) (i : ℕ) (f : Fields) → taken p a i ≡ Entry f
-    → (entryPlace (suc i) ≤ length p) × (f .offset + f .len ≤ length p) × (length (bodyOf p (fetchedOf (Entry f))) ≡ f .len)
+TakenLiesWithin = (p : List ℕ) (a : Accepted) (i : ℕ) (f : Fields) → taken p a i ≡ Entry f → f .offset + f .len ≤ length p

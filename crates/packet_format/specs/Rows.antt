@@ -166,6 +166,7 @@ rows =
     ∷ takes (single 1 5 7 2 20 3 2) 0 1 0 22
     ∷ takes (single 1 5 7 2 20 2 2) 0 1 0 0
     ∷ takes (single 9 16 7 16 19 2 2) 0 1 0 0
+    ∷ takes (pair 1 39 2) 22 2 1 0
     -- 24: count 1 to 64, ..
     ∷ writes [] [] 20 24
     ∷ writes (message 5 7 (ack 2) 0 ∷ []) [] 20 0

@@ -28,7 +28,7 @@ pub(crate) fn fits(f: Fields, at: usize) -> bool
 }
 
 // The entries from number `from` on up to `to`, or up to the first that is not as question 22 asks. Both ends give the loop's own variables:
-// a number set for the second would be set at every turn.
+// of a number that only the second has, the compiler would set it at every turn.
 pub(crate) fn walk(packet: &[u8], from: usize, to: usize, start: usize) -> Reached
     requires { ⌜ Table (now packet) × Walked (now packet) from start × (from ≤ to) × (to ≤ countOf (now packet)) ⌝ }
     ensures { λ w. ⌜ Went (now (packet .entry)) to w ⌝ }
