@@ -68,6 +68,7 @@ pub(crate) type Watched = Result<Left, Disagreement>;
 
 /// What came of a packet's message: what its arrival tells, and what leaves.
 pub(crate) struct Came {
+    pub sender: u8,
     pub epoch: u32,
     pub record: usize,
     pub left: Left,
@@ -170,13 +171,14 @@ impl Group {
         let Some(next) = messages.clone().next() else {
             return Ok(None);
         };
-        let (mut epoch, mut record) = (0, 0);
+        let (mut sender, mut epoch, mut record) = (0, 0, 0);
         let left = self.deliver(number, next.envelope(), |l| {
             let arrival = l.deliver_next(messages).expect("there is a next one");
-            (epoch, record) = (arrival.epoch(), arrival.record());
+            (sender, epoch, record) = (arrival.sender(), arrival.epoch(), arrival.record());
             replied(arrival.reply())
         })?;
         Ok(Some(Came {
+            sender,
             epoch,
             record,
             left,

@@ -31,9 +31,9 @@ pub(crate) struct Hut {
     number: u8,
     outbox: Outbox,
     timers: BTreeMap<usize, Timer>,
-    /// The greatest epoch of a message that came.
+    /// The last epoch that was greater than the laptop's own, since its view; 0 if none came.
     heard: u32,
-    /// Since when that is greater than the laptop's own: a view is missing here.
+    /// Since when a view is missing here.
     missing: Option<Tick>,
     /// How long a view was missing after the hut had heard so, each time.
     pub missed: Vec<Tick>,
@@ -87,7 +87,7 @@ impl Hut {
         };
         group.counts.packet(messages.len());
         while let Some(came) = self.take(group, &mut messages)? {
-            self.hears(group, came.epoch);
+            self.hears(group, came.sender, came.epoch);
             match came.left {
                 Ok(Some(left)) if matches!(left.envelope().message, Message::Val(_)) => {
                     // The last acknowledgement has come. Its VAL may be lost, as any.
@@ -101,12 +101,22 @@ impl Hut {
     }
 
     /// A message was of this epoch. A greater one than the laptop's says that it
-    /// missed a view.
-    fn hears(&mut self, group: &Group, epoch: u32) {
-        self.heard = self.heard.max(epoch);
-        if self.heard > group.laptop(self.number).epoch() {
+    /// missed a view, which is within its own, and so is the sender.
+    fn hears(&mut self, group: &Group, sender: u8, epoch: u32) {
+        let laptop = group.laptop(self.number);
+        if epoch > laptop.epoch() && laptop.view().contains(sender) {
+            self.heard = epoch;
+        }
+        if self.missed_view(group).is_some() {
             self.missing.get_or_insert(group.now);
         }
+    }
+
+    /// The epoch of a view that was issued and did not come here. A laptop that is
+    /// struck off has missed none.
+    fn missed_view(&self, group: &Group) -> Option<u32> {
+        let counts = group.laptop(self.number).view().contains(self.number);
+        (counts && self.heard > 0).then_some(self.heard)
     }
 
     /// The warden's view comes.
@@ -114,10 +124,9 @@ impl Hut {
         if group.change_view(self.number, epoch, view)?.is_err() {
             return Ok(());
         }
-        if self.heard <= epoch {
-            let since = self.missing.take();
-            self.missed.extend(since.map(|tick| group.now - tick));
-        }
+        self.heard = 0;
+        let since = self.missing.take();
+        self.missed.extend(since.map(|tick| group.now - tick));
         self.go_over(group)
     }
 
@@ -166,6 +175,7 @@ impl Hut {
         let handed = Arriving::new(Envelope { epoch, ..came }, m.body());
         let left = group.deliver_as(self.number, came, handed)?;
         Ok(Came {
+            sender: came.sender,
             epoch,
             record: came.record,
             left,
@@ -348,9 +358,10 @@ mod tests {
         for hut in [&mut one, &mut two] {
             hut.view_came(group, 1, view).expect("agreement");
         }
-        assert_eq!((one.missing, &one.missed[..]), (None, &[15][..]));
+        assert_eq!((one.heard, one.missing), (0, None));
+        assert_eq!(one.missed, [15]);
         one.packet_came(group, &inv).expect("agreement");
-        assert_eq!(one.missing, None);
+        assert_eq!((one.heard, one.missing), (0, None));
         // 2 had heard nothing.
         assert_eq!(two.missed, []);
         // Five packets came, of a message each, and this is what was counted.
@@ -359,6 +370,40 @@ mod tests {
         group.counts.packet(64);
         let counts = &group.counts;
         assert_eq!((counts.arrived, counts.walked), (69, 5 + 4096));
+    }
+
+    /// What counts of the epochs that 1 hears: damaged packets tell some that nobody
+    /// issued.
+    #[test]
+    fn the_last_greater_epoch_of_the_view_counts() {
+        let (mut group, [_, mut one, ..]) = huts::<5>();
+        let group = &mut group;
+        // A sender that is not in the view, and an epoch that is not greater.
+        one.hears(group, 5, 9);
+        one.hears(group, 0, 0);
+        assert_eq!((one.missed_view(group), one.missing), (None, None));
+        // The last one is kept, and the time of the first.
+        for (tick, sender, epoch) in [(10, 4, 77), (12, 0, 2), (13, 5, 9)] {
+            group.now = tick;
+            one.hears(group, sender, epoch);
+        }
+        assert_eq!((one.missed_view(group), one.missing), (Some(2), Some(10)));
+        // Any view that is accepted clears it; the next message brings it back.
+        group.now = 20;
+        one.view_came(group, 1, Members::from(0b0_1111))
+            .expect("agreement");
+        assert_eq!((one.missed_view(group), one.missing), (None, None));
+        one.hears(group, 4, 2);
+        assert_eq!(one.missed_view(group), None, "4 is struck off");
+        one.hears(group, 0, 2);
+        assert_eq!((one.missed_view(group), one.missing), (Some(2), Some(20)));
+        // Struck off itself, it has missed none.
+        group.now = 25;
+        one.view_came(group, 2, Members::from(0b0_1101))
+            .expect("agreement");
+        one.hears(group, 0, 3);
+        assert_eq!((one.missed_view(group), one.missing), (None, None));
+        assert_eq!(one.missed, [10, 5]);
     }
 
     /// 0's save reaches 1 alone, and 0 is struck off.

@@ -109,7 +109,8 @@ impl Report {
 
     /// Entries of packets that were looked at to take the messages out that came:
     /// each once to accept its packet and once to be taken. And how many it would
-    /// be, if at each message the whole packet were looked at.
+    /// be, if at each message the whole packet were looked at. Both are reckoned out
+    /// of the messages of each packet: nobody counts inside the engine.
     pub fn entries(&self) -> [u64; 2] {
         [2 * self.events.arrived, self.events.walked]
     }
@@ -214,6 +215,7 @@ impl Report {
         });
         let remark = "of the engine, refused ones too, for each save finished or replaced";
         line_of(f, "events a save", &events, remark)?;
+        // Reckoned, two for each message, and not counted.
         let [once, each] = self.entries().map(grouped);
         let packets = grouped(self.events.packets);
         let remark =

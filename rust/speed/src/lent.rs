@@ -2,7 +2,8 @@
 
 use std::array::from_fn;
 
-use cetskobi::sys::{self, Admission, Answer, Arrival, Message, Reading, Replica, Written};
+use cetskobi::sys::{self, Admission, Answer, Arrival, Fetched, Message, Reading};
+use cetskobi::sys::{Replica, Written};
 use cetskobi::Record;
 
 use crate::side::{Answers, Told};
@@ -57,6 +58,12 @@ impl Answers for Answer {
 impl Answers for Arrival {
     fn told(&self) -> Told {
         self.answer.told()
+    }
+}
+
+impl Answers for Fetched {
+    fn told(&self) -> Told {
+        (self.number, [self.index, self.version as usize, self.len])
     }
 }
 

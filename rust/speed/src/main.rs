@@ -1,7 +1,7 @@
 //! The engine's speed beside that of the C peer and of the model.
 //!
 //!     speed                              the table, in Markdown
-//!     speed flat                         no event's cost grows with the table
+//!     speed flat                         no event's cost grows with the table, no message's with the packet
 //!     speed calls NAME SIDE CALLS RECORDS     so many calls, for callgrind
 
 mod cases;
@@ -76,5 +76,6 @@ fn run(name: &str, side: &str, calls: &str, records: &str) -> Result<(), String>
         found: false,
     };
     cases::all(number(records)? as usize, &mut visit);
+    packets::taken(&mut visit);
     visit.found.then_some(()).ok_or(format!("no case {name}"))
 }

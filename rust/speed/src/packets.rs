@@ -2,7 +2,7 @@
 
 use std::hint::black_box;
 
-use cetskobi::sys::Message;
+use cetskobi::sys::{Accepted, Message};
 use model::packet::Entry;
 
 use crate::cases::{event, number, other, sent, Visit, ME, TEXT, VALID};
@@ -314,6 +314,75 @@ fn deliver_full(n: usize, visit: &mut impl Visit) {
                 let taken = |&k: &usize| matches!(black_box(deliver(k)), Ok((_, Ok(_))));
                 Ok((0..all.count()).filter(taken).count())
             },
+        },
+    );
+}
+
+/// One message of a packet that was accepted before: the only one of a packet of one, then the
+/// last of a full packet. They are the same message, about the last of 64 records.
+pub fn taken(visit: &mut impl Visit) {
+    const LEN: usize = 5;
+    let (one, all) = (Parcel::new(MOST, &[LEN]), full(MOST));
+    let about = |name, title, answer| About {
+        from: MOST - 1,
+        ..event(name, title, MOST, answer)
+    };
+    let fetched = (0, [MOST - 1, 8, LEN]);
+    let title = "fetch of the message of an accepted packet of one";
+    fetch_taken(about("fetch-of-1", title, fetched), &one, 0, visit);
+    let title = "fetch of the last message of an accepted full packet";
+    fetch_taken(about("fetch-of-64", title, fetched), &all, MOST - 1, visit);
+    let title = "delivery of the message of an accepted packet of one";
+    deliver_taken(about("deliver-of-1", title, sent(2, 8, 5)), &one, 0, visit);
+    let title = "delivery of the last message of an accepted full packet";
+    let last = about("deliver-of-64", title, sent(2, 8, 5));
+    deliver_taken(last, &all, MOST - 1, visit);
+}
+
+/// A packet, its facts and the number of a message there.
+type Taken = (Packet, Accepted, usize);
+type TakenPlain<'a> = (model::packet::Accepted<'a>, usize);
+
+fn fetch_taken(about: About, parcel: &Parcel, k: usize, visit: &mut impl Visit) {
+    let packet = parcel.packet();
+    visit.case(
+        about,
+        both!(by => On {
+            lent: (packet.clone(), by::accept(&packet), k),
+            prepare: |_: &mut _, _| (),
+            call: |(packet, all, k): &mut Taken, _| by::fetch_accepted(packet, *all, *k),
+        }),
+        || On {
+            lent: (model::packet::accept(&packet).expect("a packet"), k),
+            prepare: |_: &mut _, _| (),
+            call: |(all, k): &mut (_, usize), _| model::packet::Accepted::message(all, *k),
+        },
+    );
+}
+
+fn deliver_taken(about: About, parcel: &Parcel, k: usize, visit: &mut impl Visit) {
+    let n = about.records;
+    let packet = parcel.packet();
+    visit.case(
+        about,
+        both!(by => On {
+            lent: Lent::new(ME, n, VALID, (packet.clone(), by::accept(&packet), k)),
+            prepare: |e: &mut Lent<Taken>, i| e.set(i, VALID),
+            call: |e: &mut Lent<Taken>, _| {
+                let (packet, all, k) = &e.input;
+                by::deliver_accepted(e.me, &mut e.table, &mut e.store, packet, *all, *k)
+            },
+        }),
+        || {
+            let all = model::packet::accept(&packet).expect("a packet");
+            On {
+                lent: Plain::new(ME, n, VALID, (all, k)),
+                prepare: |m: &mut Plain<_>, i| m.table[i] = plain::record(VALID),
+                call: |m: &mut Plain<TakenPlain>, _| {
+                    let (all, k) = &m.input;
+                    all.deliver(&m.replica, &mut m.table, &mut m.store, *k)
+                },
+            }
         },
     );
 }

@@ -88,6 +88,16 @@ impl Answers for Result<(Envelope, engine::Answer), Refusal> {
     }
 }
 
+impl Answers for Result<(Envelope, &[u8]), Refusal> {
+    fn told(&self) -> Told {
+        let Ok((envelope, body)) = self else {
+            return (engine::number(self), [0; 3]);
+        };
+        let version = envelope.message.timestamp().version as usize;
+        (0, [envelope.record, version, body.len()])
+    }
+}
+
 impl Answers for Result<usize, Refusal> {
     fn told(&self) -> Told {
         let len = self.unwrap_or(0);
