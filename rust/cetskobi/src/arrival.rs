@@ -21,15 +21,18 @@ use crate::{Refusal, Reply};
 /// net.change_view(1, 0b011)?;
 /// let len = packet::pack([net.write(0, b"Wren")?], &mut bytes)?;
 ///
-/// let epoch = hut.epoch(); // before: an arrival borrows the laptop
-/// let mut newest = epoch;
+/// let (epoch, view) = (hut.epoch(), hut.view()); // before: an arrival borrows the laptop
+/// let mut heard = None;
 /// let mut messages = packet::messages(&bytes[..len])?;
 /// while let Some(arrival) = hut.deliver_next(&mut messages) {
-///     newest = newest.max(arrival.epoch());
+///     // A newer view is within this one, and so is its sender.
+///     if arrival.epoch() > epoch && view.contains(arrival.sender()) {
+///         heard = Some(arrival.epoch());
+///     }
 ///     assert_eq!((arrival.sender(), arrival.record()), (0, 0));
 ///     assert_eq!(arrival.reply(), Err(Refusal::OtherEpoch));
 /// }
-/// assert!(newest > epoch); // "a newer view was issued: ask the warden"
+/// assert_eq!(heard, Some(1)); // "a newer view was issued: ask the warden"
 ///
 /// // With that view, of which the warden gives both epoch and laptops, it takes
 /// // the message, once it comes again.
