@@ -69,11 +69,12 @@ fetchedOf (Refused k) = fetch.Refused k
 
 -- ---- what is claimed
 
--- Of every packet every message taken is the message fetched; `proofs/Accepting` proves this and what follows.
+-- "for every input the answer, message and body stay the same": of every packet every message taken by its own facts is the one fetched, and so
+-- is its body, which `bodyOf` has from it. `proofs/Accepting` proves this and what follows.
 abbrev pub TakenIsFetched : Type 0
 TakenIsFetched = (p : List ℕ) (i : ℕ) → fetchedOf (taken p (accepted p) i) ≡ fetched p i
 
--- "for every input the answer, message and body stay the same": what is taken is the fields of an entry that question 22 lets pass
+-- What is taken by a packet's own facts is the fields of an entry that question 22 lets pass: they are those of its message, every one.
 abbrev pub TakenIsGood : Type 0
 TakenIsGood = (p : List ℕ) (i : ℕ) (f : Fields) → taken p (accepted p) i ≡ Entry f → good f ≡ true
 
