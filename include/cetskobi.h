@@ -21,7 +21,7 @@
  * measured are some 250 bytes and some 60 KiB, and 3 KiB more where the loader looks for memset or memcpy at the first call (tests/c/stack.c).
  *
  * Versions. A version is major.minor.patch. Within one major version what is here stays: names, numbers, layouts, signatures, and what is
- * accepted and refused. A minor version may add functions, refusals (26 to 37 are announced), kinds and states: have a default for numbers
+ * accepted and refused. A minor version may add functions, refusals (27 to 37 are announced), kinds and states: have a default for numbers
  * that you do not know. While the major version is 0, a minor version may also change what is here; CHANGELOG.md says what. */
 #ifndef CETSKOBI_H
 #define CETSKOBI_H
@@ -116,6 +116,7 @@ enum {
     CETSKOBI_REFUSED_PACKET_INDEX = 23,    /* the packet has no message of that number */
     CETSKOBI_REFUSED_PACKET_MESSAGES = 24, /* there are not 1 to 64 messages, or the numbers or bytes of one do not fit */
     CETSKOBI_REFUSED_PACKET_ROOM = 25,     /* the packet would be longer than 1,400 bytes or than its room */
+    CETSKOBI_REFUSED_NOT_AS_OPENED = 26,   /* the record is not valid now, or no longer has the timestamp that it was opened with */
     CETSKOBI_REFUSED_PLAYER_ROOM = 255     /* the script is longer than 65,536 bytes or lacks room to print */
 };
 
@@ -139,6 +140,15 @@ struct cetskobi_message {
 /* 0 or the number of the question that said no; and how many bytes at 192 times the record's number are its value. */
 struct cetskobi_reading {
     uint8_t number;
+    size_t len;
+};
+
+/* 0 or the number of the question that said no; how many bytes at 192 times the record's number are its value; and its timestamp, which a
+ * commit brings back. A refused ask has no timestamp: version and tie are 0. */
+struct cetskobi_asked {
+    uint8_t number;
+    uint8_t tie;
+    uint32_t version;
     size_t len;
 };
 
@@ -206,7 +216,7 @@ struct cetskobi_admission {
 /* Events on record i. A message that leaves is about record i, from me.number at me.epoch as they were passed: who sends it later keeps
  * them with it, since a view may have changed me. A delivery takes the record's number and the bytes that came with its message: other
  * bytes, or none, are accepted too, and two laptops may then show different texts for one timestamp. cetskobi_deliver_packet and
- * cetskobi_deliver_accepted take both from the packet. What an accepted event sends: write and replay an INV, validate a VAL, resend an INV
+ * cetskobi_deliver_accepted take both from the packet. What an accepted event sends: write, commit and replay an INV, validate a VAL, resend an INV
  * or a VAL, deliver what stands there. */
 CETSKOBI_MUST_USE
 struct cetskobi_answer cetskobi_write(struct cetskobi_replica me, uint8_t *table, size_t table_len, uint8_t *store, size_t store_len,
@@ -236,6 +246,16 @@ struct cetskobi_answer cetskobi_resend(struct cetskobi_replica me, uint8_t *tabl
 CETSKOBI_MUST_USE
 struct cetskobi_reading cetskobi_read(struct cetskobi_replica me, const uint8_t *table, size_t table_len, const uint8_t *store,
                                       size_t store_len, size_t i);
+
+/* Ask for a record, then save it. A ringer opens a record: cetskobi_ask answers as cetskobi_read does, and with it the record's timestamp.
+ * She saves over what she saw: cetskobi_commit brings that timestamp back, and is a write if the record here is still valid with it.
+ * Otherwise it is refused by 26, and nothing is overwritten: ask again, and show her what stands there now. */
+CETSKOBI_MUST_USE
+struct cetskobi_asked cetskobi_ask(struct cetskobi_replica me, const uint8_t *table, size_t table_len, const uint8_t *store,
+                                   size_t store_len, size_t i);
+CETSKOBI_MUST_USE
+struct cetskobi_answer cetskobi_commit(struct cetskobi_replica me, uint8_t *table, size_t table_len, uint8_t *store, size_t store_len,
+                                       size_t i, uint32_t version, uint8_t tie, const uint8_t *value, size_t value_len);
 
 /* A change of view, which touches no record. */
 CETSKOBI_MUST_USE

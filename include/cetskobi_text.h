@@ -33,6 +33,7 @@ static inline const char *cetskobi_meaning(uint8_t number) {
     case CETSKOBI_REFUSED_PACKET_INDEX: return "the packet has no message of that number";
     case CETSKOBI_REFUSED_PACKET_MESSAGES: return "there are not 1 to 64 messages, or the numbers or bytes of one do not fit";
     case CETSKOBI_REFUSED_PACKET_ROOM: return "the packet would be longer than 1,400 bytes or than its room";
+    case CETSKOBI_REFUSED_NOT_AS_OPENED: return "the record is not valid now, or no longer has the timestamp that it was opened with";
     case CETSKOBI_REFUSED_PLAYER_ROOM: return "the script is longer than 65,536 bytes or lacks room to print";
     default: return "unknown refusal";
     }

@@ -14,8 +14,8 @@
 
 use crate::sys;
 
-pub use crate::sys::{Accepted, Admission, Answer, Arrival, Fetched, Message, Played, Reading};
-pub use crate::sys::{Replica, Written};
+pub use crate::sys::{Accepted, Admission, Answer, Arrival, Asked, Fetched, Message, Played};
+pub use crate::sys::{Reading, Replica, Written};
 pub use crate::sys::{GONE, MESSAGE_WORDS, RECORD_BYTES};
 
 /// Fresh start: table and store become those of fresh records, unless it is
@@ -44,6 +44,31 @@ pub fn write(me: Replica, table: &mut [u8], store: &mut [u8], i: usize, value: &
     let (t, t_len, s, s_len) = parts_mut(table, store);
     // SAFETY: three slices; the two that are written are borrowed mutably, so apart from all.
     unsafe { sys::cetskobi_write(me, t, t_len, s, s_len, i, value.as_ptr(), value.len()) }
+}
+
+/// Ask for record `i`: what [`read`] answers, and the record's timestamp. A
+/// refused ask has none: version and tie-breaker are 0.
+pub fn ask(me: Replica, table: &[u8], store: &[u8], i: usize) -> Asked {
+    let (t, t_len, s, s_len) = parts(table, store);
+    // SAFETY: two slices that are only read.
+    unsafe { sys::cetskobi_ask(me, t, t_len, s, s_len, i) }
+}
+
+/// Commit of a value to record `i`: a write, if the record is still valid with
+/// this timestamp.
+pub fn commit(
+    me: Replica,
+    table: &mut [u8],
+    store: &mut [u8],
+    i: usize,
+    version: u32,
+    tie: u8,
+    value: &[u8],
+) -> Answer {
+    let (t, t_len, s, s_len) = parts_mut(table, store);
+    let (v, v_len) = (value.as_ptr(), value.len());
+    // SAFETY: three slices; the two that are written are borrowed mutably, so apart from all.
+    unsafe { sys::cetskobi_commit(me, t, t_len, s, s_len, i, version, tie, v, v_len) }
 }
 
 /// Delivery of a message about record `i`, with the bytes that came along. An ACK

@@ -5,7 +5,7 @@ use std::fmt;
 
 /// Why an event or a packet was refused: the first question of document 01
 /// whose answer is no. A refused event has changed nothing. Later versions may
-/// have more: document 02 announces 26 to 37.
+/// have more: document 02 announces 27 to 37.
 #[derive(Clone, Copy, Debug, PartialEq, Eq, Hash, PartialOrd, Ord)]
 #[non_exhaustive]
 #[repr(u8)]
@@ -64,6 +64,9 @@ pub enum Refusal {
     PacketMessages = 24,
     /// 25: the packet is longer than 1,400 bytes or than its room.
     PacketRoom = 25,
+    /// 26: a commit on a record that is not valid, or whose timestamp is another
+    /// than the one that it was opened with.
+    NotAsOpened = 26,
     /// A script that is longer than the player takes, or has too little room to
     /// print. No question of document 01, so its number, 255, is none there.
     PlayerRoom = 255,
@@ -97,6 +100,7 @@ impl Refusal {
         Refusal::PacketIndex,
         Refusal::PacketMessages,
         Refusal::PacketRoom,
+        Refusal::NotAsOpened,
         Refusal::PlayerRoom,
     ];
 
@@ -171,6 +175,10 @@ impl Refusal {
                 "there are not 1 to 64 messages, or the numbers or bytes of one do not fit"
             }
             Refusal::PacketRoom => "the packet would be longer than 1,400 bytes or than its room",
+            Refusal::NotAsOpened => {
+                "the record is not valid now, or no longer has the timestamp that \
+                 it was opened with"
+            }
             Refusal::PlayerRoom => "the script is longer than 65,536 bytes or lacks room to print",
         }
     }

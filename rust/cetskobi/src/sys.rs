@@ -66,6 +66,21 @@ pub struct Reading {
     pub len: usize,
 }
 
+/// 0 or the number of the question that said no; of an accepted ask the length of
+/// the value, and the timestamp that a commit brings back.
+#[repr(C)]
+#[derive(Clone, Copy, Debug, PartialEq, Eq)]
+pub struct Asked {
+    /// 0, or the number of the question that said no.
+    pub number: u8,
+    /// The tie-breaker of the record's timestamp; 0 of a refused ask.
+    pub tie: u8,
+    /// The version of the record's timestamp; 0 of a refused ask.
+    pub version: u32,
+    /// The length of the value, which begins at 192 times the record's number.
+    pub len: usize,
+}
+
 /// 0 or the number of the question that said no; and the identity from then on.
 #[repr(C)]
 #[derive(Clone, Copy, Debug, PartialEq, Eq)]
@@ -157,6 +172,10 @@ unsafe extern "C" {
     pub fn cetskobi_read(me: Replica, table: *const u8, table_len: usize, store: *const u8, store_len: usize, i: usize) -> Reading;
     /// Write of a value to record i: see [`Laptop::write`](crate::Laptop::write).
     pub fn cetskobi_write(me: Replica, table: *mut u8, table_len: usize, store: *mut u8, store_len: usize, i: usize, value: *const u8, value_len: usize) -> Answer;
+    /// Ask for record i: see [`Laptop::ask`](crate::Laptop::ask).
+    pub fn cetskobi_ask(me: Replica, table: *const u8, table_len: usize, store: *const u8, store_len: usize, i: usize) -> Asked;
+    /// Commit of a value to record i, on the timestamp that an ask gave: see [`Laptop::commit`](crate::Laptop::commit).
+    pub fn cetskobi_commit(me: Replica, table: *mut u8, table_len: usize, store: *mut u8, store_len: usize, i: usize, version: u32, tie: u8, value: *const u8, value_len: usize) -> Answer;
     /// Delivery of a message about record i: see [`Laptop::deliver`](crate::Laptop::deliver).
     pub fn cetskobi_deliver(me: Replica, table: *mut u8, table_len: usize, store: *mut u8, store_len: usize, i: usize, message: Message, value: *const u8, value_len: usize) -> Answer;
     /// Replay of record i: see [`Laptop::replay`](crate::Laptop::replay).
