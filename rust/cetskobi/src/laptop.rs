@@ -3,8 +3,8 @@
 use std::fmt;
 
 use crate::sys::{self, Accepted, Answer, RECORD_BYTES};
-use crate::{packet, raw, Arrival, Arriving, Envelope, Leaving, Members, Message, Record};
-use crate::{Refusal, Replica, Reply};
+use crate::{packet, raw, Arrival, Arriving, Envelope, Leaving, Members, Message, NotCommitted};
+use crate::{Opened, Record, Refusal, Replica, Reply, Timestamp};
 
 /// A laptop on memory that the caller lends: [`Laptop::start_in`] and
 /// [`Laptop::from_parts`].
@@ -70,7 +70,56 @@ impl<T: AsMut<[u8]>, S: AsMut<[u8]>> Laptop<T, S> {
         Ok(Laptop { me, table, store })
     }
 
-    /// Saves a value as record `i`. An INV leaves, with the value.
+    /// Saves a value over what [`ask`](Laptop::ask) opened, if the record here is
+    /// still valid with the timestamp that it had then: this laptop took no newer
+    /// save between. An INV leaves, with the value.
+    ///
+    /// Two laptops may both commit on one timestamp, as two may write: then the
+    /// save with the greater new timestamp stands.
+    ///
+    /// ```
+    /// use cetskobi::{Laptop, Refusal};
+    ///
+    /// # fn main() -> Result<(), Refusal> {
+    /// # let mut net = Laptop::start(0, 0b11, 1)?;
+    /// # let mut hut = Laptop::start(1, 0b11, 1)?;
+    /// // Two ringers open the ring; the first saves over what she saw.
+    /// let seen = net.ask(0)?;
+    /// let also = hut.ask(0)?;
+    /// let inv = net.commit(seen, b"Wren, wing 48")?;
+    /// let ack = hut.deliver(inv.arriving())?.leaving();
+    /// # let ack = ack.expect("an INV is acknowledged").into_owned();
+    /// # let val = net.deliver(ack.arriving())?.leaving();
+    /// # let val = val.expect("1 was the last").into_owned();
+    /// # assert_eq!(hut.deliver(val.arriving())?.leaving(), None);
+    ///
+    /// // The second would save over a text that he never saw, and is told so.
+    /// let no = hut.commit(also, b"Wren, weight 9.5").unwrap_err();
+    /// assert_eq!(no.refusal(), Refusal::NotAsOpened);
+    /// let seen = hut.ask(0)?;
+    /// assert_eq!(seen.text(), b"Wren, wing 48");
+    /// let inv = hut.commit(seen, b"Wren, wing 48, weight 9.5")?;
+    /// assert_eq!(inv.body(), b"Wren, wing 48, weight 9.5");
+    /// # Ok(())
+    /// # }
+    /// ```
+    ///
+    /// # Errors
+    ///
+    /// Questions 1 to 5, then [`NotAsOpened`](Refusal::NotAsOpened),
+    /// [`ValueTooLong`](Refusal::ValueTooLong), [`LastVersion`](Refusal::LastVersion).
+    /// The error has what was opened, for another try.
+    pub fn commit(&mut self, opened: Opened, value: &[u8]) -> Result<Leaving<'_>, NotCommitted> {
+        let lent = self.lent();
+        let (i, Timestamp { version, tie }) = (opened.record, opened.timestamp);
+        let answer = raw::commit(lent.me, lent.table, lent.store, i, version, tie, value);
+        lent.left(i, answer)
+            .map_err(|refusal| NotCommitted { refusal, opened })
+    }
+
+    /// Saves a value as record `i`, whatever stands there. An INV leaves, with the
+    /// value. To save over a text that a ringer has seen, [`ask`](Laptop::ask) and
+    /// [`commit`](Laptop::commit).
     ///
     /// # Errors
     ///
@@ -341,6 +390,23 @@ impl<T: AsRef<[u8]>, S: AsRef<[u8]>> Laptop<T, S> {
         let read = raw::read(self.me, self.table(), self.store(), i);
         Refusal::check(read.number)?;
         Ok(part(self.store(), i, read.len))
+    }
+
+    /// Opens record `i`: its value, and the timestamp that [`commit`](Laptop::commit)
+    /// brings back. Nothing changes.
+    ///
+    /// # Errors
+    ///
+    /// As [`read`](Laptop::read).
+    pub fn ask(&self, i: usize) -> Result<Opened, Refusal> {
+        let asked = raw::ask(self.me, self.table(), self.store(), i);
+        Refusal::check(asked.number)?;
+        let (version, tie) = (asked.version, asked.tie);
+        Ok(Opened {
+            record: i,
+            timestamp: Timestamp { version, tie },
+            text: part(self.store(), i, asked.len).to_vec(),
+        })
     }
 
     /// The table: 16 bytes for each record.

@@ -4,12 +4,14 @@
 //! protocol with membership epochs, over a radio link that loses, repeats and
 //! holds back messages. The engine behind this crate is written in Rattle and
 //! proved: for every input the answer, the records and the store are what
-//! document 01 says, with Wishes 1, 2 and 4 of document 02. This crate calls it with
+//! document 01 says, with Wishes 1, 2, 4 and 5 of document 02. This crate calls it with
 //! Rust's types and adds no rule.
 //!
 //! * [`Laptop`] is one laptop with its records. Each event on it is accepted,
 //!   with what leaves, or refused with its [`Refusal`]; a refused event has
 //!   changed nothing.
+//! * [`Laptop::ask`] opens a record, and [`Laptop::commit`] saves over what was
+//!   [`Opened`], if the record is still as it was opened.
 //! * [`Leaving`] is what leaves an event: a message, its bytes and who gets it.
 //!   [`Arriving`] is what comes in.
 //! * [`packet`] puts messages into the bytes that go on air, and takes them out.
@@ -62,6 +64,7 @@ mod laptop;
 mod leaving;
 mod members;
 mod message;
+mod opened;
 pub mod packet;
 mod player;
 pub mod raw;
@@ -75,6 +78,7 @@ pub use laptop::{Laptop, Lent};
 pub use leaving::{Leaving, Reply};
 pub use members::{Members, NumberTooLarge};
 pub use message::{Envelope, Message};
+pub use opened::{NotCommitted, Opened};
 pub use player::{play, SCRIPT_MAX};
 pub use record::{Record, State, Timestamp};
 pub use refusal::Refusal;
