@@ -130,7 +130,7 @@ module _ (wins : ℕ → ℕ → Bool) (ord : TieOrder wins) (member : ℕ → B
   run-ok g ok [] c = ok
   run-ok g ok (a ∷ rest) c = run-ok (advance wins g a) (next-ok g ok a (c .0) (c .1)) rest (c .2)
 
-  run-rises : (g : Group) → Ok g → (entries : List Entry) → Entries member issued entries → (i m : ℕ) → NotAfter wins (copies i g m .timestamp) (copies i (run wins g entries) m .timestamp)
+  pub run-rises : (g : Group) → Ok g → (entries : List Entry) → Entries member issued entries → (i m : ℕ) → NotAfter wins (copies i g m .timestamp) (copies i (run wins g entries) m .timestamp)
   run-rises g ok [] c i m = notAfter-refl wins (copies i g m .timestamp)
   run-rises g ok (a ∷ rest) c i m =
       notAfter-trans wins ord (rises (setting wins issued) ord (one-step g ok a (c .0) (c .1) i) m) (run-rises (advance wins g a) (next-ok g ok a (c .0) (c .1)) rest (c .2) i m)

@@ -1,8 +1,8 @@
 -- What every accepted event keeps of its record holds along every list of entries. Here is what an event makes of its record, case by case, and the
 -- record that a list begins with; who has shown that the cases keep something need not look at lists.
 use Prim.Native.Nat.{ℕ, zero, suc, _+_, _<_}
-use mathlib.Core.Path.{_≡_, refl, sym}
-use mathlib.Core.Bool.{Bool, true, false}
+use mathlib.Core.Path.{_≡_, refl, sym, subst}
+use mathlib.Core.Bool.{Bool, true, false, false≢true}
 use mathlib.Core.Logic.{_≢_}
 use mathlib.Core.List.{List, [], _∷_}
 use native.Mathlib.Omega.{arith}
@@ -11,21 +11,23 @@ use lib.ListN.{length, getD-replicate}
 use borrow.Author.Tests.{eqb-false}
 use Rattle.hermes_record.specs.declared.timestamp.Timestamp.{Timestamp}
 use Rattle.hermes_record.specs.declared.record.Record.{Record}
+use Rattle.hermes_record.specs.declared.record.State.{State}
+use Rattle.hermes_record.specs.declared.record.State.the-variants as state
 use Rattle.hermes.specs.declared.message.Message.{Message}
 use Rattle.hermes.specs.declared.message.Message.the-variants.{Inv, Ack, Val}
 use Rattle.hermes.specs.declared.event.Replica.{Replica}
 use Rattle.hermes.specs.declared.event.Event.{Event}
-use Rattle.hermes.specs.declared.event.Event.the-variants.{Read, Write, Replay, Deliver, Validate, Resend}
+use Rattle.hermes.specs.declared.event.Event.the-variants.{Read, Ask, Write, Commit, Replay, Deliver, Validate, Resend}
 use Rattle.hermes_record.specs.Members.{lowest}
 use Rattle.hermes_record.specs.Order.{later}
-use Rattle.hermes_record.specs.Record.{nextVersion, writtenBy, replayed, invalidated, acknowledged, validated, freshRecord}
+use Rattle.hermes_record.specs.Record.{oneOf, nextVersion, writtenBy, replayed, invalidated, acknowledged, validated, freshRecord}
 use Rattle.hermes.specs.Guards.{AllYes, firstNo, question1}
 use Rattle.hermes.specs.Event.{Step, own, invStep, ackStep, completes, deliverStep, step}
 use Rattle.hermes.specs.Node.{Node, Outcome, recordOf, apply, identity, admissionOf, viewQuestions, view, viewed}
 use Rattle.hermes.specs.Run as run
 use Rattle.hermes.specs.Run.{Action, Entry, Group, Found, find, received, nodeAfter, perform, delivery, result, advance}
 use Rattle.hermes.specs.Agreement.{FreshStart, Started, after}
-use Rattle.hermes.proofs.Guards.{deliver-own}
+use Rattle.hermes.proofs.Guards.{deliver-own, replay-own}
 use Rattle.hermes.proofs.Steps.{next-version}
 use Rattle.hermes.proofs.Apply.{stepOf, done, Applied, refused, accepted, applied, its-own}
 use Rattle.hermes.proofs.Start.{Begun, begun}
@@ -48,7 +50,7 @@ fresh-record member count issued g s i k l m = rw (f .tableAfter, b .tableAfter)
 pub data Becomes (wins : ℕ → ℕ → Bool) (me : Replica) (r b : Record) : Type 0 where
   same : b ≡ r → Becomes wins me r b
   writes : (n : ℕ) → nextVersion (r .timestamp .version) ≡ r .timestamp .version + 1 → b ≡ writtenBy r (me .number) n → Becomes wins me r b
-  replays : b ≡ replayed r (me .number) → Becomes wins me r b
+  replays : r .state ≢ state.Valid → b ≡ replayed r (me .number) → Becomes wins me r b
   invalidates : (t : Timestamp) (sender n : ℕ) → later wins t (r .timestamp) ≡ true → sender ≢ me .number → b ≡ invalidated r t sender n → Becomes wins me r b
   counts : (sender : ℕ) → completes me r sender ≡ false → b ≡ acknowledged r sender → Becomes wins me r b
   settles : (sender : ℕ) → b ≡ validated (acknowledged r sender) → Becomes wins me r b
@@ -70,8 +72,11 @@ module _ (wins : ℕ → ℕ → Bool) (me : Replica) (i : ℕ) (r : Record) (v 
 
   becomes : (e : Event) → AllYes (own me r e (length v)) → Becomes wins me r (step wins me i r e v .after)
   becomes Read y = same refl
+  becomes Ask y = same refl
   becomes Write y = writes (length v) (next-version (r .timestamp .version) (y .1 .1 .0)) refl
-  becomes Replay y = replays refl
+  becomes (Commit t) y = writes (length v) (next-version (r .timestamp .version) (y .1 .1 .0)) refl
+  becomes Replay y =
+      replays (λ e. false≢true (subst (λ (s : State). oneOf s (state.Invalid ∷ state.InvalidWrite ∷ []) ≡ true) e (replay-own me r (length v) y .invalidated))) refl
   becomes (Deliver m) y = delivered (m .sender) (m .message) (eqb-false _ _ (deliver-own me r m (length v) y .other))
   becomes Validate y = validates refl
   becomes Resend y = same refl
@@ -103,7 +108,9 @@ module _ (wins : ℕ → ℕ → Bool) (i : ℕ) (P : Replica → Record → Typ
 
   entry-keeps : (a : Action) (log : List run.Logged) (n : Node) → Fine a → Holds n → Holds (nodeAfter (perform wins a log n) n)
   entry-keeps (run.read j) log n f = event-keeps n j Read []
+  entry-keeps (run.ask j) log n f = event-keeps n j Ask []
   entry-keeps (run.write j v) log n f = event-keeps n j Write v
+  entry-keeps (run.commit j t v) log n f = event-keeps n j (Commit t) v
   entry-keeps (run.replay j) log n f = event-keeps n j Replay []
   entry-keeps (run.deliver k) log n f = go (find log k)
     where

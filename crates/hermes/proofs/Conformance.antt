@@ -18,25 +18,25 @@ use Rattle.hermes.specs.declared.message.Message.the-variants.{Inv, Ack,
 use Rattle.hermes.specs.declared.message.Outgoing.the-variants.{None}
 use Rattle.hermes.specs.declared.event.Replica.{Replica}
 use Rattle.hermes.specs.declared.event.Event.{Event}
-use Rattle.hermes.specs.declared.event.Event.the-variants.{Read, Write, Replay, Deliver, Validate, Resend}
+use Rattle.hermes.specs.declared.event.Event.the-variants.{Read, Ask, Write, Commit, Replay, Deliver, Validate, Resend}
 use Rattle.hermes.specs.declared.event.Admission.the-variants.{Admitted}
 use Rattle.hermes_record.specs.Members.{has, lowest, othersIn}
 use Rattle.hermes_record.specs.Order.{higher, later, sameTimestamp}
 use Rattle.hermes_record.specs.Record.{oneOf, invalidatedState, acknowledged, freshRecord}
 use Rattle.hermes.specs.Store.{slot}
-use Rattle.hermes.specs.Guards.{Question, AllYes, ask, firstNo, question1, question3, question8, question12, question15, question16}
-use Rattle.hermes.specs.Event.{Step, invStep, ackStep, completes, resent, numberOf, answerOf, sentBy}
+use Rattle.hermes.specs.Guards.{Question, AllYes, ask, firstNo, question1, question3, question8, question9, question12, question15, question16}
+use Rattle.hermes.specs.Event.{Step, writeStep, invStep, ackStep, completes, resent, numberOf, answerOf, sentBy}
 use Rattle.hermes.specs.Node.{Node, Outcome, recordOf, leaving, apply, newcomer, startQuestions, start, view, viewed, viewQuestions, admissionOf, admissionNumber}
 use Rattle.hermes.specs.Frame.{bytesAfter, Changed}
 use Rattle.hermes.specs.Locality.{body}
 use Rattle.hermes.specs.Source as source
-use Rattle.hermes.specs.Source.{Vars, Sending, In, HInit, HReadGuard, HWriteGuard, HReplayWriteWidenedGuard, HRcvInvGuard, HRcvInv, HRcvAckGuard, HRcvAckThenSendVals, HRcvValGuard, HSendValsGuard, NodeFailureGuard, ResendGuard, Resent, sendInv}
+use Rattle.hermes.specs.Source.{Vars, Sending, In, HInit, HReadGuard, HWriteGuard, HCommitGuard, HReplayWriteWidenedGuard, HRcvInvGuard, HRcvInv, HRcvAckGuard, HRcvAckThenSendVals, HRcvValGuard, HSendValsGuard, NodeFailureGuard, ResendGuard, Resent, sendInv}
 use Rattle.hermes.specs.Conformance.{varsOf, fiveAnd, delivered, message, Follows, ViewFollows, StartFollows, Demand2By, Demand2}
 use Rattle.hermes_record.proofs.Tests.{both, and-both, is-false, or-true}
 use Rattle.hermes.proofs.Members.{has-zero, within-members, members-within, every-other, others-every, adds-sender}
 use Rattle.hermes_record.proofs.Order.{later-greater, greater-later}
 use Rattle.hermes.proofs.Store.{value-slot, take-padded}
-use Rattle.hermes.proofs.Guards.{DeliverOwn, ReplayOwn, ResendOwn, read-own, write-own, deliver-own, replay-own, resend-own, view-later, view-inside, all-yes, none-says-no}
+use Rattle.hermes.proofs.Guards.{DeliverOwn, ReplayOwn, ResendOwn, read-own, write-own, commit-own, deliver-own, replay-own, resend-own, view-later, view-inside, all-yes, none-says-no}
 use Rattle.hermes.proofs.Steps.{next-version, step-about}
 use Rattle.hermes.proofs.Apply.{passed-zero, questionsOf, ownOf, stepOf, done, Applied, refused, accepted, applied, first-five, its-own, sound-step}
 use Rattle.hermes.proofs.Words.{one-in, in-one, is-state, state-is, equal-ts, ts-same, Two, size-two, two-size}
@@ -158,6 +158,19 @@ module _ (me : Replica) (r : Record) (b : List ℕ) where
   replays-may (inl (e, dead)) = and-both _ _ (in-one (r .state) (state.Invalid ∷ state.InvalidWrite ∷ []) (inl e)) (ap not (is-false (has (me .view) (r .writer)) dead))
   replays-may (inr (e, dead)) = and-both _ _ (in-one (r .state) (state.Invalid ∷ state.InvalidWrite ∷ []) (inr (inl e))) (ap not (is-false (has (me .view) (r .writer)) dead))
 
+-- a write's step, below the greatest version
+write-does : (me : Replica) (i : ℕ) (r : Record) (b v : List ℕ) → question9 r .yes ≡ true
+    → source.HWrite me i v (seen r b) (stepVars (writeStep me i r v) b) (stepSends (writeStep me i r v) b)
+write-does me i r b v h = record {
+  nodeRcvdAcks = has-zero;
+  nodeLastWriter = refl;
+  nodeState = refl;
+  nodeTS = ap (λ (x : ℕ). record { version = x; tie = me .number }) (next-version (r .timestamp .version) h);
+  nodeLastWriteTS = ap (λ (x : ℕ). record { version = x; tie = me .number }) (next-version (r .timestamp .version) h);
+  value = take-padded v;
+  send = refl;
+}
+
 module _ (wins : ℕ → ℕ → Bool) (n : Node) (i : ℕ) (v : List ℕ) where
   follows-read : Follows wins n i Read v (fiveAnd n i []) HReadGuard source.HRead
   follows-read = follows wins n i Read v (fiveAnd n i []) HReadGuard source.HRead
@@ -171,15 +184,21 @@ module _ (wins : ℕ → ℕ → Bool) (n : Node) (i : ℕ) (v : List ℕ) where
       (five wins n i Write v (question8 (length v) ∷ []) y (its-own n i Write v y .1 .0, tt), (one-in (recordOf i n .state) (state.Valid ∷ state.Invalid ∷ []) (o .idle), o .below)))
       (λ g. back wins n i Write v (question8 (length v) ∷ []) (g .0)
       (in-one (recordOf i n .state) (state.Valid ∷ state.Invalid ∷ []) (g .1 .0), (g .0 .1 .1 .1 .1 .1 .0, (lt-ltb (recordOf i n .timestamp .version) 4294967295 (g .1 .1), tt))))
-      (λ y. record {
-        nodeRcvdAcks = has-zero;
-        nodeLastWriter = refl;
-        nodeState = refl;
-        nodeTS = ap (λ (x : ℕ). record { version = x; tie = n .me .number }) (next-version (recordOf i n .timestamp .version) (its-own n i Write v y .1 .1 .0));
-        nodeLastWriteTS = ap (λ (x : ℕ). record { version = x; tie = n .me .number }) (next-version (recordOf i n .timestamp .version) (its-own n i Write v y .1 .1 .0));
-        value = take-padded v;
-        send = refl;
-      })
+      (λ y. write-does (n .me) i (recordOf i n) (slot i (n .store)) v (its-own n i Write v y .1 .1 .0))
+
+  follows-ask : Follows wins n i Ask v (fiveAnd n i []) HReadGuard source.HRead
+  follows-ask = follows wins n i Ask v (fiveAnd n i []) HReadGuard source.HRead
+      (λ y. (five wins n i Ask v [] y tt, is-state (recordOf i n .state) state.Valid (its-own n i Ask v y .0)))
+      (λ g. back wins n i Ask v [] (g .0) (state-is (recordOf i n .state) state.Valid (g .1), tt))
+      (λ y. record { unchanged = refl; send = refl })
+
+  follows-commit : (t : Timestamp) → Follows wins n i (Commit t) v (fiveAnd n i (question8 (length v) ∷ [])) (HCommitGuard t) (source.HWrite (n .me) i v)
+  follows-commit t = follows wins n i (Commit t) v (fiveAnd n i (question8 (length v) ∷ [])) (HCommitGuard t) (source.HWrite (n .me) i v)
+      (λ y. let o = commit-own (n .me) (recordOf i n) t (length v) (its-own n i (Commit t) v y) in
+      (five wins n i (Commit t) v (question8 (length v) ∷ []) y (its-own n i (Commit t) v y .1 .0, tt), (is-state (recordOf i n .state) state.Valid (o .valid), equal-ts (o .current), o .below)))
+      (λ g. back wins n i (Commit t) v (question8 (length v) ∷ []) (g .0)
+      (and-both _ _ (state-is (recordOf i n .state) state.Valid (g .1 .0)) (ts-same t (recordOf i n .timestamp) (g .1 .1)), (g .0 .1 .1 .1 .1 .1 .0, (lt-ltb (recordOf i n .timestamp .version) 4294967295 (g .1 .2), tt))))
+      (λ y. write-does (n .me) i (recordOf i n) (slot i (n .store)) v (its-own n i (Commit t) v y .1 .1 .0))
 
   follows-replay : Follows wins n i Replay v (fiveAnd n i []) (HReplayWriteWidenedGuard (n .me)) (source.HReplayWrite (n .me) i)
   follows-replay = follows wins n i Replay v (fiveAnd n i []) (HReplayWriteWidenedGuard (n .me)) (source.HReplayWrite (n .me) i)
@@ -398,7 +417,9 @@ unfolding valOwn
 conformance-by wins = record {
   start = start-follows;
   read = follows-read wins;
+  ask = follows-ask wins;
   write = follows-write wins;
+  commit = λ n i t v. follows-commit wins n i v t;
   replay = follows-replay wins;
   inv = follows-inv wins;
   ack = follows-ack wins;

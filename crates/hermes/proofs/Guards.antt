@@ -1,9 +1,9 @@
 -- What it says that no question of an event says no, as named fields.
 use Prim.Native.Nat.{ℕ, _+_, _*_, _≤_, _<_}
-use mathlib.Core.Path.{_≡_, refl}
-use mathlib.Core.Bool.{Bool, true, false, cond, not, _&&_}
+use mathlib.Core.Path.{_≡_, refl, sym, _∙_}
+use mathlib.Core.Bool.{Bool, true, false, cond, not, _&&_, false≢true}
 use mathlib.Core.List.{List, [], _∷_}
-use mathlib.Core.Logic.{_⊎_, inl, inr}
+use mathlib.Core.Logic.{_⊎_, inl, inr, _≢_}
 use native.Mathlib.Omega.{arith}
 use lib.Dec.{ltb, leb, eqb}
 use borrow.Author.Tests.{ltb-true, leb-true, eqb-true, not-true}
@@ -15,7 +15,7 @@ use Rattle.hermes.specs.declared.message.Message.the-variants.{Inv, Ack,
 use Rattle.hermes.specs.declared.message.Received.{Received}
 use Rattle.hermes.specs.declared.event.Replica.{Replica}
 use Rattle.hermes.specs.declared.event.Event.{Event}
-use Rattle.hermes.specs.declared.event.Event.the-variants.{Read, Write, Replay, Deliver, Validate, Resend}
+use Rattle.hermes.specs.declared.event.Event.the-variants.{Read, Ask, Write, Commit, Replay, Deliver, Validate, Resend}
 use Rattle.hermes_record.specs.Members.{has, size, othersIn, within}
 use Rattle.hermes_record.specs.Order.{sameTimestamp}
 use Rattle.hermes_record.specs.Record.{oneOf}
@@ -44,6 +44,20 @@ pub none-says-no : (qs : List Question) → AllYes qs → firstNo qs ≡ 0
 none-says-no [] y = refl
 none-says-no (q ∷ qs) (y, ys) = rw (y, none-says-no qs ys)
 
+-- where every question says yes or has another number, that number is not answered
+abbrev pub Otherwise : ℕ → List Question → Type 0
+Otherwise k [] = Unit
+Otherwise k (q ∷ qs) = ((q .yes ≡ true) ⊎ (q .number ≢ k)) × Otherwise k qs
+
+pub other-number : (k : ℕ) (qs : List Question) → Otherwise k qs → k ≢ 0 → firstNo qs ≢ k
+other-number k [] o z = λ e. z (sym e)
+other-number k (q ∷ qs) (o, os) z = go (q .yes) refl o (other-number k qs os z)
+  where
+    go : (b : Bool) → q .yes ≡ b → (q .yes ≡ true) ⊎ (q .number ≢ k) → firstNo qs ≢ k → cond b (firstNo qs) (q .number) ≢ k
+    go true y o rest = rest
+    go false y (inl t) rest = absurd (false≢true (sym y ∙ t))
+    go false y (inr d) rest = d
+
 -- the numbers of an event's questions are above 0
 pub positive-kind : (m : Message) (sender : ℕ) (r : Record) → positive (ofKind m sender r) ≡ true
 positive-kind (Inv t) sender r = refl
@@ -52,7 +66,9 @@ positive-kind (Val t) sender r = refl
 
 pub positive-own : (me : Replica) (r : Record) (e : Event) (n : ℕ) → positive (own me r e n) ≡ true
 positive-own me r Read n = refl
+positive-own me r Ask n = refl
 positive-own me r Write n = refl
+positive-own me r (Commit t) n = refl
 positive-own me r Replay n = refl
 positive-own me r (Deliver m) n = positive-kind (m .message) (m .sender) r
 positive-own me r Validate n = refl
@@ -114,6 +130,12 @@ pub record WriteOwn (r : Record) (n : ℕ) : Type 0 where
   pub fits : n ≤ 192
   pub below : r .timestamp .version < 4294967295
 
+pub record CommitOwn (t : Timestamp) (r : Record) (n : ℕ) : Type 0 where
+  pub valid : oneOf (r .state) (state.Valid ∷ []) ≡ true
+  pub current : t ≡ r .timestamp
+  pub fits : n ≤ 192
+  pub below : r .timestamp .version < 4294967295
+
 -- question 13 of an acknowledgement, 14 of a validation
 abbrev pub KindOwn : Message → ℕ → Record → Type 0
 KindOwn (Inv t) sender r = Unit
@@ -146,6 +168,11 @@ module _ (me : Replica) (r : Record) where
 
   pub write-own : (n : ℕ) → AllYes (own me r Write n) → WriteOwn r n
   write-own n y = record { idle = y .0; fits = leb-true _ _ (y .1 .0); below = ltb-true _ _ (y .1 .1 .0) }
+
+  pub commit-own : (t : Timestamp) (n : ℕ) → AllYes (own me r (Commit t) n) → CommitOwn t r n
+  commit-own t n y =
+      let (p, q) = both (oneOf (r .state) (state.Valid ∷ [])) (sameTimestamp t (r .timestamp)) (y .0) in
+      record { valid = p; current = same-equal t (r .timestamp) q; fits = leb-true _ _ (y .1 .0); below = ltb-true _ _ (y .1 .1 .0) }
 
   pub kind-own : (m : Message) (sender : ℕ) → AllYes (ofKind m sender r) → KindOwn m sender r
   kind-own (Inv t) sender y = tt

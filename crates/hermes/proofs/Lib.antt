@@ -17,6 +17,7 @@ pub mod Sound
 pub mod Along
 pub mod LastAck
 pub mod Overtaken
+pub mod Asking
 pub mod Progress
 pub mod Drive
 pub mod Driver
@@ -28,6 +29,7 @@ pub mod SecondReading
 pub mod SecondPremises
 pub mod Premises
 pub mod SettlingPremises
+pub mod AskingPremises
 pub mod Frame
 pub mod Locality
 pub mod Recipients

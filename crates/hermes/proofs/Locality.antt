@@ -10,14 +10,14 @@ use Rattle.hermes_record.specs.declared.record.Record.{Record}
 use Rattle.hermes.specs.declared.message.Outgoing.{Outgoing}
 use Rattle.hermes.specs.declared.message.Outgoing.the-variants.{None, Sent}
 use Rattle.hermes.specs.declared.event.Event.{Event}
-use Rattle.hermes.specs.declared.event.Event.the-variants.{Read}
+use Rattle.hermes.specs.declared.event.Event.the-variants.{Read, Ask}
 use Rattle.hermes.specs.declared.event.Answer.the-variants.{Accepted, Refused}
 use Rattle.hermes_record.specs.Order.{higher}
 use Rattle.hermes.specs.Store.{slot, valueAt}
-use Rattle.hermes.specs.Event.{Step, refusal, step, partOf, readPart, bodyOf}
+use Rattle.hermes.specs.Event.{Step, refusal, step, partOf, readPart, Handed, stampOf, askHands, bodyOf}
 use Rattle.hermes.specs.Node.{Node, Outcome, recordOf, valueOf, leaving, apply}
 use Rattle.hermes.specs.Frame.{bytesAfter, Changed}
-use Rattle.hermes.specs.Locality.{EqualAt, AnswersAlike, Locality, ReadLocality, Demand1}
+use Rattle.hermes.specs.Locality.{EqualAt, AnswersAlike, Locality, ReadLocality, AskLocality, Demand1}
 use Rattle.hermes.proofs.Frame.{event-frame, view-frame, start-frame}
 use Rattle.hermes.proofs.Store.{value-slot}
 use Rattle.hermes.specs.Guards.{AllYes}
@@ -75,22 +75,39 @@ locality wins i n m q e v = go (apply wins n i e v) (applied wins n i e v) (appl
             ≡ leaving (stepOf wins m i e v .sent) (done m i (stepOf wins m i e v) .table) (done m i (stepOf wins m i e v) .store)
         leaves = left n y c ∙ (λ t. leavingSlot (same t .sent) (after .here t) (after .bytes t)) ∙ sym (left m y′ d)
 
+-- ---- what a read and an ask hand out
+
+module _ (i : ℕ) (n m : Node) (q : EqualAt i n m) where
+  -- a value of at most 192 bytes
+  same-value : recordOf i n .len ≤ 192 → valueOf i n ≡ valueOf i m
+  same-value h = value-slot i (recordOf i n .len) (n .store) h ∙ (λ t. take (q .here t .len) (q .bytes t)) ∙ sym (value-slot i (recordOf i m .len) (m .store) (rw (← ap (λ (r : Record). r .len) (q .here)) h))
+
+  short : (e : Event) → refusalOf n i e [] ≡ 0 → recordOf i n .len ≤ 192
+  short e z = event-passed (n .me) (length (n .table)) (length (n .store)) i (recordOf i n) e 0 z .sound .short
+
+  same-number : (e : Event) → refusalOf n i e [] ≡ refusalOf m i e []
+  same-number e = λ t. refusal (q .identity t) (q .count t) (q .room t) i (q .here t) e 0
+
 pub read-locality : ReadLocality
 unfolding readPart
 read-locality i n m q = go (refusalOf n i Read []) refl
   where
-    value : (x : Node) → refusalOf x i Read [] ≡ 0 → valueAt i (recordOf i x .len) (x .store) ≡ take (recordOf i x .len) (slot i (x .store))
-    value x z = value-slot i (recordOf i x .len) (x .store) (event-passed (x .me) (length (x .table)) (length (x .store)) i (recordOf i x) Read 0 z .sound .short)
+    go : (k : ℕ) → refusalOf n i Read [] ≡ k → partOf (refusalOf n i Read []) (valueOf i n) ≡ partOf (refusalOf m i Read []) (valueOf i m)
+    go zero z = ap₂ partOf (same-number i n m q Read) (same-value i n m q (short i n m q Read z))
+    go (suc k) z = rw (z, sym (same-number i n m q Read) ∙ z)
 
-    same : refusalOf n i Read [] ≡ refusalOf m i Read []
-    same = λ t. refusal (q .identity t) (q .count t) (q .room t) i (q .here t) Read 0
-
-    go : (k : ℕ) → refusalOf n i Read [] ≡ k → partOf (refusalOf n i Read []) (valueAt i (recordOf i n .len) (n .store)) ≡ partOf (refusalOf m i Read []) (valueAt i (recordOf i m .len) (m .store))
-    go zero z = ap₂ partOf same (value n z ∙ (λ t. take (q .here t .len) (q .bytes t)) ∙ sym (value m (sym same ∙ z)))
-    go (suc k) z = rw (z, sym same ∙ z)
+pub ask-locality : AskLocality
+unfolding askHands
+ask-locality i n m q = go (refusalOf n i Ask []) refl
+  where
+    go : (k : ℕ) → refusalOf n i Ask [] ≡ k
+        → _≡_ {A = Handed} (record { part = partOf (refusalOf n i Ask []) (valueOf i n); timestamp = stampOf (refusalOf n i Ask []) (recordOf i n .timestamp) })
+        (record { part = partOf (refusalOf m i Ask []) (valueOf i m); timestamp = stampOf (refusalOf m i Ask []) (recordOf i m .timestamp) })
+    go zero z = λ t. record { part = partOf (same-number i n m q Ask t) (same-value i n m q (short i n m q Ask z) t); timestamp = stampOf (same-number i n m q Ask t) (q .here t .timestamp) }
+    go (suc k) z = rw (z, sym (same-number i n m q Ask) ∙ z)
 
 -- ---- the theorem
 
 -- demand 1
 pub confinement : Demand1
-confinement = record { event = event-frame higher; view = view-frame; start = start-frame; locality = locality higher; readLocality = read-locality }
+confinement = record { event = event-frame higher; view = view-frame; start = start-frame; locality = locality higher; readLocality = read-locality; askLocality = ask-locality }

@@ -399,7 +399,9 @@ module _ (T : Task) (inside : T .i < T .count) (ord : TieOrder (T .wins)) (d : �
 
     of-saver : (what : Action) → Helps i old (g .log) what → IsAccepted (result wins g (by d what)) → Next (by d what)
     of-saver (run.read j) h = absurd h
+    of-saver (run.ask j) h = absurd h
     of-saver (run.write j v) h = absurd h
+    of-saver (run.commit j t v) h = absurd h
     of-saver (run.replay j) h = rw h saver-replays
     of-saver (run.deliver k) (l, h) = go (delivers k l (find (g .log) k) refl h)
       where
@@ -411,7 +413,9 @@ module _ (T : Task) (inside : T .i < T .count) (ord : TieOrder (T .wins)) (d : �
 
     of-other : (w : ℕ) → other set d w ≡ true → (what : Action) → Helps i old (g .log) what → IsAccepted (result wins g (by w what)) → Next (by w what)
     of-other w o (run.read j) h = absurd h
+    of-other w o (run.ask j) h = absurd h
     of-other w o (run.write j v) h = absurd h
+    of-other w o (run.commit j t v) h = absurd h
     of-other w o (run.replay j) h = rw h (other-replays w o)
     of-other w o (run.deliver k) (l, h) = go (delivers k l (find (g .log) k) refl h)
       where

@@ -70,7 +70,7 @@ taken-foreign state.Replay sender k d = d
 foreign-keeps : (wins : ℕ → ℕ → Bool) (me : Replica) (r b : Record) → Becomes wins me r b → Foreign (r .state) (r .writer) (me .number) → Foreign (b .state) (b .writer) (me .number)
 foreign-keeps wins me r b (same e) h = rw e h
 foreign-keeps wins me r b (writes n more e) h = rw e tt
-foreign-keeps wins me r b (replays e) h = rw e tt
+foreign-keeps wins me r b (replays d e) h = rw e tt
 foreign-keeps wins me r b (invalidates t sender n l d e) h = rw e (taken-foreign (r .state) sender (me .number) d)
 foreign-keeps wins me r b (counts sender c e) h = rw e h
 foreign-keeps wins me r b (settles sender e) h = rw e tt
@@ -87,7 +87,7 @@ module _ (wins : ℕ → ℕ → Bool) (ord : TieOrder wins) where
   ahead-keeps : (me : Replica) (r b : Record) → Becomes wins me r b → Ahead wins (r .state) (r .timestamp) (r .written) → Ahead wins (b .state) (b .timestamp) (b .written)
   ahead-keeps me r b (same e) h = rw e h
   ahead-keeps me r b (writes n more e) h = rw e refl
-  ahead-keeps me r b (replays e) h = rw e tt
+  ahead-keeps me r b (replays d e) h = rw e tt
   ahead-keeps me r b (invalidates t sender n l d e) h = rw e (taken-ahead (r .state) (r .timestamp) (r .written) t l h)
   ahead-keeps me r b (counts sender c e) h = rw e h
   ahead-keeps me r b (settles sender e) h = rw e tt
@@ -99,7 +99,7 @@ module _ (wins : ℕ → ℕ → Bool) (ord : TieOrder wins) where
     where
       new : later wins (nextTimestamp (r .timestamp) (me .number)) t ≡ true
       new = later-trans wins ord (nextTimestamp (r .timestamp) (me .number)) (r .timestamp) t (greater-later wins (nextTimestamp (r .timestamp) (me .number)) (r .timestamp) (inl (omega (arith, more)))) (h .held)
-  risen-keeps t me r b (replays e) h = rw e (record { held = h .held; own = h .held })
+  risen-keeps t me r b (replays d e) h = rw e (record { held = h .held; own = h .held })
   risen-keeps t me r b (invalidates new sender n l d e) h = rw e (record { held = later-trans wins ord new (r .timestamp) t l (h .held); own = h .own })
   risen-keeps t me r b (counts sender c e) h = rw e (record { held = h .held; own = h .own })
   risen-keeps t me r b (settles sender e) h = rw e (record { held = h .held; own = h .own })

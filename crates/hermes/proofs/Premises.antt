@@ -55,7 +55,7 @@ story-entries =
     (refl, tt, (refl, tt, (refl, tt, (refl, tt, (refl, tt, (refl, tt, (refl, tt, (refl, tt, (refl, tt, (refl, tt, second))))))))))
   where
     fourth : Entries three issued (drop 30 story)
-    fourth = (refl, tt, (refl, tt, (refl, refl, (refl, tt, (refl, tt, (refl, tt, (refl, tt, (refl, tt, (refl, tt, (refl, tt, tt))))))))))
+    fourth = (refl, tt, (refl, tt, (refl, refl, (refl, tt, (refl, tt, (refl, tt, (refl, tt, (refl, tt, (refl, tt, (refl, tt, (refl, tt, (refl, tt, tt))))))))))))
 
     third : Entries three issued (drop 20 story)
     third = (refl, tt, (refl, refl, (refl, tt, (refl, tt, (refl, tt, (refl, tt, (refl, tt, (refl, tt, (refl, tt, (refl, tt, fourth))))))))))
@@ -65,7 +65,9 @@ story-entries =
 
 every-kind : (a : Action) → BothWays (kind a) struckOff
 every-kind (run.read i) = (refl, refl)
+every-kind (run.ask i) = (refl, refl)
 every-kind (run.write i v) = (refl, refl)
+every-kind (run.commit i t v) = (refl, refl)
 every-kind (run.replay i) = (refl, refl)
 every-kind (run.deliver k) = (refl, refl)
 every-kind (run.validate i) = (refl, refl)

@@ -17,7 +17,7 @@ use Rattle.hermes.specs.declared.message.Outgoing.the-variants.{None, Se
 use Rattle.hermes.specs.declared.message.Received.{Received}
 use Rattle.hermes.specs.declared.event.Replica.{Replica}
 use Rattle.hermes.specs.declared.event.Event.{Event}
-use Rattle.hermes.specs.declared.event.Event.the-variants.{Read, Write, Replay, Deliver, Validate, Resend}
+use Rattle.hermes.specs.declared.event.Event.the-variants.{Read, Ask, Write, Commit, Replay, Deliver, Validate, Resend}
 use Rattle.hermes_record.specs.Members.{has, with, without}
 use Rattle.hermes_record.specs.Order.{later}
 use Rattle.hermes.specs.Guards.{AllYes}
@@ -80,7 +80,9 @@ module _ (wins : ℕ → ℕ → Bool) (me : Replica) (i : ℕ) (r : Record) whe
 
   step-goes : (e : Event) (v : List ℕ) (n : ℕ) → AllYes (own me r e n) → GoesTo me e (step wins me i r e v .sent) (recipients me e (step wins me i r e v .sent))
   step-goes Read v n y = nobody
+  step-goes Ask v n y = nobody
   step-goes Write v n y = others me
+  step-goes (Commit t) v n y = others me
   step-goes Replay v n y = others me
   step-goes (Deliver m) v n y =
       let d : DeliverOwn me r m n = deliver-own me r m n y in

@@ -20,14 +20,14 @@ use Rattle.hermes.specs.declared.message.Outgoing.{Outgoing}
 use Rattle.hermes.specs.declared.message.Outgoing.the-variants.{None, Sent}
 use Rattle.hermes.specs.declared.event.Replica.{Replica}
 use Rattle.hermes.specs.declared.event.Event.{Event}
-use Rattle.hermes.specs.declared.event.Event.the-variants.{Read, Write, Replay, Deliver, Validate, Resend}
+use Rattle.hermes.specs.declared.event.Event.the-variants.{Read, Ask, Write, Commit, Replay, Deliver, Validate, Resend}
 use Rattle.hermes_record.specs.Members.{with}
 use Rattle.hermes_record.specs.Order.{TieOrder, later, NotAfter}
 use Rattle.hermes_record.specs.Record.{oneOf}
 use Rattle.hermes_record.proofs.Moves.{invalid-shown, invalid-own}
 use Rattle.hermes.specs.Store.{slot, valueAt, padded}
-use Rattle.hermes.specs.Guards.{AllYes, firstNo}
-use Rattle.hermes.specs.Event.{Step, invStep, ackStep, completes, deliverStep, resent, bodyOf, answerOf}
+use Rattle.hermes.specs.Guards.{AllYes, firstNo, question9}
+use Rattle.hermes.specs.Event.{Step, writeStep, invStep, ackStep, completes, deliverStep, resent, bodyOf, answerOf}
 use Rattle.hermes.specs.Node.{Node, Outcome, recordOf, apply, view, viewed, viewQuestions, admissionOf, admissionNumber, identity}
 use Rattle.hermes.specs.Run as run
 use Rattle.hermes.specs.Run.{Logged, Action, Result, Found, find, received, delivery, perform, nodeAfter, logged, logAfter}
@@ -245,6 +245,11 @@ module _ (wins : ℕ → ℕ → Bool) (ord : TieOrder wins) (issued : ℕ → �
     cell = cellOf v;
   }
 
+  -- a write's step, below the greatest version
+  write-good : (j : ℕ) (v : List ℕ) → question9 (recordOf j n) .yes ≡ true → Good wins issued log j n (writeStep (n .me) j (recordOf j n) v)
+  unfolding writing
+  write-good j v h = record { moves = write (cellOf v) (clean-cell v) 0 none-in-zero (ap (writing j v) (next-version (recordOf j n .timestamp .version) h)); says = (refl, (refl, refl)) }
+
   viewed-refined : (epoch next : ℕ) → next ≡ issued epoch → (i : ℕ) → Refined wins issued log i n (run.event (viewed n epoch next))
   unfolding viewed view
   viewed-refined epoch next q i = go (firstNo (viewQuestions (n .me) epoch next)) refl
@@ -263,10 +268,10 @@ module _ (wins : ℕ → ℕ → Bool) (ord : TieOrder wins) (issued : ℕ → �
 
   -- every entry, as record i of its replica sees it
   pub refined : (a : Action) → AsIssued issued a → (i : ℕ) → Refined wins issued log i n (perform wins a log n)
-  unfolding writing
   refined (run.read j) c = of-event wins issued log n j Read [] (λ y. record { moves = stay refl; says = tt })
-  refined (run.write j v) c = of-event wins issued log n j Write v
-      (λ y. record { moves = write (cellOf v) (clean-cell v) 0 none-in-zero (ap (writing j v) (next-version (recordOf j n .timestamp .version) (y .1 .1 .0))); says = (refl, (refl, refl)) })
+  refined (run.ask j) c = of-event wins issued log n j Ask [] (λ y. record { moves = stay refl; says = tt })
+  refined (run.write j v) c = of-event wins issued log n j Write v (λ y. write-good j v (y .1 .1 .0))
+  refined (run.commit j t v) c = of-event wins issued log n j (Commit t) v (λ y. write-good j v (y .1 .1 .0))
   refined (run.replay j) c = of-event wins issued log n j Replay [] (λ y. record { moves = replay 0 none-in-zero refl; says = (refl, (refl, refl)) })
   refined (run.validate j) c = of-event wins issued log n j Validate []
       (λ y. let o = validate-own (n .me) (recordOf j n) 0 y in

@@ -9,9 +9,9 @@ use Rattle.hermes.specs.declared.message.Outgoing.the-variants.{None}
 use Rattle.hermes_record.specs.Members.{has, size, lowest, within, othersIn, with}
 use Rattle.hermes_record.specs.Order.{later, sameTimestamp}
 use Rattle.hermes.specs.Store.{padded, place}
-use Rattle.hermes.specs.Event.{numberOf, sentBy, send, refusal, effect}
-use Rattle.hermes.specs.Node.{Node, Outcome, recordOf, apply, admit, start, view, viewed, admissionNumber}
-use Rattle.hermes.specs.Worked.{Claim, answers, leaves, stamps, lastWriter, lastWrite, acknowledgedBy, holding, sends, silent, unchanged, storeOf, Says, SaysAll, Row, row, asks, asksStart, asksView, Holds, before, outcome}
+use Rattle.hermes.specs.Event.{numberOf, sentBy, send, refusal, effect, askHands}
+use Rattle.hermes.specs.Node.{Node, Outcome, recordOf, apply, asked, admit, start, view, viewed, admissionNumber}
+use Rattle.hermes.specs.Worked.{Claim, answers, leaves, stamps, lastWriter, lastWrite, acknowledgedBy, holding, sends, handsOut, silent, unchanged, storeOf, Says, SaysAll, Row, row, asks, asksStart, asksView, Holds, before, outcome}
 use Rattle.hermes.specs.Limits.{limits}
 use Rattle.hermes.specs.Rows.{unstarted, ringing, rows}
 use Rattle.hermes_record.proofs.Tests.{both}
@@ -27,6 +27,7 @@ test (lastWrite v t) n o = same timestampCode (recordOf 0 (o .node) .written) (r
 test (acknowledgedBy set) n o = eqb (recordOf 0 (o .node) .acks) set
 test (holding v) n o = eqb (recordOf 0 (o .node) .len) (length v) && sameList (o .node .store) (storeOf v)
 test (sends m) n o = same outgoingCode (sentBy (o .answer)) (send (n .me) 0 m)
+test (handsOut text v t) n o = sameList (asked (o .node) 0 .part) text && same timestampCode (asked (o .node) 0 .timestamp) (record { version = v; tie = t })
 test silent n o = same outgoingCode (sentBy (o .answer)) None
 test unchanged n o = sameNode (o .node) n
 
@@ -42,6 +43,9 @@ says (holding v) n o e =
     let (p, q) = both (eqb (recordOf 0 (o .node) .len) (length v)) _ e in
     (eqb-true _ (length v) p, list-sound (o .node .store) (storeOf v) q)
 says (sends m) n o e = same-sound outgoingCode _ _ e
+says (handsOut text v t) n o e =
+    let (p, q) = both (sameList (asked (o .node) 0 .part) text) _ e in
+    λ z. record { part = list-sound (asked (o .node) 0 .part) text p z; timestamp = same-sound timestampCode (asked (o .node) 0 .timestamp) (record { version = v; tie = t }) q z }
 says silent n o e = same-sound outgoingCode _ None e
 says unchanged n o e = node-sound (o .node) n e
 
@@ -69,7 +73,7 @@ holds n (asksView me epoch set k) e = eqb-true _ k e
 
 -- the test, computed
 computed : passing Row (testRow unstarted) rows ≡ true
-unfolding passing testRow testAll test same sameList sameTable sameNode stateCode timestampCode recordCode recordNumbers replicaCode outgoingCode outgoingNumbers messageNumbers unstarted limits ringing rows apply effect refusal start view viewed has size lowest within othersIn with later sameTimestamp padded place
+unfolding passing testRow testAll test same sameList sameTable sameNode stateCode timestampCode recordCode recordNumbers replicaCode outgoingCode outgoingNumbers messageNumbers unstarted limits ringing rows apply effect refusal askHands start view viewed has size lowest within othersIn with later sameTimestamp padded place
 computed = refl
 
 -- Every row about the events holds.

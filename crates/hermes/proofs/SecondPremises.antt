@@ -28,6 +28,8 @@ any issued earlier = record {
   validations = λ i. tt;
   resends = λ i. tt;
   changes = λ e. refl;
+  asks = λ i. tt;
+  commits = λ i t v. tt;
 }
 
 -- what holds of the first of a list and of the others holds of each

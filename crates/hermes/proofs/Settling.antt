@@ -29,7 +29,9 @@ use Rattle.hermes.proofs.Driver.{Behind, Outset, Top, top, Achieves, by
 
 as-issued : (issued : ℕ → ℕ) (i old : ℕ) (log : List Logged) (a : Action) → Helps i old log a → AsIssued issued a
 as-issued issued i old log (run.read j) h = tt
+as-issued issued i old log (run.ask j) h = tt
 as-issued issued i old log (run.write j v) h = tt
+as-issued issued i old log (run.commit j t v) h = tt
 as-issued issued i old log (run.replay j) h = tt
 as-issued issued i old log (run.deliver k) h = tt
 as-issued issued i old log (run.validate j) h = tt

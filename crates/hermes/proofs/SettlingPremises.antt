@@ -49,7 +49,9 @@ helps-only set i old log a h = go (a .what) refl
   where
     go : (w : Action) → a .what ≡ w → Helps i old log w → Only set i old a
     go (run.read j) e p = absurd p
+    go (run.ask j) e p = absurd p
     go (run.write j v) e p = absurd p
+    go (run.commit j t v) e p = absurd p
     go (run.replay j) e p = (h, inl (rw (e, p)))
     go (run.deliver k) e p = (h, inr (inr (inr (k, e, p .0))))
     go (run.validate j) e p = (h, inr (inl (rw (e, p))))

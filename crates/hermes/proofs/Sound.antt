@@ -13,7 +13,7 @@ use borrow.Author.Tests.{lt-ltb}
 use Rattle.hermes_record.specs.declared.record.State.the-variants as state
 use Rattle.hermes.specs.declared.event.Replica.{Replica}
 use Rattle.hermes.specs.declared.event.Event.{Event}
-use Rattle.hermes.specs.declared.event.Event.the-variants.{Read, Write, Replay, Deliver, Validate, Resend}
+use Rattle.hermes.specs.declared.event.Event.the-variants.{Read, Ask, Write, Commit, Replay, Deliver, Validate, Resend}
 use Rattle.hermes_record.specs.Members.{size, lowest}
 use Rattle.hermes_record.specs.Record.{freshRecord}
 use Rattle.hermes.specs.Guards.{AllYes, firstNo, question5}
@@ -73,7 +73,9 @@ module _ (wins : ℕ → ℕ → Bool) (count k : ℕ) where
 
   entry-sound : (n : Node) → Sound count k n → (log : List Logged) (a : Action) → Sound count k (nodeAfter (perform wins a log n) n)
   entry-sound n ok log (run.read j) = event-sound n ok j Read []
+  entry-sound n ok log (run.ask j) = event-sound n ok j Ask []
   entry-sound n ok log (run.write j v) = event-sound n ok j Write v
+  entry-sound n ok log (run.commit j t v) = event-sound n ok j (Commit t) v
   entry-sound n ok log (run.replay j) = event-sound n ok j Replay []
   entry-sound n ok log (run.deliver z) = go (find log z)
     where

@@ -19,12 +19,12 @@ use Rattle.hermes.specs.declared.message.Outgoing.{Outgoing}
 use Rattle.hermes.specs.declared.message.Outgoing.the-variants.{None, Sent}
 use Rattle.hermes.specs.declared.event.Replica.{Replica}
 use Rattle.hermes.specs.declared.event.Event.{Event}
-use Rattle.hermes.specs.declared.event.Event.the-variants.{Read, Write, Replay, Deliver, Validate, Resend}
+use Rattle.hermes.specs.declared.event.Event.the-variants.{Read, Ask, Write, Commit, Replay, Deliver, Validate, Resend}
 use Rattle.hermes_record.specs.Members.{has, with}
 use Rattle.hermes_record.specs.Order.{later}
 use Rattle.hermes_record.specs.Record.{nextVersion}
 use Rattle.hermes.specs.Guards.{AllYes, question5, shapely}
-use Rattle.hermes.specs.Event.{Stored, kept, placed, Step, invStep, ackStep, completes, deliverStep, resent, step, own}
+use Rattle.hermes.specs.Event.{Stored, kept, placed, Step, writeStep, invStep, ackStep, completes, deliverStep, resent, step, own}
 use Rattle.hermes_record.proofs.Tests.{both, is-false}
 use Rattle.hermes.proofs.Guards.{Sound}
 use Rattle.hermes.proofs.Members.{Has, has-small, has-zero, with-members}
@@ -70,13 +70,15 @@ module _ (wins : ℕ → ℕ → Bool) (me : Replica) (i : ℕ) (r : Record) (sm
       go false = record { after = record { short = ok .short; tie = ok .tie; own-tie = ok .own-tie; writer = ok .writer; uncounted = counted }; fits = tt }
   deliver-sound sender (Val t) v h d b = record { after = record { short = ok .short; tie = ok .tie; own-tie = ok .own-tie; writer = ok .writer; uncounted = ok .uncounted }; fits = tt }
 
+  write-sound : (v : List ℕ) → length v ≤ 192 → SoundStep me (writeStep me i r v)
+  write-sound v h = record { after = record { short = h; tie = small; own-tie = small; writer = small; uncounted = search has-zero }; fits = h }
+
   -- a step whose own questions all said yes
   pub step-sound : (e : Event) (v : List ℕ) → AllYes (own me r e (length v)) → SoundStep me (step wins me i r e v)
   step-sound Read v y = record { after = ok; fits = tt }
-  step-sound Write v y = record {
-    after = record { short = leb-true (length v) 192 (y .1 .0); tie = small; own-tie = small; writer = small; uncounted = search has-zero };
-    fits = leb-true (length v) 192 (y .1 .0);
-  }
+  step-sound Ask v y = record { after = ok; fits = tt }
+  step-sound Write v y = write-sound v (leb-true (length v) 192 (y .1 .0))
+  step-sound (Commit t) v y = write-sound v (leb-true (length v) 192 (y .1 .0))
   step-sound Replay v y = record { after = record { short = ok .short; tie = search ok; own-tie = search ok; writer = small; uncounted = search has-zero }; fits = tt }
   step-sound (Deliver m) v y =
       let (p, q) = both (has (me .view) (m .sender)) (not (eqb (m .sender) (me .number))) (y .1 .0) in
@@ -112,7 +114,9 @@ resent-about me i state.Replay t = refl
 
 pub step-about : (wins : ℕ → ℕ → Bool) (me : Replica) (i : ℕ) (r : Record) (e : Event) (v : List ℕ) → About i (step wins me i r e v .sent)
 step-about wins me i r Read v = tt
+step-about wins me i r Ask v = tt
 step-about wins me i r Write v = refl
+step-about wins me i r (Commit t) v = refl
 step-about wins me i r Replay v = refl
 step-about wins me i r (Deliver m) v = deliver-about wins me i r (m .sender) (m .message) v
 step-about wins me i r Validate v = refl

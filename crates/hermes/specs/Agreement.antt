@@ -14,7 +14,7 @@ use Rattle.hermes_record.specs.Order.{TieOrder, higher, NotAfter}
 use Rattle.hermes.specs.Store.{slot}
 use Rattle.hermes.specs.Event.{completes, numberOf}
 use Rattle.hermes.specs.Node.{Node, recordOf, start}
-use Rattle.hermes.specs.Run.{Action, read, write, replay, deliver, validate, resend, view, Entry, Group, Logged, find, found, Result, nothing, event, result, run}
+use Rattle.hermes.specs.Run.{Action, read, ask, write, commit, replay, deliver, validate, resend, view, Entry, Group, Logged, find, found, Result, nothing, event, result, run}
 
 -- ---- the premises, of a group: which numbers it has (`member`), how many records each replica has (`count`), the view that is issued
 -- for each epoch (`issued`)
@@ -36,7 +36,9 @@ pub record Started (member : ℕ → Bool) (count : ℕ) (issued : ℕ → ℕ) 
 -- 01, "A view entry carries an epoch and the view issued for it". That views are nested is no premise: question 19 asks it of each
 abbrev pub AsIssued : (ℕ → ℕ) → Action → Type 0
 AsIssued issued (read i) = Unit
+AsIssued issued (ask i) = Unit
 AsIssued issued (write i v) = Unit
+AsIssued issued (commit i t v) = Unit
 AsIssued issued (replay i) = Unit
 AsIssued issued (deliver k) = Unit
 AsIssued issued (validate i) = Unit

@@ -1,4 +1,4 @@
--- Demand 2: each event is accepted exactly when document 01's own questions say yes and the source's guard holds (a replay's as 02, Wish 2 widens it);
+-- Demand 2: each event is accepted exactly when document 01's own questions say yes and the source's guard holds (a replay's as 02, Wish 2 widens it, a commit's as Wish 5 narrows a write's);
 -- accepted, it does the source's action; refused, nothing moves and nothing leaves.
 use Prim.Native.Nat.{ℕ, _<_}
 use mathlib.Core.Path.{_≡_}
@@ -14,7 +14,7 @@ use Rattle.hermes.specs.declared.message.Message.the-variants.{Inv, Ack,
 use Rattle.hermes.specs.declared.message.Outgoing.the-variants.{None}
 use Rattle.hermes.specs.declared.message.Received.{Received}
 use Rattle.hermes.specs.declared.event.Event.{Event}
-use Rattle.hermes.specs.declared.event.Event.the-variants.{Read, Write, Replay, Deliver, Validate, Resend}
+use Rattle.hermes.specs.declared.event.Event.the-variants.{Read, Ask, Write, Commit, Replay, Deliver, Validate, Resend}
 use Rattle.hermes.specs.declared.event.Admission.the-variants.{Admitted}
 use Rattle.hermes_record.specs.Members.{has}
 use Rattle.hermes_record.specs.Order.{higher}
@@ -22,7 +22,7 @@ use Rattle.hermes.specs.Guards.{Question, AllYes, ask, question1, questi
 use Rattle.hermes.specs.Event.{numberOf, sentBy}
 use Rattle.hermes.specs.Node.{Node, recordOf, valueOf, apply, viewed, newcomer, start}
 use Rattle.hermes.specs.Locality.{body}
-use Rattle.hermes.specs.Source.{Vars, Sending, HInit, HReadGuard, HRead, HWriteGuard, HWrite, HReplayWriteWidenedGuard, HReplayWrite, HRcvInvGuard, HRcvInv, HRcvAckGuard, HRcvAckThenSendVals, HRcvValGuard, HRcvVal, HSendValsGuard, HSendVals, NodeFailureGuard, NodeFailure, ResendGuard, Resent}
+use Rattle.hermes.specs.Source.{Vars, Sending, HInit, HReadGuard, HRead, HWriteGuard, HCommitGuard, HWrite, HReplayWriteWidenedGuard, HReplayWrite, HRcvInvGuard, HRcvInv, HRcvAckGuard, HRcvAckThenSendVals, HRcvValGuard, HRcvVal, HSendValsGuard, HSendVals, NodeFailureGuard, NodeFailure, ResendGuard, Resent}
 
 -- the source's variables of record i
 abbrev pub varsOf : ℕ → Node → Vars
@@ -81,7 +81,9 @@ module _ (wins : ℕ → ℕ → Bool) where
   pub record Demand2By : Type 0 where
     pub start : (k view : ℕ) (table : List Record) (store : List ℕ) → StartFollows k view table store
     pub read : (n : Node) (i : ℕ) (v : List ℕ) → Follows n i Read v (fiveAnd n i []) HReadGuard HRead
+    pub ask : (n : Node) (i : ℕ) (v : List ℕ) → Follows n i Ask v (fiveAnd n i []) HReadGuard HRead
     pub write : (n : Node) (i : ℕ) (v : List ℕ) → Follows n i Write v (fiveAnd n i (question8 (length v) ∷ [])) HWriteGuard (HWrite (n .me) i v)
+    pub commit : (n : Node) (i : ℕ) (t : Timestamp) (v : List ℕ) → Follows n i (Commit t) v (fiveAnd n i (question8 (length v) ∷ [])) (HCommitGuard t) (HWrite (n .me) i v)
     pub replay : (n : Node) (i : ℕ) (v : List ℕ) → Follows n i Replay v (fiveAnd n i []) (HReplayWriteWidenedGuard (n .me)) (HReplayWrite (n .me) i)
     pub inv : (n : Node) (i sender epoch : ℕ) (t : Timestamp) (v : List ℕ)
         → Follows n i (Deliver (message sender epoch (Inv t))) v (delivered n i (message sender epoch (Inv t)) v) (λ s. HRcvInvGuard (n .me) sender epoch) (HRcvInv wins (n .me) i sender t v)

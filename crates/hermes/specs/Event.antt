@@ -13,7 +13,7 @@ use Rattle.hermes.specs.declared.message.Outgoing.{Outgoing}
 use Rattle.hermes.specs.declared.message.Outgoing.the-variants.{None, Sent}
 use Rattle.hermes.specs.declared.event.Replica.{Replica}
 use Rattle.hermes.specs.declared.event.Event.{Event}
-use Rattle.hermes.specs.declared.event.Event.the-variants.{Read, Write, Replay, Deliver, Validate, Resend}
+use Rattle.hermes.specs.declared.event.Event.the-variants.{Read, Ask, Write, Commit, Replay, Deliver, Validate, Resend}
 use Rattle.hermes.specs.declared.event.Answer.{Answer}
 use Rattle.hermes.specs.declared.event.Answer.the-variants.{Accepted, Refused}
 use Rattle.hermes.specs.declared.event.Moved.{Moved}
@@ -41,6 +41,7 @@ use Rattle.hermes.specs.Guards.{
   question15,
   question16,
   question17,
+  question26,
 }
 
 -- ---- the questions of each event; n is the length of the value that comes with it
@@ -56,10 +57,13 @@ ofKind (Inv t) sender r = []
 ofKind (Ack t) sender r = question13 t sender r ∷ []
 ofKind (Val t) sender r = question14 t r ∷ []
 
--- 01, the questions after the first five: Read 6; Write 7, 8 and 9; Deliver 10, 11, 12 and its kind's; Validate 15; Replay 16; Resend 17
+-- 01, the questions after the first five: Read 6; Write 7, 8 and 9; Deliver 10, 11, 12 and its kind's; Validate 15; Replay 16; Resend 17.
+-- 02, Wish 5: an ask is "refused as a read is"; of a commit 26 stands "in place of 7, and 8 and 9 follow"
 abbrev pub own : Replica → Record → Event → ℕ → List Question
 own me r Read n = question6 r ∷ []
+own me r Ask n = question6 r ∷ []
 own me r Write n = question7 r ∷ question8 n ∷ question9 r ∷ []
+own me r (Commit t) n = question26 t r ∷ question8 n ∷ question9 r ∷ []
 own me r (Deliver m) n =
     question10 me m ∷ question11 me m ∷ question12 m n ∷ ofKind (m .message) (m .sender) r
 own me r Validate n = question15 me r ∷ []
@@ -141,10 +145,12 @@ module _ (wins : ℕ → ℕ → Bool) where
   deliverStep me i r sender (Ack t) v = ackStep (completes me r sender) me i r sender
   deliverStep me i r sender (Val t) v = valStep r
 
-  -- the step of an event on record i, r, of replica me, with the value v
+  -- the step of an event on record i, r, of replica me, with the value v. 02, Wish 5: an ask moves nothing, a commit "goes on as a write"
   abbrev pub step : Replica → ℕ → Record → Event → List ℕ → Step
   step me i r Read v = readStep r
+  step me i r Ask v = readStep r
   step me i r Write v = writeStep me i r v
+  step me i r (Commit t) v = writeStep me i r v
   step me i r (Deliver m) v = deliverStep me i r (m .sender) (m .message) v
   step me i r Validate v = validateStep me i r
   step me i r Replay v = replayStep me i r
@@ -209,6 +215,23 @@ partOf (suc k) v = []
 unfoldable pub readPart : Replica → ℕ → ℕ → Record → List ℕ → List ℕ
 readPart me count i r store = partOf (refusal me count (length store) i r Read 0) (valueAt i (r .len) store)
 
+-- 02, Wish 5: an ask "hands out value and stamp"
+pub record Handed : Type 0 where
+  pub part : List ℕ
+  pub timestamp : Timestamp
+
+-- a refused ask hands out no stamp: (0, 0) stands for none
+abbrev pub stampOf : ℕ → Timestamp → Timestamp
+stampOf zero t = t
+stampOf (suc k) t = record { version = 0; tie = 0 }
+
+-- 02, Wish 5, Ask: what an ask of record i, r, hands out; a refused one, as a read, the empty part
+unfoldable pub askHands : Replica → ℕ → ℕ → Record → List ℕ → Handed
+askHands me count i r store = record {
+  part = partOf (refusal me count (length store) i r Ask 0) (valueAt i (r .len) store);
+  timestamp = stampOf (refusal me count (length store) i r Ask 0) (r .timestamp);
+}
+
 -- ---- what leaves
 
 -- 01, "an INV leaves with the value": the bytes that a message takes along; v is the record's value after the event
@@ -225,7 +248,9 @@ leavingBody (Sent m h) r store = bodyOf m (valueAt (h .index) (r .len) store)
 -- 01, Deliver INV, an ACK leaves "for its sender": the sender of the message that the event delivered, as a set
 abbrev pub senderOf : Event → ℕ
 senderOf Read = 0
+senderOf Ask = 0
 senderOf Write = 0
+senderOf (Commit t) = 0
 senderOf (Deliver m) = with 0 (m .sender)
 senderOf Validate = 0
 senderOf Replay = 0

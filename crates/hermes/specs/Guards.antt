@@ -76,6 +76,12 @@ question8 n = ask 8 (leb n 192)
 abbrev pub question9 : Record → Question
 question9 r = ask 9 (ltb (r .timestamp .version) 4294967295)
 
+-- ---- commit: 26 in place of 7, and 8 and 9 follow; t is the stamp that it brings back
+
+-- 26: "when a commit's record is not valid or its stamp differs" (02, Wish 5)
+abbrev pub question26 : Timestamp → Record → Question
+question26 t r = ask 26 (oneOf (r .state) (Valid ∷ []) && sameTimestamp t (r .timestamp))
+
 -- ---- deliver; n is the number of value bytes
 
 -- 10: is the message's epoch the laptop's?

@@ -16,7 +16,7 @@ use Rattle.hermes.specs.declared.event.Event.the-variants.{Deliver}
 use Rattle.hermes_record.specs.Members.{has}
 use Rattle.hermes.specs.Event.{send, numberOf, sentBy}
 use Rattle.hermes.specs.Node.{Node, Outcome, recordOf, apply}
-use Rattle.hermes.specs.Run.{Action, read, write, replay, deliver, validate, resend, view, Entry, Group}
+use Rattle.hermes.specs.Run.{Action, read, ask, write, commit, replay, deliver, validate, resend, view, Entry, Group}
 use Rattle.hermes.specs.Agreement.{Started, after}
 
 -- "the record is in write or replay"
@@ -58,7 +58,9 @@ AllReplied i n = Waits (recordOf i n) × EveryOther (n .me) (λ m. has (recordOf
 -- 01, "An entry is a .. view event": the one that may leave a record waiting so
 abbrev pub IsView : Action → Type 0
 IsView (read i) = ⊥
+IsView (ask i) = ⊥
 IsView (write i v) = ⊥
+IsView (commit i t v) = ⊥
 IsView (replay i) = ⊥
 IsView (deliver k) = ⊥
 IsView (validate i) = ⊥

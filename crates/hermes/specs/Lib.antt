@@ -15,6 +15,7 @@ pub mod SecondReading
 pub mod LastAck
 pub mod Overtaken
 pub mod Reads
+pub mod Asking
 pub mod Settling
 pub mod Recipe
 pub mod Tight
@@ -22,6 +23,7 @@ pub mod Played
 pub mod Witness
 pub mod SecondWitness
 pub mod SettlingWitness
+pub mod AskingWitness
 pub mod Worked
 pub mod Limits
 pub mod Rows

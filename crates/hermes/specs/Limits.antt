@@ -10,7 +10,7 @@ use Rattle.hermes.specs.declared.message.Message.{Message}
 use Rattle.hermes.specs.declared.message.Message.the-variants.{Inv, Ack, Val}
 use Rattle.hermes.specs.declared.event.Replica.{Replica}
 use Rattle.hermes.specs.declared.event.Event.{Event}
-use Rattle.hermes.specs.declared.event.Event.the-variants.{Read, Write, Replay, Deliver, Validate, Resend}
+use Rattle.hermes.specs.declared.event.Event.the-variants.{Read, Ask, Write, Commit, Replay, Deliver, Validate, Resend}
 use Rattle.hermes.specs.Worked.{Row, asks, asksStart, asksView}
 
 -- ---- who, what and by whom
@@ -65,6 +65,14 @@ reads r k = event Read r 0 k
 abbrev writes : Record → ℕ → ℕ → Row
 writes r n k = event Write r n k
 
+-- 02, Wish 5
+abbrev asksFor : Record → ℕ → Row
+asksFor r k = event Ask r 0 k
+
+-- on that stamp, with so many bytes
+abbrev commits : Record → Timestamp → ℕ → ℕ → Row
+commits r t n k = event (Commit t) r n k
+
 -- a message from this sender, of this epoch, with so many bytes
 abbrev hears : Record → ℕ → ℕ → Message → ℕ → ℕ → Row
 hears r sender epoch m n k = event (Deliver (record { sender = sender; epoch = epoch; message = m })) r n k
@@ -100,7 +108,9 @@ from5 m = Deliver (record { sender = 5; epoch = 7; message = m })
 abbrev samples : List Sample
 samples =
     sample (λ t w. Read) state.Valid [] 0
+    ∷ sample (λ t w. Ask) state.Valid [] 0
     ∷ sample (λ t w. Write) state.Valid [] 10
+    ∷ sample (λ t w. Commit t) state.Valid [] 10
     ∷ sample (λ t w. from5 (inv 6 5)) state.Valid [] 10
     ∷ sample (λ t w. from5 (Ack w)) state.Write [] 0
     ∷ sample (λ t w. from5 (Val t)) state.Invalid [] 0
@@ -192,6 +202,12 @@ limits =
     ∷ reads (sound state.InvalidWrite) 6
     ∷ reads (sound state.Write) 6
     ∷ reads (sound state.Replay) 6
+    -- the same of an ask (02, Wish 5)
+    ∷ asksFor (sound state.Valid) 0
+    ∷ asksFor (sound state.Invalid) 6
+    ∷ asksFor (sound state.InvalidWrite) 6
+    ∷ asksFor (sound state.Write) 6
+    ∷ asksFor (sound state.Replay) 6
     -- 7: valid or invalid?
     ∷ writes (sound state.Valid) 10 0
     ∷ writes (sound state.Invalid) 10 0
@@ -205,6 +221,28 @@ limits =
     -- 9: version below 4,294,967,295?
     ∷ writes (held state.Valid (stamp 4294967294 5) 5 (stamp 3 2) 0 10) 10 0
     ∷ writes (held state.Valid (stamp 4294967295 5) 5 (stamp 3 2) 0 10) 10 9
+    -- 26: is the record valid, and its stamp the one that the commit brings? (02, Wish 5)
+    ∷ commits (sound state.Valid) (stamp 4 5) 10 0
+    ∷ commits (sound state.Invalid) (stamp 4 5) 10 26
+    ∷ commits (sound state.InvalidWrite) (stamp 4 5) 10 26
+    ∷ commits (sound state.Write) (stamp 4 5) 10 26
+    ∷ commits (sound state.Replay) (stamp 4 5) 10 26
+    ∷ commits (sound state.Valid) (stamp 3 5) 10 26
+    ∷ commits (sound state.Valid) (stamp 5 5) 10 26
+    ∷ commits (sound state.Valid) (stamp 4 4) 10 26
+    ∷ commits (sound state.Valid) (stamp 4 6) 10 26
+    ∷ commits (sound state.Valid) (stamp 4 16) 10 26
+    ∷ commits (sound state.Valid) (stamp 4 21) 10 26
+    ∷ commits (sound state.Valid) (stamp 4 261) 10 26
+    ∷ commits (sound state.Valid) (stamp 0 0) 10 26
+    -- the last-write stamp is another
+    ∷ commits (sound state.Valid) (stamp 3 2) 10 26
+    -- then 8 and 9
+    ∷ commits (sound state.Valid) (stamp 4 5) 0 0
+    ∷ commits (sound state.Valid) (stamp 4 5) 192 0
+    ∷ commits (sound state.Valid) (stamp 4 5) 193 8
+    ∷ commits (held state.Valid (stamp 4294967294 5) 5 (stamp 3 2) 0 10) (stamp 4294967294 5) 10 0
+    ∷ commits (held state.Valid (stamp 4294967295 5) 5 (stamp 3 2) 0 10) (stamp 4294967295 5) 10 9
     -- 10: is the message's epoch the laptop's?
     ∷ hears (sound state.Valid) 5 6 (inv 6 5) 10 10
     ∷ hears (sound state.Valid) 5 7 (inv 6 5) 10 0
@@ -316,13 +354,20 @@ limits =
     ++ every (laptop 2 (set (1 ∷ 5 ∷ []))) 1 192 1 (stamp 4 5) 3 (stamp 3 2) [] 10 3
     ++ every two 1 192 1 (stamp 4 5) 3 (stamp 3 2) [] 193 4
     ++ reads (unsound state.Invalid) 5
+    ∷ asksFor (unsound state.Invalid) 5
     ∷ writes (unsound state.Write) 10 5
+    ∷ commits (unsound state.Write) (stamp 0 0) 10 5
     ∷ hears (unsound state.Valid) 5 6 (inv 6 5) 10 5
     ∷ event Validate (unsound state.Valid) 0 5
     ∷ event Replay (unsound state.Valid) 0 5
     ∷ event Resend (unsound state.Invalid) 0 5
     ∷ writes (sound state.Write) 193 7
     ∷ writes (held state.Valid (stamp 4294967295 5) 5 (stamp 3 2) 0 10) 193 8
+    ∷ commits (sound state.Write) (stamp 4 5) 193 26
+    ∷ commits (sound state.Valid) (stamp 3 5) 193 26
+    ∷ commits (held state.Valid (stamp 4294967295 5) 5 (stamp 3 2) 0 10) (stamp 4294967295 4) 10 26
+    ∷ commits (held state.Invalid (stamp 4294967295 5) 5 (stamp 3 2) 0 10) (stamp 4294967295 5) 10 26
+    ∷ commits (held state.Valid (stamp 4294967295 5) 5 (stamp 3 2) 0 10) (stamp 4294967295 5) 193 8
     ∷ hears (sound state.Valid) 3 6 (inv 6 5) 10 10
     ∷ hears (sound state.Valid) 3 7 (inv 6 5) 193 11
     ∷ hears5 (sound state.Valid) (ack 3 2) 1 12

@@ -11,7 +11,7 @@ use Rattle.hermes_record.specs.Order.{higher}
 use Rattle.hermes.specs.Store.{slot}
 use Rattle.hermes.specs.Event.{sentBy}
 use Rattle.hermes.specs.Frame.{EventFrame, ViewFrame, StartFrame}
-use Rattle.hermes.specs.Node.{Node, Outcome, recordOf, leaving, apply, read}
+use Rattle.hermes.specs.Node.{Node, Outcome, recordOf, leaving, apply, read, asked}
 
 pub record EqualAt (i : ℕ) (n m : Node) : Type 0 where
   -- number, epoch and view
@@ -39,6 +39,10 @@ Locality wins = (i : ℕ) (n m : Node) → EqualAt i n m → (e : Event) (v : Li
 abbrev pub ReadLocality : Type 0
 ReadLocality = (i : ℕ) (n m : Node) → EqualAt i n m → read n i ≡ read m i
 
+-- and of what an ask hands out (02, Wish 5)
+abbrev pub AskLocality : Type 0
+AskLocality = (i : ℕ) (n m : Node) → EqualAt i n m → asked n i ≡ asked m i
+
 -- demand 1: what an event changes, and what it looks at
 pub record Demand1By (wins : ℕ → ℕ → Bool) : Type 0 where
   pub event : (n : Node) (i : ℕ) (e : Event) (v : List ℕ) → EventFrame wins n i e v
@@ -46,6 +50,7 @@ pub record Demand1By (wins : ℕ → ℕ → Bool) : Type 0 where
   pub start : (k set : ℕ) (table : List Record) (store : List ℕ) → StartFrame k set table store
   pub locality : Locality wins
   pub readLocality : ReadLocality
+  pub askLocality : AskLocality
 
 -- demand 1, with document 01's order of ties; `proofs/Locality` proves it
 abbrev pub Demand1 : Type 0

@@ -15,7 +15,7 @@ use Rattle.hermes_record.specs.Members.{lowest}
 use Rattle.hermes_record.specs.Record.{freshRecord}
 use Rattle.hermes.specs.Store.{valueAt}
 use Rattle.hermes.specs.Guards.{Question, firstNo, question1, question2, question3, question18, question19}
-use Rattle.hermes.specs.Event.{Effect, effect, readPart, leavingBody, answerOf}
+use Rattle.hermes.specs.Event.{Effect, effect, readPart, Handed, askHands, leavingBody, answerOf}
 
 -- a laptop of document 01
 pub record Node : Type 0 where
@@ -69,6 +69,10 @@ apply wins n i e v = record {
 -- 01, Read
 abbrev pub read : Node → ℕ → List ℕ
 read n i = readPart (n .me) (length (n .table)) i (recordOf i n) (n .store)
+
+-- 02, Wish 5, Ask
+abbrev pub asked : Node → ℕ → Handed
+asked n i = askHands (n .me) (length (n .table)) i (recordOf i n) (n .store)
 
 -- ---- fresh start and view
 

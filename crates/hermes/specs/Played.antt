@@ -5,12 +5,13 @@ use mathlib.Core.Bool.{Bool}
 use mathlib.Core.List.{List, [], _∷_, _++_}
 use lib.Dec.{ltb}
 use lib.ListN.{replicate}
+use Rattle.hermes_record.specs.declared.timestamp.Timestamp.{Timestamp}
 use Rattle.hermes_record.specs.declared.record.Record.{Record}
 use Rattle.hermes_record.specs.Order.{higher}
 use Rattle.hermes_record.specs.Record.{freshRecord}
 use Rattle.hermes.specs.Event.{numberOf}
 use Rattle.hermes.specs.Node.{Node, newcomer, start}
-use Rattle.hermes.specs.Run.{Action, read, write, replay, deliver, validate, resend, view, Entry, by, Group, Result, nothing, event, result, advance}
+use Rattle.hermes.specs.Run.{Action, read, ask, write, commit, replay, deliver, validate, resend, view, Entry, by, Group, Result, nothing, event, result, advance}
 
 -- numbers 0, 1 and 2
 abbrev pub three : ℕ → Bool
@@ -73,8 +74,12 @@ abbrev pub numbersOf : List Line → List ℕ
 numbersOf [] = []
 numbersOf (x ∷ rest) = x .number ∷ numbersOf rest
 
+-- a version and a tie-breaker
+abbrev pub stamp : ℕ → ℕ → Timestamp
+stamp version tie = record { version = version; tie = tie }
+
 -- All three save together. 0's save is overtaken, though 1 has acknowledged it; 0 holds 2's, the greatest, and has acknowledged 1's, when 2 is struck
--- off: so 1 may validate its own, and 0 gives its own up and replays 2's (02, Wish 2). Then 1 saves once more. Messages are numbered as they leave.
+-- off: so 1 may validate its own, and 0 gives its own up and replays 2's (02, Wish 2). Then 1 asks for it and saves over it (02, Wish 5). Messages are numbered as they leave.
 abbrev pub struckOff : List Line
 struckOff =
     accepts 0 (read 0)  -- the fresh record
@@ -111,8 +116,10 @@ struckOff =
     ∷ accepts 1 (deliver 9)  -- a repeated INV: an ACK leaves once more, message 12, and nothing moves
     ∷ accepts 2 (view 1 3)  -- 2 hears of it
     ∷ refuses 2 (read 0) 3  -- and is not in its own view
-    ∷ accepts 1 (read 0)  -- B2
-    ∷ accepts 1 (write 0 (67 ∷ 51 ∷ []))  -- C3: INV, message 13
+    ∷ refuses 2 (ask 0) 3
+    ∷ accepts 1 (ask 0)  -- B2, of (1,2)
+    ∷ refuses 1 (commit 0 (stamp 1 1) (67 ∷ 51 ∷ [])) 26  -- over its own A1, which is there no longer
+    ∷ accepts 1 (commit 0 (stamp 1 2) (67 ∷ 51 ∷ []))  -- C3, over what it asked for: INV, message 13
     ∷ accepts 0 (deliver 13)  -- ACK, message 14
     ∷ accepts 1 (deliver 14)  -- the last ACK, in write: VAL, message 15
     ∷ refuses 1 (validate 0) 15  -- the ACK has settled it

@@ -6,10 +6,10 @@ use Rattle.hermes_record.specs.declared.record.Record.{Record}
 use Rattle.hermes.specs.declared.message.Message.{Message}
 use Rattle.hermes.specs.declared.message.Message.the-variants.{Inv, Ack, Val}
 use Rattle.hermes_record.specs.declared.record.State.the-variants as state
-use Rattle.hermes.specs.declared.event.Event.the-variants.{Read, Write, Replay, Deliver, Validate}
+use Rattle.hermes.specs.declared.event.Event.the-variants.{Read, Ask, Write, Commit, Replay, Deliver, Validate}
 use Rattle.hermes_record.specs.Record.{freshRecord}
 use Rattle.hermes.specs.Node.{Node, newcomer}
-use Rattle.hermes.specs.Worked.{Deed, starts, lays, does, turns, answers, leaves, stamps, lastWriter, lastWrite, acknowledgedBy, holding, sends, silent, unchanged, Row, row}
+use Rattle.hermes.specs.Worked.{Deed, starts, lays, does, turns, answers, leaves, stamps, lastWriter, lastWrite, acknowledgedBy, holding, sends, handsOut, silent, unchanged, Row, row}
 use Rattle.hermes.specs.Limits.{limits}
 
 -- the laptop before its start: one record, and memory that holds something else
@@ -39,6 +39,10 @@ val v t from e = does (Deliver (record { sender = from; epoch = e; message = Val
 
 abbrev save : Deed
 save = does Write saved
+
+-- a save over what was asked for with that timestamp
+abbrev saveOver : ℕ → ℕ → Deed
+saveOver v t = does (Commit (record { version = v; tie = t })) saved
 
 abbrev invOf : ℕ → ℕ → Message
 invOf v t = Inv (record { version = v; tie = t })
@@ -122,6 +126,21 @@ ringing =
     ∷ row (fresh []) (turns 1 34) (answers 0 ∷ silent ∷ [])
     ∷ row (fresh (turns 1 34 ∷ [])) (turns 2 34) (answers 3 ∷ unchanged ∷ [])
     ∷ row (fresh (turns 1 34 ∷ [])) (does Read []) (answers 3 ∷ unchanged ∷ [])
+    -- 02, Wish 5: an ask moves nothing, and hands out value and stamp; refused as a read is, the empty part and (0,0)
+    ∷ row (fresh []) (does Ask []) (answers 0 ∷ unchanged ∷ silent ∷ handsOut [] 0 1 ∷ [])
+    ∷ row (fresh (save ∷ inv 1 5 5 0 ∷ val 1 5 5 0 ∷ [])) (does Ask []) (answers 0 ∷ unchanged ∷ silent ∷ handsOut brought 1 5 ∷ [])
+    ∷ row (fresh (save ∷ [])) (does Ask []) (answers 6 ∷ unchanged ∷ silent ∷ handsOut [] 0 0 ∷ [])
+    ∷ row (fresh (turns 1 34 ∷ [])) (does Ask []) (answers 3 ∷ unchanged ∷ silent ∷ handsOut [] 0 0 ∷ [])
+    -- a commit goes on as a write; over another save the same, and nothing is left of its acknowledgements
+    ∷ row (fresh []) (saveOver 0 1) (answers 0 ∷ leaves state.Write ∷ stamps 1 2 ∷ lastWriter 2 ∷ lastWrite 1 2 ∷ acknowledgedBy 0 ∷ holding saved ∷ sends (invOf 1 2) ∷ [])
+    ∷ row (fresh (save ∷ ack 1 2 5 0 ∷ ack 1 2 1 0 ∷ [])) (saveOver 1 2) (answers 0 ∷ leaves state.Write ∷ stamps 2 2 ∷ lastWriter 2 ∷ lastWrite 2 2 ∷ acknowledgedBy 0 ∷ holding saved ∷ sends (invOf 2 2) ∷ [])
+    -- where a newer save came between: 26, invalid and valid again; on its own save, under way or overtaken: 26
+    ∷ row (fresh (inv 1 5 5 0 ∷ [])) (saveOver 0 1) (answers 26 ∷ unchanged ∷ silent ∷ [])
+    ∷ row (fresh (inv 1 5 5 0 ∷ [])) (saveOver 1 5) (answers 26 ∷ unchanged ∷ silent ∷ [])
+    ∷ row (fresh (inv 1 5 5 0 ∷ val 1 5 5 0 ∷ [])) (saveOver 0 1) (answers 26 ∷ unchanged ∷ silent ∷ [])
+    ∷ row (fresh (inv 1 5 5 0 ∷ val 1 5 5 0 ∷ [])) (saveOver 1 5) (answers 0 ∷ leaves state.Write ∷ stamps 2 2 ∷ lastWriter 2 ∷ lastWrite 2 2 ∷ acknowledgedBy 0 ∷ holding saved ∷ sends (invOf 2 2) ∷ [])
+    ∷ row (fresh (save ∷ [])) (saveOver 1 2) (answers 26 ∷ unchanged ∷ silent ∷ [])
+    ∷ row (fresh (save ∷ inv 1 5 5 0 ∷ val 1 5 5 0 ∷ [])) (saveOver 1 2) (answers 26 ∷ unchanged ∷ silent ∷ [])
     -- epoch 1's VAL at epoch 0: 10
     ∷ row (fresh (inv 1 5 5 0 ∷ [])) (val 1 5 5 1) (answers 10 ∷ unchanged ∷ silent ∷ [])
     ∷ []

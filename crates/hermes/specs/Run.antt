@@ -3,12 +3,13 @@ use Prim.Native.Nat.{ℕ, zero, suc}
 use mathlib.Core.Bool.{Bool, cond}
 use mathlib.Core.List.{List, [], _∷_, _++_}
 use lib.Dec.{eqb}
+use Rattle.hermes_record.specs.declared.timestamp.Timestamp.{Timestamp}
 use Rattle.hermes.specs.declared.message.Message.{Message}
 use Rattle.hermes.specs.declared.message.Header.{Header}
 use Rattle.hermes.specs.declared.message.Outgoing.{Outgoing}
 use Rattle.hermes.specs.declared.message.Outgoing.the-variants.{None, Sent}
 use Rattle.hermes.specs.declared.message.Received.{Received}
-use Rattle.hermes.specs.declared.event.Event.the-variants.{Read, Write, Replay, Deliver, Validate, Resend}
+use Rattle.hermes.specs.declared.event.Event.the-variants.{Read, Ask, Write, Commit, Replay, Deliver, Validate, Resend}
 use Rattle.hermes.specs.Event.{sentBy}
 use Rattle.hermes.specs.Node.{Node, Outcome, leaving, apply, viewed}
 
@@ -18,10 +19,14 @@ pub record Logged : Type 0 where
   pub message : Message
   pub body : List ℕ
 
--- 01, "An entry is a read, write, replay, delivery, validate, resend or view event .. of any laptop"
+-- 01, "An entry is a read, write, replay, delivery, validate, resend or view event .. of any laptop";
+-- "events added later join these": ask and commit (02, Wish 5)
 pub data Action : Type 0 where
   read : ℕ → Action
+  ask : ℕ → Action
   write : ℕ → List ℕ → Action
+  -- on the stamp that it brings back, with its value
+  commit : ℕ → Timestamp → List ℕ → Action
   replay : ℕ → Action
   -- the message with that log number
   deliver : ℕ → Action
@@ -75,7 +80,9 @@ module _ (wins : ℕ → ℕ → Bool) where
   -- 01, an entry: its event on the replica as the last entry left it
   abbrev pub perform : Action → List Logged → Node → Result
   perform (read i) log n = event (apply wins n i Read [])
+  perform (ask i) log n = event (apply wins n i Ask [])
   perform (write i v) log n = event (apply wins n i Write v)
+  perform (commit i t v) log n = event (apply wins n i (Commit t) v)
   perform (replay i) log n = event (apply wins n i Replay [])
   perform (deliver k) log n = delivery (find log k) n
   perform (validate i) log n = event (apply wins n i Validate [])

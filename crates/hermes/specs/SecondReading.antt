@@ -1,4 +1,5 @@
--- Demand 3 a second time, written from DEMANDS.md, document 01 and document 02's Wish 1 alone. What one laptop does to one event (Event, Node) is taken as given.
+-- Demand 3 a second time, written from DEMANDS.md, document 01 and document 02's Wishes 1 and 5 alone.
+-- What one laptop does to one event (Event, Node) is taken as given.
 use Prim.Native.Nat.{ℕ, _+_, _*_, _/_, _%_, _^_, _<_}
 use mathlib.Core.Path.{_≡_}
 use mathlib.Core.Logic.{_≢_, _⊎_}
@@ -13,7 +14,7 @@ use Rattle.hermes.specs.declared.message.Message.{Message}
 use Rattle.hermes.specs.declared.message.Message.the-variants.{Inv, Ack, Val}
 use Rattle.hermes.specs.declared.message.Outgoing.{Outgoing}
 use Rattle.hermes.specs.declared.message.Outgoing.the-variants.{None, Sent}
-use Rattle.hermes.specs.declared.event.Event.the-variants.{Read, Write, Replay, Deliver, Validate, Resend}
+use Rattle.hermes.specs.declared.event.Event.the-variants.{Read, Ask, Write, Commit, Replay, Deliver, Validate, Resend}
 use Rattle.hermes.specs.declared.event.Admission.the-variants.{Admitted}
 use Rattle.hermes.specs.Event.{numberOf, sentBy}
 use Rattle.hermes.specs.Node.{Node, Outcome, recordOf, apply, viewed, start}
@@ -49,7 +50,8 @@ pub record Mail : Type 0 where
   pub kind : Message
   pub bytes : List ℕ
 
--- 01, "a read, write, replay, delivery, validate, resend or view event": each with its record number; a write's value; a view's epoch and set
+-- 01, "a read, write, replay, delivery, validate, resend or view event": each with its record number; a write's value; a view's epoch and set;
+-- "events added later join these": 02, Wish 5, an ask, and a commit "that brings the stamp back", with its value
 pub data Happening : Type 0 where
   read : ℕ → Happening
   write : ℕ → List ℕ → Happening
@@ -58,6 +60,8 @@ pub data Happening : Type 0 where
   validation : ℕ → Happening
   resend : ℕ → Happening
   change : ℕ → ℕ → Happening
+  ask : ℕ → Happening
+  commit : ℕ → Timestamp → List ℕ → Happening
 
 -- 01, "a delivery names its message's record and brings its message's bytes"; every other event is simply done
 abbrev pub perform : Happening → Node → Outcome
@@ -69,6 +73,8 @@ perform (delivery m) n =
 perform (validation i) n = apply higher n i Validate []
 perform (resend i) n = apply higher n i Resend []
 perform (change epoch set) n = viewed n epoch set
+perform (ask i) n = apply higher n i Ask []
+perform (commit i t value) n = apply higher n i (Commit t) value
 
 -- 01, "accepted or refused, of any laptop of the group": the laptop as the entry finds it, and what is done there
 pub record Entry : Type 0 where
@@ -97,7 +103,8 @@ pub record Left (m : Mail) (earlier : List Entry) : Type 0 where
   pub listed : Among entry earlier
   pub left : Leaves m (sentBy (outcome entry .answer)) (outcome entry .node)
 
--- 01's premise on an event after the earlier entries: on a delivery as above, and "A view entry carries an epoch and the view issued for it"
+-- 01's premise on an event after the earlier entries: on a delivery as above, and "A view entry carries an epoch and the view issued for it";
+-- none on an ask, nor on a commit, whatever stamp it brings: 01, "accepted or refused"; 02, Wish 5, "26 when .. its stamp differs"
 abbrev pub Honest : (ℕ → ℕ) → List Entry → Happening → Type 0
 Honest issued earlier (read i) = Unit
 Honest issued earlier (write i value) = Unit
@@ -106,6 +113,8 @@ Honest issued earlier (delivery m) = Left m earlier
 Honest issued earlier (validation i) = Unit
 Honest issued earlier (resend i) = Unit
 Honest issued earlier (change epoch set) = set ≡ issued epoch
+Honest issued earlier (ask i) = Unit
+Honest issued earlier (commit i t value) = Unit
 
 -- ---- lists of entries
 
@@ -182,6 +191,7 @@ pub record LastAck (m : Mail) (i : ℕ) (n : Node) : Type 0 where
   pub completing : CompletesView (m .sender) i n
 
 -- 01, "A validation is an accepted Validate step"; 02, Wish 1, of such an ACK, "for demand 3 that too is a validation": the event, once accepted, is one of record i
+-- (neither of Wish 5's is: an ask "hands out value and stamp", a commit "goes on as a write", and its save is finished as a write's is)
 abbrev pub Validates : Happening → ℕ → Node → Type 0
 Validates (read j) i n = ⊥
 Validates (write j value) i n = ⊥
@@ -190,6 +200,8 @@ Validates (delivery m) i n = LastAck m i n
 Validates (validation j) i n = j ≡ i
 Validates (resend j) i n = ⊥
 Validates (change epoch set) i n = ⊥
+Validates (ask j) i n = ⊥
+Validates (commit j t value) i n = ⊥
 
 -- DEMANDS 3, second half: "for every accepted validation in the list", the finisher as it was found, "each laptop then in the finisher's view"
 abbrev pub Kept : List Entry → List Node → Type 0

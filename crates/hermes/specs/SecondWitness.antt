@@ -21,6 +21,8 @@ use Rattle.hermes.specs.SecondReading.{
   validation,
   resend,
   change,
+  ask,
+  commit,
   Entry,
   outcome,
   Left,
@@ -35,7 +37,8 @@ use Rattle.hermes.specs.SecondReading.{
 
 -- ---- no event is forbidden
 
--- 01, "with any record number and value": after any entries every event may follow; a delivery brings a message that left, a view is the issued one
+-- 01, "with any record number and value": after any entries every event may follow; a delivery brings a message that left, a view is the issued one;
+-- 01, "events added later join these": so may 02, Wish 5's ask, and its commit with any stamp, which 26 judges
 pub record AnyEvent (issued : ℕ → ℕ) (earlier : List Entry) : Type 0 where
   pub reads : (i : ℕ) → Honest issued earlier (read i)
   pub writes : (i : ℕ) (value : List ℕ) → Honest issued earlier (write i value)
@@ -44,6 +47,8 @@ pub record AnyEvent (issued : ℕ → ℕ) (earlier : List Entry) : Type 0 where
   pub validations : (i : ℕ) → Honest issued earlier (validation i)
   pub resends : (i : ℕ) → Honest issued earlier (resend i)
   pub changes : (epoch : ℕ) → Honest issued earlier (change epoch (issued epoch))
+  pub asks : (i : ℕ) → Honest issued earlier (ask i)
+  pub commits : (i : ℕ) (t : Timestamp) (value : List ℕ) → Honest issued earlier (commit i t value)
 
 -- ---- saves that are finished
 

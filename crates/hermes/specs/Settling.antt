@@ -9,7 +9,7 @@ use lib.ListN.{length}
 use Rattle.hermes_record.specs.Members.{has, size}
 use Rattle.hermes_record.specs.Order.{TieOrder, higher, NotAfter}
 use Rattle.hermes.specs.Node.{recordOf}
-use Rattle.hermes.specs.Run.{Action, read, write, replay, deliver, validate, resend, view, Entry, Group, Logged, Found, missing, found, find, result, advance, run}
+use Rattle.hermes.specs.Run.{Action, read, ask, write, commit, replay, deliver, validate, resend, view, Entry, Group, Logged, Found, missing, found, find, result, advance, run}
 use Rattle.hermes.specs.Agreement.{Started, Entries, Shows, Alike, IsAccepted, after}
 
 -- "all k laptops of a view are at its epoch": each number in the view issued for epoch e is a laptop of the group, and is at that epoch. That it
@@ -26,7 +26,9 @@ About i (found x) = x .header .index ≡ i
 -- of the first `old`: those had left at the outset, and "earlier lost messages may lie behind it"
 abbrev pub Helps : (i old : ℕ) → List Logged → Action → Type 0
 Helps i old log (read j) = ⊥
+Helps i old log (ask j) = ⊥
 Helps i old log (write j v) = ⊥
+Helps i old log (commit j t v) = ⊥
 Helps i old log (replay j) = j ≡ i
 Helps i old log (deliver k) = (old ≤ k) × About i (find log k)
 Helps i old log (validate j) = j ≡ i

@@ -126,6 +126,10 @@ pub record HWrite (n : Replica) (i : ℕ) (v : List ℕ) (s s′ : Vars) (m : Se
   pub value : s′ .value ≡ v
   pub send : m ≡ sendInv n i s′
 
+-- 02, Wish 5, "goes on as a write", "only if the record here is still valid with that stamp": a commit on t is HWrite under this guard, which is stronger
+abbrev pub HCommitGuard : Timestamp → Vars → Type 0
+HCommitGuard t s = (s .nodeState ≡ Valid) × equalTS t (s .nodeTS) × (s .nodeTS .version < MAX_VERSION)
+
 -- HReplayWrite
 abbrev pub HReplayWriteGuard : Replica → Vars → Type 0
 HReplayWriteGuard n s = (s .nodeState ≡ Invalid) × (isAlive n (s .nodeLastWriter) → ⊥)

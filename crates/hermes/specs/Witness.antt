@@ -10,7 +10,7 @@ use lib.ListN.{length, take, drop}
 use Rattle.hermes_record.specs.Members.{has}
 use Rattle.hermes_record.specs.Order.{higher}
 use Rattle.hermes.specs.Node.{Node, recordOf, valueOf}
-use Rattle.hermes.specs.Run.{Action, read, write, replay, deliver, validate, resend, view, by, advance, run}
+use Rattle.hermes.specs.Run.{Action, read, ask, write, commit, replay, deliver, validate, resend, view, by, advance, run}
 use Rattle.hermes.specs.Agreement.{Started, Entries, Sees, Shows, Validation, after, Agreement}
 use Rattle.hermes.specs.LastAck.{AllReplied, NoView}
 use Rattle.hermes.specs.Overtaken.{replayOf, Past, GivesUp, Turn}
@@ -25,6 +25,8 @@ kind (deliver k) = 3
 kind (validate i) = 4
 kind (resend i) = 5
 kind (view epoch set) = 6
+kind (ask i) = 7
+kind (commit i t v) = 8
 
 -- some line passes the test
 abbrev pub some : (Line → Bool) → List Line → Bool
@@ -44,7 +46,9 @@ BothWays k lines = (some (λ x. eqb (kind (x .entry .what)) k && eqb (x .number)
 -- an entry that delivers message k
 abbrev pub delivers : ℕ → Action → Bool
 delivers k (read i) = false
+delivers k (ask i) = false
 delivers k (write i v) = false
+delivers k (commit i t v) = false
 delivers k (replay i) = false
 delivers k (deliver j) = eqb j k
 delivers k (validate i) = false
@@ -112,7 +116,7 @@ pub record Witness : Type 0 where
   pub screens : TwoScreens 0 1
   pub struck : FinishedSave 19 1 (validate 0) 0
   pub replay : FinishedSave 27 0 (deliver 10) 1
-  pub save : FinishedSave 37 1 (deliver 14) 0
+  pub save : FinishedSave 39 1 (deliver 14) 0
   -- the premise of `NobodyWaits`: 0 and 1 get no view at first, and do all else; and after its view 1 waits in vain
   pub quiet0 : NoView 0 (take 21 story)
   pub quiet1 : NoView 1 (take 17 story)

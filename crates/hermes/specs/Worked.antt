@@ -12,7 +12,7 @@ use Rattle.hermes.specs.declared.event.Event.{Event}
 use Rattle.hermes_record.specs.Order.{higher}
 use Rattle.hermes.specs.Store.{place}
 use Rattle.hermes.specs.Event.{answerOf, numberOf, sentBy, send, refusal}
-use Rattle.hermes.specs.Node.{Node, Outcome, Start, recordOf, apply, admit, start, view, viewed, identity, admissionNumber}
+use Rattle.hermes.specs.Node.{Node, Outcome, Start, recordOf, apply, asked, admit, start, view, viewed, identity, admissionNumber}
 
 -- ---- a row of deeds: what happens to a laptop, on its one record, and what is said of it
 
@@ -55,6 +55,8 @@ pub data Claim : Type 0 where
   -- the value, and with it its length
   holding : List ℕ → Claim
   sends : Message → Claim
+  -- what an ask hands out at the laptop after the deed: text and stamp
+  handsOut : List ℕ → ℕ → ℕ → Claim
   silent : Claim
   unchanged : Claim
 
@@ -72,6 +74,7 @@ Says (lastWrite v t) n o = recordOf 0 (o .node) .written ≡ record { version = 
 Says (acknowledgedBy set) n o = recordOf 0 (o .node) .acks ≡ set
 Says (holding v) n o = (recordOf 0 (o .node) .len ≡ length v) × (o .node .store ≡ storeOf v)
 Says (sends m) n o = sentBy (o .answer) ≡ send (n .me) 0 m
+Says (handsOut text v t) n o = asked (o .node) 0 ≡ record { part = text; timestamp = record { version = v; tie = t } }
 Says silent n o = sentBy (o .answer) ≡ None
 Says unchanged n o = o .node ≡ n
 

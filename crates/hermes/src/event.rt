@@ -2,6 +2,7 @@
 use crate::message::Outgoing;
 use crate::message::Received;
 use hermes_record::Record;
+use hermes_record::Timestamp;
 
 // The identity of a replica (document 01's laptop): its number, its epoch, and its view, a set of numbers in 16 bits.
 pub struct Replica {
@@ -10,10 +11,13 @@ pub struct Replica {
     pub view: u16,
 }
 
-// An event on one record. A write and an invalidation bring a value with them, beside the event.
+// An event on one record. A write, a commit and an invalidation bring a value with them, beside the event; a commit also the
+// timestamp that an ask handed out.
 pub enum Event {
     Read,
+    Ask,
     Write,
+    Commit(Timestamp),
     Replay,
     Deliver(Received),
     Validate,
