@@ -15,7 +15,7 @@ use Rattle.hermes.specs.declared.event.Event.the-variants.{Read, Ask, Co
 use Rattle.hermes_record.specs.Order.{TieOrder, higher, later, NotAfter, equal, rises}
 use Rattle.hermes_record.specs.Record.{nextTimestamp}
 use Rattle.hermes.specs.Store.{slot}
-use Rattle.hermes.specs.Event.{numberOf, Handed, refusal, effect, readPart, askHands}
+use Rattle.hermes.specs.Event.{numberOf, Handed, refusal, effect, moved, readPart, askStamp, askHands}
 use Rattle.hermes.specs.Node.{Node, Outcome, recordOf, valueOf, apply, asked}
 use Rattle.hermes.specs.Run as run
 use Rattle.hermes.specs.Run.{Entry, Group, result, run}
@@ -40,8 +40,13 @@ pub as-read : (wins : ℕ → ℕ → Bool) (n : Node) (i : ℕ) → apply wins 
 unfolding apply effect refusal
 as-read wins n i = refl
 
+-- the same of one record
+pub moves-as-read : (wins : ℕ → ℕ → Bool) (me : Replica) (count bytes i : ℕ) (r : Record) → moved wins me count bytes i r Ask [] ≡ moved wins me count bytes i r Read []
+unfolding moved refusal
+moves-as-read wins me count bytes i r = refl
+
 pub ask-gives : (wins : ℕ → ℕ → Bool) (n : Node) (i : ℕ) → AskGives wins n i
-unfolding askHands readPart refusal
+unfolding askHands askStamp readPart refusal
 ask-gives wins n i = record { asRead = as-read wins n i; part = refl; accepted = gives (apply wins n i Ask []) (applied wins n i Ask []); refused = empty (apply wins n i Ask []) (applied wins n i Ask []) }
   where
     number : Outcome → ℕ

@@ -7,7 +7,7 @@ use lib.ListN.{take, drop, take-append-drop}
 use Rattle.hermes_record.specs.Members.{has, size, lowest, within, othersIn, with}
 use Rattle.hermes_record.specs.Order.{higher, later, sameTimestamp}
 use Rattle.hermes.specs.Store.{padded, place}
-use Rattle.hermes.specs.Event.{refusal, effect, askHands}
+use Rattle.hermes.specs.Event.{refusal, effect, askStamp, askHands}
 use Rattle.hermes.specs.Node.{start, apply}
 use Rattle.hermes.specs.Run.{ask, commit, by, result, advance}
 use Rattle.hermes.specs.Agreement.{Entries}
@@ -36,15 +36,15 @@ unfolding result advance apply effect refusal start has size lowest within other
 stands = (refl, refl, refl)
 
 saves : AsksThen 18 2 0 (stamp 1 1) (66 ∷ 49 ∷ []) (by 0 (commit 0 (stamp 1 1) (67 ∷ 50 ∷ [])))
-unfolding result advance apply effect refusal askHands start has size lowest within othersIn with padded place later sameTimestamp
+unfolding result advance apply effect refusal askStamp askHands start has size lowest within othersIn with padded place later sameTimestamp
 saves = record { apart = record { rest = []; split = refl; one = refl }; hands = asks refl refl refl }
 
 late : AsksThen 2 12 2 (stamp 0 0) [] (by 2 (commit 0 (stamp 0 0) (67 ∷ [])))
-unfolding result advance apply effect refusal askHands start has size lowest within othersIn with padded place later sameTimestamp
+unfolding result advance apply effect refusal askStamp askHands start has size lowest within othersIn with padded place later sameTimestamp
 late = record { apart = record { rest = drop 16 together; split = refl; one = refl }; hands = asks refl refl refl }
 
 again : AsksThen 0 17 0 (stamp 0 0) [] (by 0 (ask 0))
-unfolding result advance apply effect refusal askHands start has size lowest within othersIn with padded place later sameTimestamp
+unfolding result advance apply effect refusal askStamp askHands start has size lowest within othersIn with padded place later sameTimestamp
 again = record { apart = record { rest = drop 19 together; split = refl; one = refl }; hands = asks refl refl refl }
 
 pub asking-witness : AskingWitness

@@ -14,7 +14,7 @@ use Rattle.hermes.specs.declared.event.Event.the-variants.{Read, Ask}
 use Rattle.hermes.specs.declared.event.Answer.the-variants.{Accepted, Refused}
 use Rattle.hermes_record.specs.Order.{higher}
 use Rattle.hermes.specs.Store.{slot, valueAt}
-use Rattle.hermes.specs.Event.{Step, refusal, step, partOf, readPart, Handed, stampOf, askHands, bodyOf}
+use Rattle.hermes.specs.Event.{Step, refusal, step, partOf, readPart, Handed, stampOf, askStamp, askHands, bodyOf}
 use Rattle.hermes.specs.Node.{Node, Outcome, recordOf, valueOf, leaving, apply}
 use Rattle.hermes.specs.Frame.{bytesAfter, Changed}
 use Rattle.hermes.specs.Locality.{EqualAt, AnswersAlike, Locality, ReadLocality, AskLocality, Demand1}
@@ -97,7 +97,7 @@ read-locality i n m q = go (refusalOf n i Read []) refl
     go (suc k) z = rw (z, sym (same-number i n m q Read) ∙ z)
 
 pub ask-locality : AskLocality
-unfolding askHands
+unfolding askStamp askHands
 ask-locality i n m q = go (refusalOf n i Ask []) refl
   where
     go : (k : ℕ) → refusalOf n i Ask [] ≡ k

@@ -9,7 +9,7 @@ use Rattle.hermes.specs.declared.message.Outgoing.the-variants.{None}
 use Rattle.hermes_record.specs.Members.{has, size, lowest, within, othersIn, with}
 use Rattle.hermes_record.specs.Order.{later, sameTimestamp}
 use Rattle.hermes.specs.Store.{padded, place}
-use Rattle.hermes.specs.Event.{numberOf, sentBy, send, refusal, effect, askHands}
+use Rattle.hermes.specs.Event.{numberOf, sentBy, send, refusal, effect, askStamp, askHands}
 use Rattle.hermes.specs.Node.{Node, Outcome, recordOf, apply, asked, admit, start, view, viewed, admissionNumber}
 use Rattle.hermes.specs.Worked.{Claim, answers, leaves, stamps, lastWriter, lastWrite, acknowledgedBy, holding, sends, handsOut, silent, unchanged, storeOf, Says, SaysAll, Row, row, asks, asksStart, asksView, Holds, before, outcome}
 use Rattle.hermes.specs.Limits.{limits}
@@ -73,7 +73,7 @@ holds n (asksView me epoch set k) e = eqb-true _ k e
 
 -- the test, computed
 computed : passing Row (testRow unstarted) rows ≡ true
-unfolding passing testRow testAll test same sameList sameTable sameNode stateCode timestampCode recordCode recordNumbers replicaCode outgoingCode outgoingNumbers messageNumbers unstarted limits ringing rows apply effect refusal askHands start view viewed has size lowest within othersIn with later sameTimestamp padded place
+unfolding passing testRow testAll test same sameList sameTable sameNode stateCode timestampCode recordCode recordNumbers replicaCode outgoingCode outgoingNumbers messageNumbers unstarted limits ringing rows apply effect refusal askStamp askHands start view viewed has size lowest within othersIn with later sameTimestamp padded place
 computed = refl
 
 -- Every row about the events holds.

@@ -225,11 +225,15 @@ abbrev pub stampOf : ℕ → Timestamp → Timestamp
 stampOf zero t = t
 stampOf (suc k) t = record { version = 0; tie = 0 }
 
--- 02, Wish 5, Ask: what an ask of record i, r, hands out; a refused one, as a read, the empty part
+-- 02, Wish 5, Ask: the stamp that an ask of record i, r, hands out
+unfoldable pub askStamp : Replica → ℕ → ℕ → ℕ → Record → Timestamp
+askStamp me count bytes i r = stampOf (refusal me count bytes i r Ask 0) (r .timestamp)
+
+-- the same with the value, as a part of the store; a refused ask, as a read, hands out the empty part
 unfoldable pub askHands : Replica → ℕ → ℕ → Record → List ℕ → Handed
 askHands me count i r store = record {
   part = partOf (refusal me count (length store) i r Ask 0) (valueAt i (r .len) store);
-  timestamp = stampOf (refusal me count (length store) i r Ask 0) (r .timestamp);
+  timestamp = askStamp me count (length store) i r;
 }
 
 -- ---- what leaves

@@ -1,9 +1,9 @@
-// Questions 6 to 17, which some events ask. A change of view asks its own, 18 and 19, itself (`replica_membership`).
+// Questions 6 to 17 and 26, which some events ask. A change of view asks its own, 18 and 19, itself (`replica_membership`).
 mod states;
 
 ghost use mathlib.Core.Path.{_≡_};
 ghost use mathlib.Core.List.{[], _∷_};
-ghost use Rattle.hermes.specs.Guards.{question6, question7, question8, question9, question10, question11, question12, question13, question14, question15, question16, question17};
+ghost use Rattle.hermes.specs.Guards.{question6, question7, question8, question9, question10, question11, question12, question13, question14, question15, question16, question17, question26};
 ghost use Rattle.replica_asking.specs.Cascade.{asked};
 use hermes::Message;
 use hermes::Received;
@@ -116,4 +116,13 @@ pub fn question17(me: Replica, r: Record) -> Asked
         let valid = states::is_valid(s);
         question(17, valid & (r.writer == me.number), r)
     }
+}
+
+pub fn question26(t: Timestamp, r: Record) -> Asked
+    ensures { λ a. ⌜ a ≡ asked (question26 t r ∷ []) r ⌝ }
+{
+    let s = r.state;
+    let valid = states::is_valid(s);
+    let same = t.same(r.timestamp);
+    question(26, valid & same, r)
 }

@@ -5,12 +5,13 @@ use mathlib.Core.Bool.{Bool}
 use mathlib.Core.List.{List, []}
 use native.Mathlib.Omega.{arith}
 use lib.ListN.{length}
+use Rattle.hermes_record.specs.declared.timestamp.Timestamp.{Timestamp}
 use Rattle.hermes_record.specs.declared.record.Record.{Record}
 use Rattle.hermes.specs.declared.event.Replica.{Replica}
 use Rattle.hermes.specs.declared.event.Event.{Event}
-use Rattle.hermes.specs.declared.event.Event.the-variants.{Read, Write, Replay, Deliver, Validate, Resend}
+use Rattle.hermes.specs.declared.event.Event.the-variants.{Read, Ask, Write, Commit, Replay, Deliver, Validate, Resend}
 use Rattle.hermes.specs.Guards.{Question}
-use Rattle.hermes.specs.Event.{Step, kept, partOf, common, own, refusal, movedBy, storedBy, storing, decide, moved, effect, readStep, replayStep, validateStep, resendStep}
+use Rattle.hermes.specs.Event.{Step, kept, partOf, stampOf, common, own, refusal, movedBy, storedBy, storing, decide, moved, effect, readStep, replayStep, validateStep, resendStep}
 use Rattle.hermes.proofs.Guards.{positive-own}
 use Rattle.replica_asking.specs.declared.Asked.{Asked}
 use Rattle.replica_asking.specs.declared.Asked.the-variants.{Passed, Refused}
@@ -67,7 +68,9 @@ module _ (me : Replica) (count bytes i : ℕ) (r : Record) (e : Event) (n : ℕ)
 -- the events that store nothing
 abbrev Quiet : Event → Type 0
 Quiet Read = Unit
+Quiet Ask = Unit
 Quiet Write = ⊥
+Quiet (Commit t) = ⊥
 Quiet Replay = Unit
 Quiet (Deliver m) = ⊥
 Quiet Validate = Unit
@@ -82,7 +85,9 @@ pub quiet : (wins : ℕ → ℕ → Bool) (me : Replica) (count i : ℕ) (r : Re
     → effect wins me count i r store e v ≡ record { moved = moved wins me count (length store) i r e []; store = store }
 unfolding effect moved refusal
 quiet wins me count i r store Read v q = still (refusal me count (length store) i r Read 0) i r store (readStep r) refl
+quiet wins me count i r store Ask v q = still (refusal me count (length store) i r Ask 0) i r store (readStep r) refl
 quiet wins me count i r store Write v q = absurd q
+quiet wins me count i r store (Commit t) v q = absurd q
 quiet wins me count i r store Replay v q = still (refusal me count (length store) i r Replay 0) i r store (replayStep me i r) refl
 quiet wins me count i r store (Deliver m) v q = absurd q
 quiet wins me count i r store Validate v q = still (refusal me count (length store) i r Validate 0) i r store (validateStep me i r) refl
@@ -92,3 +97,8 @@ quiet wins me count i r store Resend v q = still (refusal me count (length store
 pub no-part : (k : ℕ) (v : List ℕ) → 0 < k → [] ≡ partOf k v
 no-part zero v l = absurd (omega arith)
 no-part (suc k) v l = refl
+
+-- and a refused ask no timestamp
+pub no-stamp : (k : ℕ) (t : Timestamp) → 0 < k → record { version = 0; tie = 0 } ≡ stampOf k t
+no-stamp zero t l = absurd (omega arith)
+no-stamp (suc k) t l = refl

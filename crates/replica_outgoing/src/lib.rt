@@ -58,7 +58,9 @@ fn sender_of(e: Event) -> u16
 {
     match e {
         Event::Read => 0,
+        Event::Ask => 0,
         Event::Write => 0,
+        Event::Commit(_) => 0,
         Event::Replay => 0,
         Event::Deliver(m) => replica_members::with(0, m.sender),
         Event::Validate => 0,

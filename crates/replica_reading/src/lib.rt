@@ -1,6 +1,9 @@
-// Read.
+// Read and ask.
+mod asking;
 mod reading;
 
+pub use asking::Opened;
+pub use asking::ask;
 pub use reading::read;
 pub use reading::read_event;
 pub use reading::read_number;

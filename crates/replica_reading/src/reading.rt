@@ -12,7 +12,8 @@ use hermes::Record;
 use hermes::Replica;
 use replica_asking::Asked;
 
-fn asks(me: Replica, count: usize, bytes: usize, i: usize, r: Record) -> Asked
+// Questions 1 to 6, which an ask asks too.
+pub(crate) fn asks(me: Replica, count: usize, bytes: usize, i: usize, r: Record) -> Asked
     ensures { λ a. ⌜ a ≡ asked (common me count bytes i r (own me r Read 0)) r ⌝ }
 {
     let a = replica_asking::every(me, count, bytes, i, r);

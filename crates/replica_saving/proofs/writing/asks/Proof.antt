@@ -1,12 +1,12 @@
--- `replica_events::writing::asks` meets its contract.
+-- `replica_saving::writing::asks` meets its contract.
 use Rattle.hermes.specs.Event.{common}
 use Rattle.hermes.specs.Guards.{question7, question8, question9}
 use Rattle.replica_asking.proofs.Cascade.{then, stop}
 use mathlib.Core.List.{[], _∷_}
 use mathlib.Core.Path.{sym, _∙_}
 use borrow.Author.Needs.{needs}
-use Rattle.replica_events.proofs.writing.asks.Statement.{statement}
-use Rattle.replica_events.proofs.writing.asks.Tie as tie
+use Rattle.replica_saving.proofs.writing.asks.Statement.{statement}
+use Rattle.replica_saving.proofs.writing.asks.Tie as tie
 
 every-requires : tie.Need-every-requires
 every-requires c κs = search needs
@@ -24,15 +24,16 @@ returns c = let v = c .before .before .before .args in
     stop (common (v .me) (v .count) (v .bytes) (v .i) (v .r) []) (question7 (v .r) ∷ question8 (v .n) ∷ question9 (v .r) ∷ []) (v .r) (c .enum-told .given .0 .0) (sym (c .before .before .every .ensures) ∙ c .enum-told .given .1)
     )
 
-asks-value-requires : tie.Need-asks-value-requires
-asks-value-requires c κs = search needs
+asks-own-requires : tie.Need-asks-own-requires
+asks-own-requires c κs = search needs
 
 returns-2 : tie.Need-returns-2
 returns-2 c = let v = c .before .before .before .before .before .args in
-    c .asks-value .ensures
+    c .asks-own .ensures
     ∙ sym (
     then (common (v .me) (v .count) (v .bytes) (v .i) (v .r) []) (λ x. question7 x ∷ question8 (v .n) ∷ question9 x ∷ []) (v .r) (c .before .before .a .given .0 .0) (sym (c .before .before .before .before .every .ensures) ∙ c .before .before .a .given .1)
     )
 
 pub asks-spec : {M : Type 1} → statement M
-asks-spec = tie.close (tie.spec every-requires enum-known-a enum-told returns asks-value-requires returns-2)
+asks-spec =
+    tie.close (tie.spec every-requires enum-known-a enum-told returns asks-own-requires returns-2)

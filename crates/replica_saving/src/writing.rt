@@ -6,25 +6,22 @@ ghost use Rattle.hermes.specs.Event.{common, own, moved, effect};
 ghost use Rattle.hermes.specs.Guards.{question7, question8, question9};
 ghost use Rattle.hermes.specs.declared.event.Event.the-variants.{Write};
 ghost use Rattle.replica_asking.specs.Cascade.{asked};
-use hermes::Message;
+use crate::saving::asks_value;
+use crate::saving::saved;
 use hermes::Moved;
 use hermes::Record;
 use hermes::Replica;
 use replica_asking::Asked;
 
 // Questions 7 to 9, of a write alone. A function of its own: the compiler then keeps the record in registers.
-fn asks_value(r: Record, n: usize) -> Asked
+fn asks_own(r: Record, n: usize) -> Asked
     ensures { λ a. ⌜ a ≡ asked (question7 r ∷ question8 n ∷ question9 r ∷ []) r ⌝ }
 {
     let a = replica_guards::question7(r);
     let Asked::Passed(r1) = a else {
         return a;
     };
-    let b = replica_guards::question8(n, r1);
-    let Asked::Passed(r2) = b else {
-        return b;
-    };
-    replica_guards::question9(r2)
+    asks_value(r1, n)
 }
 
 fn asks(me: Replica, count: usize, bytes: usize, i: usize, r: Record, n: usize) -> Asked
@@ -34,7 +31,7 @@ fn asks(me: Replica, count: usize, bytes: usize, i: usize, r: Record, n: usize) 
     let Asked::Passed(r1) = a else {
         return a;
     };
-    asks_value(r1, n)
+    asks_own(r1, n)
 }
 
 // A write of a value to record i, r, but for the store, which is of so many bytes.
@@ -52,9 +49,7 @@ pub fn move_write(
     let Asked::Passed(r1) = a else {
         return replica_asking::stopped(a, r);
     };
-    let next = r1.write(me.number, value.len() as u8);
-    let t = next.timestamp;
-    replica_outcome::accepted(replica_outgoing::send(me, i, Message::Inv(t)), next)
+    saved(me, i, r1, value)
 }
 
 // A write of a value to record i, r.
