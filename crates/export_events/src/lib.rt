@@ -1,6 +1,7 @@
-// Write, replay, validate and resend for C and Rust.
+// Write, commit, replay, validate and resend for C and Rust.
 mod events;
 
+pub use events::cetskobi_commit;
 pub use events::cetskobi_replay;
 pub use events::cetskobi_resend;
 pub use events::cetskobi_validate;

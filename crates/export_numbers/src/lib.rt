@@ -3,6 +3,7 @@ mod numbers;
 
 pub use numbers::CetskobiAdmission;
 pub use numbers::CetskobiAnswer;
+pub use numbers::CetskobiAsked;
 pub use numbers::CetskobiMessage;
 pub use numbers::CetskobiReading;
 pub use numbers::CetskobiReplica;

@@ -43,6 +43,15 @@ pub struct CetskobiReading {
     pub len: usize,
 }
 
+// The answer to an ask: 0 or the number of the question that said no, how many bytes of the store are the value, and the record's timestamp.
+#[repr(C)]
+pub struct CetskobiAsked {
+    pub number: u8,
+    pub tie: u8,
+    pub version: u32,
+    pub len: usize,
+}
+
 // The answer to a fresh start and to a view: 0 or the number of the question that said no, and the identity from then on.
 #[repr(C)]
 pub struct CetskobiAdmission {

@@ -1,9 +1,8 @@
 -- `export_events::events::cetskobi_write` meets its contract.
 use Rattle.export_calls.proofs.Beginnings.{refused-done}
-use Rattle.export_calls.proofs.Ends.{taken-here, done}
-use Rattle.replica_events.proofs.Writes.{write-moved, write-stored}
+use Rattle.export_calls.proofs.Ends.{taken-here}
+use Rattle.export_events.proofs.Saved.{saved-done}
 use Rattle.hermes.specs.declared.event.Event.the-variants as event
-use mathlib.Core.Path.{_∙_}
 use borrow.Author.Needs.{needs}
 use Rattle.export_events.proofs.events.cetskobi_write.Statement.{statement}
 use Rattle.export_events.proofs.events.cetskobi_write.Tie as tie
@@ -50,9 +49,9 @@ same-length-3 c = search needs
 
 returns-2 : tie.Need-returns-2
 returns-2 c = let v = c .before .before .before .before .before .before .before .before .before .before .before .before .before .before .before .before .before .before .before .args in
-    let moves = c .before .before .before .before .before .before .before .before .move-write .ensures ∙ write-moved _ _ (v .i) _ (v .store .now) (v .value .now) in
-    let stores = c .before .before .stored .ensures ∙ write-stored _ _ (v .i) _ (v .store .now) (v .value .now) _ (c .before .before .before .before .before .before .before .before .move-write .ensures) in
-    done (v .me) (v .table .now) (v .i) _ _ _ (taken-here (v .me) (v .table .now) _ (v .i) _ _ _ _ (c .before .before .before .before .before .before .before .before .before .before .before .before .before .before .before .replica-of .ensures) (c .before .before .before .before .before .before .before .before .before .count .ensures) (c .before .before .before .before .before .before .before .before .before .before .before .before .before .begin .ensures) (c .before .before .before .before .before .before .before .before .before .before .before .a .given .1)) (v .store .now) event.Write (v .value .now) _ _ _ _ (moves, stores) (c .before .before .before .before .before .before .finish .ensures)
+    saved-done (v .me) (v .table .now) (v .i) _ _ _
+    (taken-here (v .me) (v .table .now) _ (v .i) _ _ _ _ (c .before .before .before .before .before .before .before .before .before .before .before .before .before .before .before .replica-of .ensures) (c .before .before .before .before .before .before .before .before .before .count .ensures) (c .before .before .before .before .before .before .before .before .before .before .before .before .before .begin .ensures) (c .before .before .before .before .before .before .before .before .before .before .before .a .given .1))
+    (v .store .now) event.Write tt (v .value .now) _ _ _ _ (c .before .before .before .before .before .before .before .before .move-write .ensures) (c .before .before .before .before .before .before .finish .ensures) (c .before .before .stored .ensures)
 
 pub cetskobi-write-spec : {M : Type 1} → statement M
 cetskobi-write-spec =
