@@ -18,7 +18,7 @@ use Rattle.hermes.specs.declared.event.Replica.{Replica}
 use Rattle.hermes.specs.declared.event.Answer.{Answer}
 use Rattle.hermes.specs.declared.event.Answer.the-variants.{Accepted, Refused}
 use Rattle.hermes.specs.declared.event.Event.{Event}
-use Rattle.hermes.specs.declared.event.Event.the-variants.{Read, Write, Replay, Deliver, Validate, Resend}
+use Rattle.hermes.specs.declared.event.Event.the-variants.{Read, Ask, Write, Commit, Replay, Deliver, Validate, Resend}
 use Rattle.hermes_record.specs.Order.{higher, later}
 use Rattle.hermes.specs.Kind.{messageOf}
 use Rattle.hermes.proofs.Kind.{message-back}
@@ -74,7 +74,9 @@ module _ (me : Replica) (i : ℕ) (r : Record) (v : List ℕ) where
 
   headed : (e : Event) → Headed me i (step higher me i r e v .sent)
   headed Read = tt
+  headed Ask = tt
   headed Write = refl
+  headed (Commit t) = refl
   headed Replay = refl
   headed (Deliver m) = delivered (m .sender) (m .message)
   headed Validate = refl

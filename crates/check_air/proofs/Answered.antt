@@ -13,12 +13,12 @@ use Rattle.hermes.specs.declared.event.Answer.the-variants.{Accepted, Refused}
 use Rattle.hermes.specs.declared.event.Admission.{Admission}
 use Rattle.hermes.specs.declared.event.Admission.the-variants as admission
 use Rattle.hermes.specs.declared.event.Event.{Event}
-use Rattle.hermes.specs.declared.event.Event.the-variants.{Read, Write, Replay, Deliver, Validate, Resend}
+use Rattle.hermes.specs.declared.event.Event.the-variants.{Read, Ask, Write, Commit, Replay, Deliver, Validate, Resend}
 use Rattle.hermes.specs.declared.event.Moved.{Moved}
 use Rattle.hermes_record.specs.Order.{higher}
 use Rattle.hermes.specs.Store.{valueAt}
 use Rattle.hermes.specs.Event as event
-use Rattle.hermes.specs.Event.{answerOf, refusal, step, effect, partOf, readPart}
+use Rattle.hermes.specs.Event.{answerOf, refusal, step, effect, partOf, readPart, askHands}
 use Rattle.hermes.specs.Node as hermes
 use Rattle.hermes.specs.Node.{recordAt, recordOf, effectOf, apply, viewed, identity, admissionNumber}
 use Rattle.packet_format.specs.declared.answer.Fetched.{Fetched}
@@ -36,11 +36,12 @@ use Rattle.export_numbers.specs.Crossing.{replicaOf, identityOf, answerOut, adm
 use Rattle.export_fields.specs.declared.answers.CetskobiAccepted.{CetskobiAccepted}
 use Rattle.export_fields.specs.Answers.{acceptedIn}
 use Rattle.export_packets.specs.Calls.{acceptAnswer}
+use Rattle.export_reading.specs.Reading.{AskDone}
 use Rattle.export_arrival.specs.Arrival.{numbersOf, bytesArrived}
 use Rattle.export_accepted.specs.declared.accepted.CetskobiArrival.{CetskobiArrival}
 use Rattle.export_accepted.specs.Arrival.{arrivalOf, takenReceipt, Came}
-use Rattle.check_air.specs.Callers.{Laptop, node, read, write, replay, deliver, deliverPacket, deliverAccepted, validate, resend, view, Moves, Returns, Broken, Untaken, validates, acknowledges}
-use Rattle.check_air.specs.Answered.{callNumber, afterEvent, afterTaken, afterCall, EveryCallMayFollow, EveryCallFinishes, EveryCallAnswers}
+use Rattle.check_air.specs.Callers.{Laptop, node, read, ask, write, commit, replay, deliver, deliverPacket, deliverAccepted, validate, resend, view, Moves, Returns, Broken, Untaken, validates, acknowledges}
+use Rattle.check_air.specs.Answered.{callNumber, askAnswer, afterEvent, afterTaken, afterCall, EveryCallMayFollow, EveryCallFinishes, EveryCallAnswers}
 use Rattle.check_air.proofs.Callers.{number-out, is-found}
 
 -- the bytes after an event hold the table after it
@@ -94,13 +95,31 @@ own-length zero xs = refl
 own-length (suc n) [] = refl
 own-length (suc n) (x ∷ xs) = ap (λ (l : List ℕ). x ∷ l) (own-length n xs)
 
+-- what is handed out lies in the store, or is empty
+handed-out : (i n : ℕ) (store : List ℕ) (k : ℕ) → take (length (partOf k (valueAt i n store))) (drop (192 * i) store) ≡ partOf k (valueAt i n store)
+handed-out i n store zero = own-length n (drop (192 * i) store)
+handed-out i n store (suc k) = refl
+
 reads : (l : Laptop) (i : ℕ) → Returns (read i) l (callNumber (read i) l) l
 unfolding readPart
-reads l i = (record { number = callNumber (read i) l; len = length (hermes.read (node l) i) }, record { number = refl; part = record { len = refl; part = go (refusal (node l .me) (length (node l .table)) (length (l .store)) i (recordOf i (node l)) Read 0) } }, refl, refl)
-  where
-    go : (k : ℕ) → take (length (partOf k (valueAt i (recordOf i (node l) .len) (l .store)))) (drop (192 * i) (l .store)) ≡ partOf k (valueAt i (recordOf i (node l) .len) (l .store))
-    go zero = own-length (recordOf i (node l) .len) (drop (192 * i) (l .store))
-    go (suc k) = refl
+reads l i = (
+  record { number = callNumber (read i) l; len = length (hermes.read (node l) i) },
+  record {
+    number = refl;
+    part = record { len = refl; part = handed-out i (recordOf i (node l) .len) (l .store) (refusal (node l .me) (length (node l .table)) (length (l .store)) i (recordOf i (node l)) Read 0) };
+  },
+  refl,
+  refl,
+)
+
+pub asks : (l : Laptop) (i : ℕ) → AskDone (node l) i (askAnswer l i)
+unfolding askHands
+asks l i = record {
+  number = refl;
+  part = record { len = refl; part = handed-out i (recordOf i (node l) .len) (l .store) (refusal (node l .me) (length (node l .table)) (length (l .store)) i (recordOf i (node l)) Ask 0) };
+  version = refl;
+  tie = refl;
+}
 
 -- a change of view
 views : (l : Laptop) (epoch set : ℕ) → Returns (view epoch set) l (callNumber (view epoch set) l) (afterCall (view epoch set) l)
@@ -124,7 +143,9 @@ views l epoch set = (admissionOut a (l .me), refl, said a, left a)
 
 pub every-call-answers : EveryCallAnswers
 every-call-answers (read i) l = reads l i
+every-call-answers (ask i) l = (askAnswer l i, asks l i, refl, refl)
 every-call-answers (write i v) l = moves l i Write v
+every-call-answers (commit i version tie v) l = moves l i (Commit (record { version = version; tie = tie })) v
 every-call-answers (replay i) l = moves l i Replay []
 every-call-answers (deliver i m v) l = moves l i (Deliver (receivedIn m)) v
 every-call-answers (deliverPacket p i) l = arrives l p i
@@ -144,7 +165,9 @@ untaken p i h = by (taken p (accepted p) i) refl
 pub every-call-may-follow : EveryCallMayFollow
 every-call-may-follow issued log = record {
   reads = λ i. tt;
+  asks = λ i. tt;
   writes = λ i v. tt;
+  commits = λ i version tie v. tt;
   replays = λ i. tt;
   deliveries = λ i m v h. inl h;
   unknowns = λ i m v h. inr h;

@@ -14,7 +14,7 @@ use Rattle.hermes.specs.declared.event.Answer.the-variants.{Accepted, Refused}
 use Rattle.hermes.specs.declared.event.Admission.{Admission}
 use Rattle.hermes.specs.declared.event.Admission.the-variants as admission
 use Rattle.hermes.specs.declared.event.Event.{Event}
-use Rattle.hermes.specs.declared.event.Event.the-variants.{Read, Write, Replay, Deliver, Validate, Resend}
+use Rattle.hermes.specs.declared.event.Event.the-variants.{Read, Ask, Write, Commit, Replay, Deliver, Validate, Resend}
 use Rattle.hermes.specs.declared.message.Outgoing.{Outgoing}
 use Rattle.hermes.specs.declared.message.Outgoing.the-variants.{None, Sent}
 use Rattle.hermes.specs.declared.message.Message.{Message}
@@ -34,6 +34,7 @@ use Rattle.hermes.specs.Agreement as agreement-of
 use Rattle.hermes.specs.Agreement.{FreshStart, Started, AsIssued, Entries, IsAccepted, Validation, Agreement, Shows, Sees, Alike}
 use Rattle.hermes.proofs.Apply.{Applied, refused, accepted, applied, its-own}
 use Rattle.hermes.proofs.Agreement.{agreement}
+use Rattle.hermes.proofs.Asking.{as-read}
 use Rattle.packet_format.specs.declared.answer.Fetched.{Fetched}
 use Rattle.packet_format.specs.declared.answer.Fetched.the-variants as fetch
 use Rattle.packet_format.specs.declared.entry.Fields.{Fields}
@@ -56,7 +57,7 @@ use Rattle.export_fields.specs.Answers.{acceptedIn}
 use Rattle.export_arrival.specs.Arrival.{numbersOf}
 use Rattle.export_accepted.specs.Arrival.{Delivered, takenReceipt}
 use Rattle.export_accepted.proofs.OnePass.{own-receipt}
-use Rattle.check_air.specs.Callers.{Laptop, node, Call, read, write, replay, deliver, deliverPacket, deliverAccepted, validate, resend, view, Moves, Returns, Hut, Turn, outcome, logOf, next, after, FromAir, Fair, Follows, Begun, AllBegun, laptop, Delivers, Finishes, validates, acknowledges, CallsAgree, CalledDemand3}
+use Rattle.check_air.specs.Callers.{Laptop, node, Call, read, ask, write, commit, replay, deliver, deliverPacket, deliverAccepted, validate, resend, view, Moves, Returns, Hut, Turn, outcome, logOf, next, after, FromAir, Fair, Follows, Begun, AllBegun, laptop, Delivers, Finishes, validates, acknowledges, CallsAgree, CalledDemand3}
 use Rattle.check_air.proofs.Air.{found-left}
 
 -- ---- the log
@@ -83,9 +84,11 @@ taken-action log j (take.Entry g) = run.deliver j
 taken-action log j (take.Refused k) = run.deliver (length log)
 
 -- the entry of a call
-action : (issued : ℕ → ℕ) (log : List Logged) (c : Call) → Fair issued log c → Action
+pub action : (issued : ℕ → ℕ) (log : List Logged) (c : Call) → Fair issued log c → Action
 action issued log (read i) f = run.read i
+action issued log (ask i) f = run.ask i
 action issued log (write i v) f = run.write i v
+action issued log (commit i version tie v) f = run.commit i (record { version = version; tie = tie }) v
 action issued log (replay i) f = run.replay i
 action issued log (deliver i m v) (inl f) = run.deliver (log-number (f .message) log (f .earlier) .0)
 action issued log (deliver i m v) (inr f) = run.deliver (length log)
@@ -100,7 +103,9 @@ action issued log (view epoch set) f = run.view epoch set
 as-issued : (issued : ℕ → ℕ) (log : List Logged) (c : Call) (f : Fair issued log c) → AsIssued issued (action issued log c f)
 unfolding action
 as-issued issued log (read i) f = tt
+as-issued issued log (ask i) f = tt
 as-issued issued log (write i v) f = tt
+as-issued issued log (commit i version tie v) f = tt
 as-issued issued log (replay i) f = tt
 as-issued issued log (deliver i m v) (inl f) = tt
 as-issued issued log (deliver i m v) (inr f) = tt
@@ -188,7 +193,9 @@ module _ (issued : ℕ → ℕ) (log : List Logged) where
   does : (c : Call) (f : Fair issued log c) (n : Node) → Does log n (action issued log c f) (outcome c n)
   unfolding action receipt
   does (read i) f n = event-does log n (run.read i) _ refl
+  does (ask i) f n = event-does log n (run.ask i) _ refl
   does (write i v) f n = event-does log n (run.write i v) _ refl
+  does (commit i version tie v) f n = event-does log n (run.commit i (record { version = version; tie = tie }) v) _ refl
   does (replay i) f n = event-does log n (run.replay i) _ refl
   does (deliver i m v) (inl f) n = sent-does log n (f .message) (f .earlier) (outcome (deliver i m v) n) (rw (f .index, f .same, f .bytes))
   does (deliver i m v) (inr f) n = let (k, e) = unknown-refused n i m v f in nothing-does log n k (outcome (deliver i m v) n) e
@@ -233,7 +240,9 @@ admits (admission.Refused k) me = refl
 pub lands : (c : Call) (l l′ : Laptop) (number : ℕ) → Returns c l number l′ → node l′ ≡ outcome c (node l) .node
 unfolding viewed receipt
 lands (read i) l l′ number (p, d, q, same) = ap node same ∙ sym (reads (node l) i)
+lands (ask i) l l′ number (p, d, q, same) = ap node same ∙ sym (ap (λ (o : Outcome). o .node) (as-read higher (node l) i) ∙ reads (node l) i)
 lands (write i v) l l′ number r = moves l l′ i Write v number r
+lands (commit i version tie v) l l′ number r = moves l l′ i (Commit (record { version = version; tie = tie })) v number r
 lands (replay i) l l′ number r = moves l l′ i Replay [] number r
 lands (deliver i m v) l l′ number r = moves l l′ i (Deliver (receivedIn m)) v number r
 lands (deliverPacket p i) l l′ number (a, d, q, same) =
@@ -254,9 +263,9 @@ lands (view epoch set) l l′ number (a, e, q, same) =
 -- ---- a list of calls
 
 -- the run of a group holds what the callers hold
-record Match (g : Group) (h : Hut) : Type 0 where
-  nodes : (k : ℕ) → g .at k ≡ node (h .at k)
-  logs : g .log ≡ h .log
+pub record Match (g : Group) (h : Hut) : Type 0 where
+  pub nodes : (k : ℕ) → g .at k ≡ node (h .at k)
+  pub logs : g .log ≡ h .log
 
 -- the number of an answer crosses as it is
 pub number-out : (a : Answer) → answerOut a .number ≡ numberOf a
@@ -267,11 +276,11 @@ number-out (Accepted (Sent (Val t) h)) = refl
 number-out (Refused k) = refl
 
 module _ (member : ℕ → Bool) (issued : ℕ → ℕ) where
-  abbrev entry : (h : Hut) (s : Turn) → Fair issued (h .log) (s .call) → Entry
+  abbrev pub entry : (h : Hut) (s : Turn) → Fair issued (h .log) (s .call) → Entry
   entry h s f = record { who = s .who; what = action issued (h .log) (s .call) f }
 
   -- one call, one entry
-  turn-matches : (g : Group) (h : Hut) (s : Turn) (f : Fair issued (h .log) (s .call)) → Returns (s .call) (h .at (s .who)) (s .number) (s .left)
+  pub turn-matches : (g : Group) (h : Hut) (s : Turn) (f : Fair issued (h .log) (s .call)) → Returns (s .call) (h .at (s .who)) (s .number) (s .left)
       → Match g h → Match (advance higher g (entry h s f)) (next h s)
   unfolding advance result
   turn-matches g h s f r e = record { nodes = λ k. at k (eqb k (s .who)) refl; logs = ap₂ logAfter same (e .logs) ∙ d .logs }
@@ -294,30 +303,34 @@ module _ (member : ℕ → Bool) (issued : ℕ → ℕ) where
           ap₂ nodeAfter same (ap (g .at) (eqb-true k (s .who) q) ∙ e .nodes (s .who)) ∙ d .leaves ∙ sym (lands (s .call) (h .at (s .who)) (s .left) (s .number) r)
       at k false q = e .nodes k
 
-  entries : (h : Hut) (turns : List Turn) → Follows member issued h turns → List Entry
+  pub entries : (h : Hut) (turns : List Turn) → Follows member issued h turns → List Entry
   entries h [] f = []
   entries h (s ∷ rest) (m, fair, r, f) = entry h s fair ∷ entries (next h s) rest f
 
-  are-entries : (h : Hut) (turns : List Turn) (f : Follows member issued h turns) → Entries member issued (entries h turns f)
+  pub first-entry : (h : Hut) (s : Turn) (rest : List Turn) (f : Follows member issued h (s ∷ rest)) → entries h (s ∷ rest) f ≡ entry h s (f .1) ∷ entries (next h s) rest (f .3)
+  unfolding entries
+  first-entry h s rest f = refl
+
+  pub are-entries : (h : Hut) (turns : List Turn) (f : Follows member issued h turns) → Entries member issued (entries h turns f)
   unfolding entries
   are-entries h [] f = tt
   are-entries h (s ∷ rest) (m, fair, r, f) = (m, as-issued issued (h .log) (s .call) fair, are-entries (next h s) rest f)
 
-  matches : (g : Group) (h : Hut) (turns : List Turn) (f : Follows member issued h turns) → Match g h → Match (run.run higher g (entries h turns f)) (after h turns)
+  pub matches : (g : Group) (h : Hut) (turns : List Turn) (f : Follows member issued h turns) → Match g h → Match (run.run higher g (entries h turns f)) (after h turns)
   unfolding entries
   matches g h [] f e = e
   matches g h (s ∷ rest) (m, fair, r, f) e = matches (advance higher g (entry h s fair)) (next h s) rest f (turn-matches g h s fair r e)
 
   -- a list of calls, cut in two
-  first-part : (h : Hut) (before rest : List Turn) → Follows member issued h (before ++ rest) → Follows member issued h before
+  pub first-part : (h : Hut) (before rest : List Turn) → Follows member issued h (before ++ rest) → Follows member issued h before
   first-part h [] rest f = tt
   first-part h (s ∷ before) rest (m, fair, r, f) = (m, fair, r, first-part (next h s) before rest f)
 
-  second-part : (h : Hut) (before rest : List Turn) → Follows member issued h (before ++ rest) → Follows member issued (after h before) rest
+  pub second-part : (h : Hut) (before rest : List Turn) → Follows member issued h (before ++ rest) → Follows member issued (after h before) rest
   second-part h [] rest f = f
   second-part h (s ∷ before) rest (m, fair, r, f) = second-part (next h s) before rest f
 
-  both-parts : (h : Hut) (before rest : List Turn) (f : Follows member issued h (before ++ rest))
+  pub both-parts : (h : Hut) (before rest : List Turn) (f : Follows member issued h (before ++ rest))
       → entries h (before ++ rest) f ≡ entries h before (first-part h before rest f) ++ entries (after h before) rest (second-part h before rest f)
   unfolding entries first-part second-part
   both-parts h [] rest f = refl
@@ -332,6 +345,17 @@ module _ (issued : ℕ → ℕ) (log : List Logged) (i : ℕ) where
   is-accepted : (l l′ : Laptop) (number : ℕ) → number ≡ 0 → (c : Call) → c ≡ validate i → Returns c l number l′ → IsAccepted (perform higher (run.validate i) log (node l))
   is-accepted l l′ number z c e = subst (λ (x : Call). Returns x l number l′ → IsAccepted (perform higher (run.validate i) log (node l))) (sym e)
       (λ r. sym (ap (λ (x : CetskobiAnswer). x .number) (r .1 .answer) ∙ number-out (apply higher (node l) i Validate [] .answer)) ∙ r .2 ∙ z)
+
+-- the entry of an ask is that ask, and of a commit that commit
+module _ (issued : ℕ → ℕ) (log : List Logged) (i : ℕ) where
+  pub is-ask : (c : Call) → c ≡ ask i → (f : Fair issued log c) → action issued log c f ≡ run.ask i
+  unfolding action
+  is-ask c e = subst (λ (x : Call). (f : Fair issued log x) → action issued log x f ≡ run.ask i) (sym e) (λ f. refl)
+
+  pub is-commit : (version tie : ℕ) (v : List ℕ) (c : Call) → c ≡ commit i version tie v → (f : Fair issued log c) → action issued log c f ≡ run.commit i (record { version = version; tie = tie }) v
+  unfolding action
+  is-commit version tie v c e =
+      subst (λ (x : Call). (f : Fair issued log x) → action issued log x f ≡ run.commit i (record { version = version; tie = tie }) v) (sym e) (λ f. refl)
 
 -- ---- a delivery with which a VAL leaves is that of a last ACK
 
@@ -429,7 +453,7 @@ admitted k set table store old e = go (startRefusal k set (length table) (length
     go (suc q) e = absurd (omega arith)
 
 -- the run's group of the callers' laptops
-abbrev groupOf : Hut → Group
+abbrev pub groupOf : Hut → Group
 groupOf h = record { at = λ k. node (h .at k); log = h .log }
 
 begins : (count : ℕ) (issued : ℕ → ℕ) (k : ℕ) (l : Laptop) → Begun count issued k l → FreshStart count issued k (node l)
@@ -451,14 +475,14 @@ begins count issued k l b =
 -- ---- demand 3
 
 module _ (member : ℕ → Bool) (count : ℕ) (issued : ℕ → ℕ) (h : Hut) (begun : AllBegun member count issued h) where
-  started : Started member count issued (groupOf h)
+  pub started : Started member count issued (groupOf h)
   started = record { fresh = λ k m. begins count issued k (h .at k) (begun .fresh k m); silent = begun .silent }
 
   -- the run's laptops are the callers'
   abbrev entriesOf : (turns : List Turn) → Follows member issued h turns → List Entry
   entriesOf turns f = entries member issued h turns f
 
-  match : (turns : List Turn) (f : Follows member issued h turns) → Match (run.run higher (groupOf h) (entriesOf turns f)) (after h turns)
+  pub match : (turns : List Turn) (f : Follows member issued h turns) → Match (run.run higher (groupOf h) (entriesOf turns f)) (after h turns)
   match turns f = matches member issued (groupOf h) h turns f (record { nodes = λ k. refl; logs = refl })
 
   same : (turns : List Turn) (f : Follows member issued h turns) (k : ℕ) → run.run higher (groupOf h) (entriesOf turns f) .at k ≡ laptop h turns k

@@ -16,14 +16,14 @@ use Rattle.hermes.specs.declared.message.Message.{Message}
 use Rattle.hermes.specs.declared.message.Message.the-variants.{Inv, Ack, Val}
 use Rattle.hermes.specs.declared.event.Replica.{Replica}
 use Rattle.hermes.specs.declared.event.Event.{Event}
-use Rattle.hermes.specs.declared.event.Event.the-variants.{Read, Write, Replay, Deliver, Validate, Resend}
+use Rattle.hermes.specs.declared.event.Event.the-variants.{Read, Ask, Write, Commit, Replay, Deliver, Validate, Resend}
 use Rattle.hermes_record.specs.Order.{higher, later, sameTimestamp, NotAfter, equal, rises}
 use Rattle.hermes_record.proofs.Tests.{both}
 use Rattle.hermes_record.proofs.Order.{higher-order, same-equal, greater-later, later-apart, notAfter-trans, notAfter-antisym}
-use Rattle.hermes.specs.Guards.{AllYes}
+use Rattle.hermes.specs.Guards.{AllYes, question9}
 use Rattle.hermes.specs.Kind as kind
 use Rattle.hermes.specs.Store.{slot, valueAt}
-use Rattle.hermes.specs.Event.{Stored, kept, Step, own, step, deliverStep, invStep, ackStep, completes}
+use Rattle.hermes.specs.Event.{Stored, kept, Step, own, step, writeStep, deliverStep, invStep, ackStep, completes}
 use Rattle.hermes.specs.Node.{Node, Outcome, recordOf, apply, viewed}
 use Rattle.hermes.specs.Frame.{bytesAfter, Changed}
 use Rattle.hermes.proofs.Guards.{slot-fits}
@@ -45,7 +45,7 @@ use Rattle.export_numbers.specs.Crossing.{receivedIn}
 use Rattle.export_calls.specs.Calls.{nodeOf}
 use Rattle.export_outgoing.specs.Leaving.{Along, along, gone, alongIf, stampOf, holds, alongOf, AlongAt}
 use Rattle.export_outgoing.proofs.Sent.{nothing-along, asked-body}
-use Rattle.check_air.specs.Callers.{Laptop, node, Call, read, write, replay, deliver, deliverPacket, deliverAccepted, validate, resend, view, Hut, Turn, Returns, outcome, next, after, Follows, laptop}
+use Rattle.check_air.specs.Callers.{Laptop, node, Call, read, ask, write, commit, replay, deliver, deliverPacket, deliverAccepted, validate, resend, view, Hut, Turn, Returns, outcome, next, after, Follows, laptop}
 use Rattle.check_air.specs.Late.{OneText, LateIsCalled}
 use Rattle.check_air.proofs.Callers.{lands}
 use Rattle.check_air.proofs.Answered.{own-length}
@@ -98,11 +98,17 @@ module _ (me : Replica) (k : ℕ) (r : Record) (v : List ℕ) where
       go false = inl (refl, refl, refl)
   delivered sender (Val t) = inl (refl, refl, refl)
 
+  -- a write's step, below the greatest version
+  raised : question9 r .yes ≡ true → KeepsOrRises r (writeStep me k r v)
+  raised h =
+      let more = next-version (r .timestamp .version) h in
+      inr (greater-later higher (writeStep me k r v .after .timestamp) (r .timestamp) (inl (omega (arith, more))))
+
   steps : (e : Event) → AllYes (own me r e (length v)) → KeepsOrRises r (step higher me k r e v)
   steps Read y = inl (refl, refl, refl)
-  steps Write y =
-      let more = next-version (r .timestamp .version) (y .1 .1 .0) in
-      inr (greater-later higher (step higher me k r Write v .after .timestamp) (r .timestamp) (inl (omega (arith, more))))
+  steps Ask y = inl (refl, refl, refl)
+  steps Write y = raised (y .1 .1 .0)
+  steps (Commit t) y = raised (y .1 .1 .0)
   steps Replay y = inl (refl, refl, refl)
   steps (Deliver m) y = delivered (m .sender) (m .message)
   steps Validate y = inl (refl, refl, refl)
@@ -148,7 +154,9 @@ module _ (i : ℕ) where
   call-since : (c : Call) (n : Node) → Since i n (outcome c n .node)
   unfolding viewed receipt
   call-since (read k) n = event-since i n k Read []
+  call-since (ask k) n = event-since i n k Ask []
   call-since (write k v) n = event-since i n k Write v
+  call-since (commit k version tie v) n = event-since i n k (Commit (record { version = version; tie = tie })) v
   call-since (replay k) n = event-since i n k Replay []
   call-since (deliver k m v) n = event-since i n k (Deliver (receivedIn m)) v
   call-since (deliverPacket p k) n = receipt-since n p (fetched p k)

@@ -11,7 +11,7 @@ use Rattle.hermes_record.specs.Members.{has, size, lowest, within, othersIn, wi
 use Rattle.hermes_record.specs.Order.{higher, later, sameTimestamp}
 use Rattle.hermes_record.proofs.Tests as tests
 use Rattle.hermes.specs.Store.{padded, place}
-use Rattle.hermes.specs.Event.{refusal, effect}
+use Rattle.hermes.specs.Event.{refusal, effect, askStamp, askHands}
 use Rattle.hermes.specs.Node.{start, apply, view, viewed}
 use Rattle.packet_format.specs.Entry.{good, entryBytes}
 use Rattle.packet_format.specs.Reading.{walk, fetchRefusal, fetched}
@@ -27,16 +27,19 @@ use Rattle.hermes.specs.declared.event.Event.the-variants.{Write, Deliver, Vali
 use Rattle.hermes.specs.Node.{newcomer}
 use Rattle.hermes.specs.Run.{Logged, received}
 use Rattle.export_numbers.specs.declared.numbers.CetskobiAdmission.{CetskobiAdmission}
+use Rattle.export_reading.specs.Reading.{AskDone}
 use Rattle.export_numbers.specs.Crossing.{identityOf, answerOut}
 use Rattle.export_outgoing.specs.Leaving.{Along, along, alongOf, AlongAt}
 use Rattle.export_packets.specs.Calls.{acceptAnswer, packAnswer}
 use Rattle.check_air.specs.Air.{Sending, wordsSent, bodiesSent, Leaves, Called, Packed}
-use Rattle.check_air.specs.Callers.{Laptop, node, Broken, Untaken, AsNumbers, Begun, AllBegun, Hut, Fair, Follows, FromAir, next, validates, acknowledges}
+use Rattle.check_air.specs.Callers.{Laptop, node, Broken, Untaken, AsNumbers, Begun, AllBegun, Hut, Fair, Follows, FromAir, next, after, validates, acknowledges}
 use Rattle.check_air.specs.Callers as callers
-use Rattle.check_air.specs.Morning.{val, valNumbers, inv2, ack2, val2, three, issued, lentTable, lentStore, fresh, hut, inv, ack, packetOf, Plan, turn, plans, turnsOf, morning, Morning}
-use Rattle.check_air.specs.Answered.{afterEvent, afterCall}
+use Rattle.check_air.specs.Morning.{val, valNumbers, inv2, ack2, val2, three, issued, lentTable, lentStore, fresh, hut, inv, ack, packetOf, Plan, turn, plans, turnsOf, morning, a1, by, Morning}
+use Rattle.check_air.specs.Answered.{askAnswer, afterEvent, afterCall}
+use Rattle.check_air.specs.Opened.{AskedThenCommitted}
 use Rattle.check_air.proofs.Callers.{called-demand3}
-use Rattle.check_air.proofs.Answered.{after-table, every-call-answers}
+use Rattle.check_air.proofs.Opened.{called-asking}
+use Rattle.check_air.proofs.Answered.{after-table, asks, every-call-answers}
 
 abbrev admitted : ℕ → CetskobiAdmission
 admitted k = record { number = 0; replica = identityOf (newcomer k 7) }
@@ -196,7 +199,7 @@ follow h (t ∷ rest) m (fair, f) =
 fair : AllFair hut plans
 unfolding has size lowest within othersIn with later sameTimestamp padded place refusal effect start apply view viewed good entryBytes walk fetchRefusal fetched acceptRefusal accepted takeRefusal taken summed contents packetBytes allGood writeRefusal packetWritten outputOf entryIn wordMessages receipt decode tableOf
 fair =
-    (tt, (tt, (tt, (tt, (inl inv-came, (inr broken, (inr untaken, (tt, (inl ack-came, (tt, (refl, (tt, (tt, (tt, (refl, (refl, (inl val-came, (inl val-numbers, (inr refl, (tt, (inl inv2-numbers, (inl ack2-numbers, (inl val2-numbers, (tt, tt))))))))))))))))))))))))
+    (tt, (tt, (tt, (tt, (inl inv-came, (inr broken, (inr untaken, (tt, (inl ack-came, (tt, (refl, (tt, (tt, (tt, (refl, (refl, (inl val-came, (inl val-numbers, (inr refl, (tt, (tt, (tt, (tt, (inl inv2-numbers, (inl ack2-numbers, (inl val2-numbers, (tt, tt)))))))))))))))))))))))))))
 
 followed : Follows three issued hut morning
 unfolding members
@@ -204,6 +207,27 @@ followed = follow hut plans refl fair
 
 begun : AllBegun three 1 issued hut
 begun = record { fresh = begins; silent = refl }
+
+-- 1 as its ask finds it, and what that answers
+abbrev asking : Laptop
+asking = after hut (take 19 morning) .at 1
+
+ask-answers : askAnswer asking 0 ≡ a1
+unfolding has size lowest within othersIn with later sameTimestamp padded place refusal effect askStamp askHands start apply view viewed good entryBytes walk fetchRefusal fetched acceptRefusal accepted takeRefusal taken summed contents packetBytes allGood writeRefusal packetWritten outputOf entryIn wordMessages receipt decode tableOf
+ask-answers = refl
+
+asked : AskedThenCommitted hut morning (take 19 morning) (take 1 (drop 20 morning)) 0 (turn (after hut (take 19 morning)) (by 1 (callers.ask 0)))
+    (turn (after hut (take 21 morning)) (by 1 (callers.commit 0 1 0 (66 ∷ [])))) a1 (66 ∷ [])
+unfolding has size lowest within othersIn with later sameTimestamp padded place refusal effect askStamp askHands start apply view viewed good entryBytes walk fetchRefusal fetched acceptRefusal accepted takeRefusal taken summed contents packetBytes allGood writeRefusal packetWritten outputOf entryIn wordMessages receipt decode tableOf
+asked = record {
+  rest = drop 22 morning;
+  split = refl;
+  one = refl;
+  asks = refl;
+  answers = subst (AskDone (node asking) 0) ask-answers (asks asking 0);
+  accepted = refl;
+  commits = refl;
+}
 
 pub morning-holds : Morning
 unfolding has size lowest within othersIn with later sameTimestamp padded place refusal effect start apply view viewed good entryBytes walk fetchRefusal fetched acceptRefusal accepted takeRefusal taken summed contents packetBytes allGood writeRefusal packetWritten outputOf entryIn wordMessages receipt decode tableOf
@@ -218,4 +242,6 @@ morning-holds = record {
   shown = refl;
   byValidate = record { split = refl; finishes = validates refl; number = refl; then = refl; shown = refl };
   byAck = record { split = refl; finishes = acknowledges tt (record { version = 2; tie = 1 }) refl; number = refl; then = refl; shown = refl };
+  opened = called-asking three 1 issued hut begun morning followed;
+  saves = asked;
 }

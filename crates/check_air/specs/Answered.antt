@@ -4,10 +4,11 @@ use Prim.Native.Nat.{ℕ}
 use mathlib.Core.Path.{_≡_}
 use mathlib.Core.Bool.{false}
 use mathlib.Core.List.{List, []}
+use lib.ListN.{length}
 use Rattle.hermes_record.specs.declared.timestamp.Timestamp.{Timestamp}
 use Rattle.hermes.specs.declared.message.Message.the-variants.{Val}
 use Rattle.hermes.specs.declared.event.Event.{Event}
-use Rattle.hermes.specs.declared.event.Event.the-variants.{Write, Replay, Deliver, Validate, Resend}
+use Rattle.hermes.specs.declared.event.Event.the-variants.{Write, Commit, Replay, Deliver, Validate, Resend}
 use Rattle.hermes_record.specs.Order.{higher}
 use Rattle.hermes.specs.Kind.{known}
 use Rattle.hermes.specs.Event as event
@@ -22,16 +23,26 @@ use Rattle.packet_format.specs.Accepting.{taken, fetchedOf}
 use Rattle.packet_event.specs.Arrival.{receipt}
 use Rattle.export_storing.specs.Storing.{bytesAfter}
 use Rattle.export_numbers.specs.declared.numbers.CetskobiMessage.{CetskobiMessage}
+use Rattle.export_numbers.specs.declared.numbers.CetskobiAsked.{CetskobiAsked}
 use Rattle.export_numbers.specs.Crossing.{replicaOf, identityOf, receivedIn}
 use Rattle.export_fields.specs.declared.answers.CetskobiAccepted.{CetskobiAccepted}
 use Rattle.export_fields.specs.Answers.{acceptedIn}
 use Rattle.export_packets.specs.Calls.{acceptAnswer}
 use Rattle.export_arrival.specs.Arrival.{numbersOf, bytesArrived}
-use Rattle.check_air.specs.Callers.{Laptop, node, Call, read, write, replay, deliver, deliverPacket, deliverAccepted, validate, resend, view, Returns, outcome, FromAir, Broken, AsNumbers, Fair, Finishes}
+use Rattle.check_air.specs.Callers.{Laptop, node, Call, read, ask, write, commit, replay, deliver, deliverPacket, deliverAccepted, validate, resend, view, Returns, outcome, FromAir, Broken, AsNumbers, Fair, Finishes}
 
 -- the number of the answer
 abbrev pub callNumber : Call → Laptop → ℕ
 callNumber c l = event.numberOf (outcome c (node l) .answer)
+
+-- what `cetskobi_ask` answers
+abbrev pub askAnswer : Laptop → ℕ → CetskobiAsked
+askAnswer l i = record {
+  number = callNumber (ask i) l;
+  tie = hermes.asked (node l) i .timestamp .tie;
+  version = hermes.asked (node l) i .timestamp .version;
+  len = length (hermes.asked (node l) i .part);
+}
 
 -- the laptop after an event
 abbrev pub afterEvent : Laptop → ℕ → Event → List ℕ → Laptop
@@ -49,7 +60,9 @@ afterTaken l p (Refused k) = l
 -- the laptop after a call
 abbrev pub afterCall : Call → Laptop → Laptop
 afterCall (read i) l = l
+afterCall (ask i) l = l
 afterCall (write i v) l = afterEvent l i Write v
+afterCall (commit i version tie v) l = afterEvent l i (Commit (record { version = version; tie = tie })) v
 afterCall (replay i) l = afterEvent l i Replay []
 afterCall (deliver i m v) l = afterEvent l i (Deliver (receivedIn m)) v
 afterCall (deliverPacket p i) l = record {
@@ -70,7 +83,9 @@ afterCall (view epoch set) l = record {
 -- itself, a view as it is issued
 pub record AnyCall (issued : ℕ → ℕ) (log : List Logged) : Type 0 where
   pub reads : (i : ℕ) → Fair issued log (read i)
+  pub asks : (i : ℕ) → Fair issued log (ask i)
   pub writes : (i : ℕ) (v : List ℕ) → Fair issued log (write i v)
+  pub commits : (i version tie : ℕ) (v : List ℕ) → Fair issued log (commit i version tie v)
   pub replays : (i : ℕ) → Fair issued log (replay i)
   pub deliveries : (i : ℕ) (m : CetskobiMessage) (v : List ℕ) → AsNumbers log i m v → Fair issued log (deliver i m v)
   pub unknowns : (i : ℕ) (m : CetskobiMessage) (v : List ℕ) → known (m .kind) ≡ false → Fair issued log (deliver i m v)

@@ -9,7 +9,7 @@ use lib.ListN.{length}
 use Rattle.hermes_record.specs.declared.timestamp.Timestamp.{Timestamp}
 use Rattle.hermes.specs.declared.message.Message.the-variants.{Val}
 use Rattle.hermes.specs.declared.event.Event.{Event}
-use Rattle.hermes.specs.declared.event.Event.the-variants.{Read, Write, Replay, Deliver, Validate, Resend}
+use Rattle.hermes.specs.declared.event.Event.the-variants.{Read, Ask, Write, Commit, Replay, Deliver, Validate, Resend}
 use Rattle.hermes_record.specs.Order.{higher, NotAfter}
 use Rattle.hermes.specs.Kind.{known}
 use Rattle.hermes.specs.Event.{send, sentBy}
@@ -27,10 +27,11 @@ use Rattle.export_numbers.specs.declared.numbers.CetskobiReplica.{CetskobiRepli
 use Rattle.export_numbers.specs.declared.numbers.CetskobiAnswer.{CetskobiAnswer}
 use Rattle.export_numbers.specs.declared.numbers.CetskobiMessage.{CetskobiMessage}
 use Rattle.export_numbers.specs.declared.numbers.CetskobiReading.{CetskobiReading}
+use Rattle.export_numbers.specs.declared.numbers.CetskobiAsked.{CetskobiAsked}
 use Rattle.export_numbers.specs.declared.numbers.CetskobiAdmission.{CetskobiAdmission}
 use Rattle.export_numbers.specs.Crossing.{replicaOf, admissionOut, receivedIn}
 use Rattle.export_calls.specs.Calls.{nodeOf, Done}
-use Rattle.export_reading.specs.Reading.{ReadDone}
+use Rattle.export_reading.specs.Reading.{ReadDone, AskDone}
 use Rattle.export_membership.specs.Admission.{StartDone}
 use Rattle.export_fields.specs.declared.answers.CetskobiAccepted.{CetskobiAccepted}
 use Rattle.export_fields.specs.Answers.{acceptedIn}
@@ -54,7 +55,10 @@ node l = nodeOf (l .me) (l .table) (l .store)
 -- a call of an exported function, with what it is handed beside the laptop
 pub data Call : Type 0 where
   read : ℕ → Call
+  ask : ℕ → Call
   write : ℕ → List ℕ → Call
+  -- record, version, tie-breaker, value
+  commit : ℕ → ℕ → ℕ → List ℕ → Call
   replay : ℕ → Call
   deliver : ℕ → CetskobiMessage → List ℕ → Call
   -- message i of a packet
@@ -73,7 +77,9 @@ Moves l i e v number l′ =
 -- the contract of the function that is called: the number that it answers, and the laptop after it
 abbrev pub Returns : Call → Laptop → ℕ → Laptop → Type 0
 Returns (read i) l number l′ = (p : CetskobiReading) × ReadDone (node l) i p × (p .number ≡ number) × (l′ ≡ l)
+Returns (ask i) l number l′ = (p : CetskobiAsked) × AskDone (node l) i p × (p .number ≡ number) × (l′ ≡ l)
 Returns (write i v) l number l′ = Moves l i Write v number l′
+Returns (commit i version tie v) l number l′ = Moves l i (Commit (record { version = version; tie = tie })) v number l′
 Returns (replay i) l number l′ = Moves l i Replay [] number l′
 Returns (deliver i m v) l number l′ = Moves l i (Deliver (receivedIn m)) v number l′
 Returns (deliverPacket p i) l number l′ =
@@ -103,7 +109,9 @@ pub record Turn : Type 0 where
 -- what the call's event comes to
 abbrev pub outcome : Call → Node → Outcome
 outcome (read i) n = apply higher n i Read []
+outcome (ask i) n = apply higher n i Ask []
 outcome (write i v) n = apply higher n i Write v
+outcome (commit i version tie v) n = apply higher n i (Commit (record { version = version; tie = tie })) v
 outcome (replay i) n = apply higher n i Replay []
 outcome (deliver i m v) n = apply higher n i (Deliver (receivedIn m)) v
 outcome (deliverPacket p i) n = receipt higher n p i
@@ -163,7 +171,9 @@ pub record AsNumbers (log : List Logged) (i : ℕ) (m : CetskobiMessage) (v : Li
 -- a view is the one issued for its epoch. Of a packet that left, the facts may be any: those of another packet do no harm.
 abbrev pub Fair : (ℕ → ℕ) → List Logged → Call → Type 0
 Fair issued log (read i) = Unit
+Fair issued log (ask i) = Unit
 Fair issued log (write i v) = Unit
+Fair issued log (commit i version tie v) = Unit
 Fair issued log (replay i) = Unit
 Fair issued log (deliver i m v) = AsNumbers log i m v ⊎ (known (m .kind) ≡ false)
 Fair issued log (deliverPacket p i) = FromAir log p i ⊎ Broken p i
@@ -198,7 +208,9 @@ pub record AllBegun (member : ℕ → Bool) (count : ℕ) (issued : ℕ → ℕ)
 -- a call that hands a message over
 abbrev pub Delivers : Call → Type 0
 Delivers (read i) = ⊥
+Delivers (ask i) = ⊥
 Delivers (write i v) = ⊥
+Delivers (commit i version tie v) = ⊥
 Delivers (replay i) = ⊥
 Delivers (deliver i m v) = Unit
 Delivers (deliverPacket p i) = Unit

@@ -10,16 +10,20 @@ use Rattle.hermes.specs.Node.{newcomer, start}
 use Rattle.hermes.specs.Agreement.{Sees, Shows}
 use Rattle.export_records.specs.Layout.{tableOf}
 use Rattle.export_numbers.specs.declared.numbers.CetskobiMessage.{CetskobiMessage}
+use Rattle.export_numbers.specs.declared.numbers.CetskobiAsked.{CetskobiAsked}
 use Rattle.export_numbers.specs.Crossing.{identityOf, answering}
 use Rattle.export_membership.specs.Admission.{filledBy}
 use Rattle.export_packets.specs.Calls.{acceptAnswer, packAnswer, packOutput}
 use Rattle.check_air.specs.Air.{Sending, wordsSent, bodiesSent}
 use Rattle.check_air.specs.Answered.{callNumber, afterCall}
+use Rattle.check_air.specs.Opened.{AskedThenCommitted, CallsOpened}
 use Rattle.check_air.specs.Callers.{
   Laptop,
   Call,
   read,
+  ask,
   write,
+  commit,
   replay,
   deliver,
   deliverPacket,
@@ -153,7 +157,10 @@ plans =
     ∷ by 1 (deliverAccepted (packetOf (val ∷ [])) (acceptAnswer (packetOf (inv ∷ inv ∷ []))) 0)  -- by the facts of another, which do no harm
     ∷ by 1 (deliver 0 valNumbers [])  -- 14: it has come already
     ∷ by 1 (deliver 0 unknown [])  -- 12: a kind that there is not
-    ∷ by 1 (write 0 (66 ∷ []))  -- B: the INV leaves
+    ∷ by 1 (ask 0)  -- A1, of (1,0)
+    ∷ by 1 (commit 0 0 0 (66 ∷ []))  -- 26: over the fresh record
+    ∷ by 1 (commit 0 1 0 (66 ∷ []))  -- B, over A1: the INV leaves
+    ∷ by 1 (ask 0)  -- 6: a write is under way
     ∷ by 0 (deliver 0 inv2 (66 ∷ []))  -- the ACK leaves
     ∷ by 1 (deliver 0 ack2 [])  -- it was the last: the VAL leaves
     ∷ by 0 (deliver 0 val2 [])
@@ -172,13 +179,17 @@ pub record FinishedCall (j k : ℕ) (c : Call) (m : ℕ) : Type 0 where
   pub then : Sees (laptop hut (take j morning) k) m
   pub shown : Shows (laptop hut morning m) 0
 
+-- what 1's ask answers: A1, of (1,0)
+abbrev pub a1 : CetskobiAsked
+a1 = record { number = 0; tie = 0; version = 1; len = 2 }
+
 -- what it shows; `proofs/Morning` computes it
 pub record Morning : Type 0 where
   pub begun : AllBegun three 1 issued hut
   pub follows : Follows three issued hut morning
   pub agrees : CallsAgree three 1 hut morning
   pub numbers : numbersOf morning
-      ≡ 0 ∷ 0 ∷ 7 ∷ 6 ∷ 0 ∷ 20 ∷ 21 ∷ 17 ∷ 0 ∷ 15 ∷ 0 ∷ 0 ∷ 0 ∷ 16 ∷ 18 ∷ 0 ∷ 0 ∷ 14 ∷ 12 ∷ 0 ∷ 0 ∷ 0 ∷ 0 ∷ 0 ∷ []
+      ≡ 0 ∷ 0 ∷ 7 ∷ 6 ∷ 0 ∷ 20 ∷ 21 ∷ 17 ∷ 0 ∷ 15 ∷ 0 ∷ 0 ∷ 0 ∷ 16 ∷ 18 ∷ 0 ∷ 0 ∷ 14 ∷ 12 ∷ 0 ∷ 26 ∷ 0 ∷ 6 ∷ 0 ∷ 0 ∷ 0 ∷ 0 ∷ []
   -- the premises of `alike`
   pub sees : Sees (laptop hut morning 0) 1
   pub seen : Sees (laptop hut morning 1) 0
@@ -186,4 +197,8 @@ pub record Morning : Type 0 where
   pub shown : Shows (laptop hut morning 1) 0
   -- and those of `lasting`, of a Validate and of a last ACK
   pub byValidate : FinishedCall 11 0 (validate 0) 1
-  pub byAck : FinishedCall 21 1 (deliver 0 ack2 []) 0
+  pub byAck : FinishedCall 24 1 (deliver 0 ack2 []) 0
+  -- Wish 5: 1 asks, by call 19, and commits over it, by call 21, with a refused commit between
+  pub opened : CallsOpened hut morning
+  pub saves : AskedThenCommitted hut morning (take 19 morning) (take 1 (drop 20 morning)) 0 (turn (after hut (take 19 morning)) (by 1 (ask 0)))
+      (turn (after hut (take 21 morning)) (by 1 (commit 0 1 0 (66 ∷ [])))) a1 (66 ∷ [])

@@ -7,6 +7,7 @@ use export_accepted::CetskobiArrival;
 use export_fields::CetskobiAccepted;
 use export_numbers::CetskobiAdmission;
 use export_numbers::CetskobiAnswer;
+use export_numbers::CetskobiAsked;
 use export_numbers::CetskobiMessage;
 use export_numbers::CetskobiReading;
 use export_numbers::CetskobiReplica;
@@ -32,6 +33,13 @@ fn read(me: CetskobiReplica, table: &[u8], store: &[u8], i: usize) -> CetskobiRe
     export_reading::cetskobi_read(me, table, store, i)
 }
 
+// Ask.
+fn ask(me: CetskobiReplica, table: &[u8], store: &[u8], i: usize) -> CetskobiAsked
+    ensures { λ p. ⌜ Returns (callers.ask i) (held me (now (table .entry)) (now (store .entry))) (p .number) (held me (now (table .entry)) (now (store .entry))) ⌝ }
+{
+    export_reading::cetskobi_ask(me, table, store, i)
+}
+
 // Write.
 fn write(
     me: CetskobiReplica,
@@ -43,6 +51,21 @@ fn write(
     ensures { λ a. ⌜ Returns (callers.write i (now (value .entry))) (held me (now (table .entry)) (now (store .entry))) (a .number) (held me (now (table .exit)) (now (store .exit))) ⌝ }
 {
     export_events::cetskobi_write(me, table, store, i, value)
+}
+
+// Commit.
+fn commit(
+    me: CetskobiReplica,
+    table: &mut [u8],
+    store: &mut [u8],
+    i: usize,
+    version: u32,
+    tie: u8,
+    value: &[u8],
+) -> CetskobiAnswer
+    ensures { λ a. ⌜ Returns (callers.commit i version tie (now (value .entry))) (held me (now (table .entry)) (now (store .entry))) (a .number) (held me (now (table .exit)) (now (store .exit))) ⌝ }
+{
+    export_events::cetskobi_commit(me, table, store, i, version, tie, value)
 }
 
 // Replay.

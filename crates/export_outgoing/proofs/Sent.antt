@@ -19,7 +19,7 @@ use Rattle.hermes.specs.declared.event.Replica.{Replica}
 use Rattle.hermes.specs.declared.event.Answer.{Answer}
 use Rattle.hermes.specs.declared.event.Answer.the-variants.{Accepted}
 use Rattle.hermes.specs.declared.event.Event.{Event}
-use Rattle.hermes.specs.declared.event.Event.the-variants.{Read, Write, Replay, Deliver, Validate, Resend}
+use Rattle.hermes.specs.declared.event.Event.the-variants.{Read, Ask, Write, Commit, Replay, Deliver, Validate, Resend}
 use Rattle.hermes_record.specs.Members.{with, without}
 use Rattle.hermes_record.specs.Order.{higher, later}
 use Rattle.hermes.specs.Kind as kind
@@ -136,7 +136,9 @@ module _ (me : Replica) (i sender : ℕ) where
 
   steps : (r : Record) (e : Event) (v : List ℕ) → Delivered e sender → Tells me e sender i (Accepted (step higher me i r e v .sent))
   steps r Read v d = nothing Read
+  steps r Ask v d = nothing Ask
   steps r Write v d = inv Write (step higher me i r Write v .after .timestamp)
+  steps r (Commit t) v d = inv (Commit t) (step higher me i r (Commit t) v .after .timestamp)
   steps r Replay v d = inv Replay (r .timestamp)
   steps r (Deliver m) v d = delivered r m v d (m .message)
   steps r Validate v d = val Validate (r .timestamp)
@@ -178,7 +180,9 @@ module _ (me : Replica) (i : ℕ) (r : Record) (v : List ℕ) where
 
   stamped : (e : Event) → Stamped (step higher me i r e v .sent) (step higher me i r e v .after)
   stamped Read = tt
+  stamped Ask = tt
   stamped Write = refl
+  stamped (Commit t) = refl
   stamped Replay = refl
   stamped (Deliver m) = delivered-stamped (m .sender) (m .message)
   stamped Validate = tt
@@ -213,7 +217,9 @@ told n i e v sender d =
 -- the sender of the message that an event delivered
 someone : Event → ℕ
 someone Read = 0
+someone Ask = 0
 someone Write = 0
+someone (Commit t) = 0
 someone Replay = 0
 someone (Deliver m) = m .sender
 someone Validate = 0
@@ -222,7 +228,9 @@ someone Resend = 0
 from-someone : (e : Event) → Delivered e (someone e)
 unfolding someone
 from-someone Read = tt
+from-someone Ask = tt
 from-someone Write = tt
+from-someone (Commit t) = tt
 from-someone Replay = tt
 from-someone (Deliver m) = refl
 from-someone Validate = tt

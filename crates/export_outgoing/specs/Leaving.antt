@@ -13,7 +13,7 @@ use Rattle.hermes.specs.declared.message.Outgoing.the-variants.{None, Sent}
 use Rattle.hermes.specs.declared.message.Received.{Received}
 use Rattle.hermes.specs.declared.event.Replica.{Replica}
 use Rattle.hermes.specs.declared.event.Event.{Event}
-use Rattle.hermes.specs.declared.event.Event.the-variants.{Read, Write, Replay, Deliver, Validate, Resend}
+use Rattle.hermes.specs.declared.event.Event.the-variants.{Read, Ask, Write, Commit, Replay, Deliver, Validate, Resend}
 use Rattle.hermes_record.specs.Order.{sameTimestamp}
 use Rattle.hermes.specs.Kind.{inv, known, messageOf}
 use Rattle.hermes.specs.Event.{leavingBody, recipients}
@@ -40,7 +40,9 @@ recipientsOf me kind sender = recipients me (Deliver (fromSender sender)) (leftO
 -- this is the sender of the message that the event delivered; an event that delivers none leaves no ACK, and any number will do
 abbrev pub Delivered : Event → ℕ → Type 0
 Delivered Read sender = Unit
+Delivered Ask sender = Unit
 Delivered Write sender = Unit
+Delivered (Commit t) sender = Unit
 Delivered Replay sender = Unit
 Delivered (Deliver m) sender = sender ≡ m .sender
 Delivered Validate sender = Unit

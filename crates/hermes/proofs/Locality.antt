@@ -14,7 +14,7 @@ use Rattle.hermes.specs.declared.event.Event.the-variants.{Read, Ask}
 use Rattle.hermes.specs.declared.event.Answer.the-variants.{Accepted, Refused}
 use Rattle.hermes_record.specs.Order.{higher}
 use Rattle.hermes.specs.Store.{slot, valueAt}
-use Rattle.hermes.specs.Event.{Step, refusal, step, partOf, readPart, Handed, stampOf, askStamp, askHands, bodyOf}
+use Rattle.hermes.specs.Event.{Step, refusal, step, partOf, readPart, Handed, stampHanded, askStamp, askHands, bodyOf}
 use Rattle.hermes.specs.Node.{Node, Outcome, recordOf, valueOf, leaving, apply}
 use Rattle.hermes.specs.Frame.{bytesAfter, Changed}
 use Rattle.hermes.specs.Locality.{EqualAt, AnswersAlike, Locality, ReadLocality, AskLocality, Demand1}
@@ -101,9 +101,9 @@ unfolding askStamp askHands
 ask-locality i n m q = go (refusalOf n i Ask []) refl
   where
     go : (k : ℕ) → refusalOf n i Ask [] ≡ k
-        → _≡_ {A = Handed} (record { part = partOf (refusalOf n i Ask []) (valueOf i n); timestamp = stampOf (refusalOf n i Ask []) (recordOf i n .timestamp) })
-        (record { part = partOf (refusalOf m i Ask []) (valueOf i m); timestamp = stampOf (refusalOf m i Ask []) (recordOf i m .timestamp) })
-    go zero z = λ t. record { part = partOf (same-number i n m q Ask t) (same-value i n m q (short i n m q Ask z) t); timestamp = stampOf (same-number i n m q Ask t) (q .here t .timestamp) }
+        → _≡_ {A = Handed} (record { part = partOf (refusalOf n i Ask []) (valueOf i n); timestamp = stampHanded (refusalOf n i Ask []) (recordOf i n .timestamp) })
+        (record { part = partOf (refusalOf m i Ask []) (valueOf i m); timestamp = stampHanded (refusalOf m i Ask []) (recordOf i m .timestamp) })
+    go zero z = λ t. record { part = partOf (same-number i n m q Ask t) (same-value i n m q (short i n m q Ask z) t); timestamp = stampHanded (same-number i n m q Ask t) (q .here t .timestamp) }
     go (suc k) z = rw (z, sym (same-number i n m q Ask) ∙ z)
 
 -- ---- the theorem

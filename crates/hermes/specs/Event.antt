@@ -221,13 +221,13 @@ pub record Handed : Type 0 where
   pub timestamp : Timestamp
 
 -- a refused ask hands out no stamp: (0, 0) stands for none
-abbrev pub stampOf : ℕ → Timestamp → Timestamp
-stampOf zero t = t
-stampOf (suc k) t = record { version = 0; tie = 0 }
+abbrev pub stampHanded : ℕ → Timestamp → Timestamp
+stampHanded zero t = t
+stampHanded (suc k) t = record { version = 0; tie = 0 }
 
 -- 02, Wish 5, Ask: the stamp that an ask of record i, r, hands out
 unfoldable pub askStamp : Replica → ℕ → ℕ → ℕ → Record → Timestamp
-askStamp me count bytes i r = stampOf (refusal me count bytes i r Ask 0) (r .timestamp)
+askStamp me count bytes i r = stampHanded (refusal me count bytes i r Ask 0) (r .timestamp)
 
 -- the same with the value, as a part of the store; a refused ask, as a read, hands out the empty part
 unfoldable pub askHands : Replica → ℕ → ℕ → Record → List ℕ → Handed

@@ -14,7 +14,7 @@ use Rattle.hermes.specs.declared.message.Message.the-variants.{Inv, Ack, Val}
 use Rattle.hermes.specs.declared.message.Outgoing.the-variants.{None}
 use Rattle.hermes.specs.declared.event.Replica.{Replica}
 use Rattle.hermes.specs.declared.event.Event.{Event}
-use Rattle.hermes.specs.declared.event.Event.the-variants.{Read, Write, Replay, Deliver, Validate, Resend}
+use Rattle.hermes.specs.declared.event.Event.the-variants.{Read, Ask, Write, Commit, Replay, Deliver, Validate, Resend}
 use Rattle.hermes.specs.declared.event.Moved.{Moved}
 use Rattle.hermes.specs.declared.event.Answer.{Answer}
 use Rattle.hermes.specs.declared.event.Answer.the-variants as answer
@@ -107,7 +107,9 @@ resent-index me state.Replay t = refl
 
 step-index : (me : Replica) (r : Record) (e : Event) (v : List ℕ) → indexOf (step higher me 0 r e v .sent) ≡ 0
 step-index me r Read v = refl
+step-index me r Ask v = refl
 step-index me r Write v = refl
+step-index me r (Commit t) v = refl
 step-index me r Replay v = refl
 step-index me r (Deliver m) v = deliver-index me r (m .sender) (m .message) v
 step-index me r Validate v = refl

@@ -11,7 +11,7 @@ use Rattle.hermes.specs.declared.event.Replica.{Replica}
 use Rattle.hermes.specs.declared.event.Event.{Event}
 use Rattle.hermes.specs.declared.event.Event.the-variants.{Read, Ask, Write, Commit, Replay, Deliver, Validate, Resend}
 use Rattle.hermes.specs.Guards.{Question}
-use Rattle.hermes.specs.Event.{Step, kept, partOf, stampOf, common, own, refusal, movedBy, storedBy, storing, decide, moved, effect, readStep, replayStep, validateStep, resendStep}
+use Rattle.hermes.specs.Event.{Step, kept, partOf, stampHanded, common, own, refusal, movedBy, storedBy, storing, decide, moved, effect, readStep, replayStep, validateStep, resendStep}
 use Rattle.hermes.proofs.Guards.{positive-own}
 use Rattle.replica_asking.specs.declared.Asked.{Asked}
 use Rattle.replica_asking.specs.declared.Asked.the-variants.{Passed, Refused}
@@ -99,6 +99,6 @@ no-part zero v l = absurd (omega arith)
 no-part (suc k) v l = refl
 
 -- and a refused ask no timestamp
-pub no-stamp : (k : ℕ) (t : Timestamp) → 0 < k → record { version = 0; tie = 0 } ≡ stampOf k t
+pub no-stamp : (k : ℕ) (t : Timestamp) → 0 < k → record { version = 0; tie = 0 } ≡ stampHanded k t
 no-stamp zero t l = absurd (omega arith)
 no-stamp (suc k) t l = refl
