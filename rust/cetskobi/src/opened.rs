@@ -11,7 +11,8 @@ use crate::{Refusal, Timestamp};
 ///
 /// The text is a copy: what comes in later changes the record, and not this. Nor
 /// does it hold the record: others may save it meanwhile, and then the commit is
-/// refused.
+/// refused. It knows its record and timestamp, and no laptop: of a group in one
+/// memory another laptop may commit it, if it shows that record with that timestamp.
 ///
 /// ```
 /// use cetskobi::{Laptop, Refusal};
