@@ -29,9 +29,9 @@
 #include <stddef.h>
 #include <stdint.h>
 
-#define CETSKOBI_VERSION "0.6.0"
+#define CETSKOBI_VERSION "0.7.0"
 #define CETSKOBI_VERSION_MAJOR 0
-#define CETSKOBI_VERSION_MINOR 6
+#define CETSKOBI_VERSION_MINOR 7
 #define CETSKOBI_VERSION_PATCH 0
 
 /* Bytes of stack that are enough for a call. */
@@ -89,7 +89,7 @@ struct cetskobi_replica {
 /* The kinds of a message. */
 enum { CETSKOBI_NONE = 0, CETSKOBI_INV = 1, CETSKOBI_ACK = 2, CETSKOBI_VAL = 3 };
 
-/* The refusals: the questions of document 01 by number, and the player's own. */
+/* The refusals: the questions of documents 01 and 02 by number, and the player's own. */
 enum {
     CETSKOBI_REFUSED_NO_GROUP = 1,         /* the laptop's number is above 15, or its view has fewer than two laptops */
     CETSKOBI_REFUSED_LENT_MEMORY = 2,      /* there are not 1 to 4,096 records, or not exactly 192 bytes of store for each record */
@@ -143,8 +143,7 @@ struct cetskobi_reading {
     size_t len;
 };
 
-/* 0 or the number of the question that said no; how many bytes at 192 times the record's number are its value; and its timestamp, which a
- * commit brings back. A refused ask has no timestamp: version and tie are 0. */
+/* The same, and the record's timestamp, which a commit brings back. A refused ask has none: version and tie are 0. */
 struct cetskobi_asked {
     uint8_t number;
     uint8_t tie;
@@ -216,8 +215,11 @@ struct cetskobi_admission {
 /* Events on record i. A message that leaves is about record i, from me.number at me.epoch as they were passed: who sends it later keeps
  * them with it, since a view may have changed me. A delivery takes the record's number and the bytes that came with its message: other
  * bytes, or none, are accepted too, and two laptops may then show different texts for one timestamp. cetskobi_deliver_packet and
- * cetskobi_deliver_accepted take both from the packet. What an accepted event sends: write, commit and replay an INV, validate a VAL, resend an INV
- * or a VAL, deliver what stands there. */
+ * cetskobi_deliver_accepted take both from the packet. What an accepted event sends: write, commit and replay an INV, validate a VAL,
+ * resend an INV or a VAL, deliver what stands there. */
+
+/* Saves over whatever stands there: also over a text that nobody has looked at here, and over one that is not valid yet (invalid). For
+ * what a ringer saves there is cetskobi_commit. */
 CETSKOBI_MUST_USE
 struct cetskobi_answer cetskobi_write(struct cetskobi_replica me, uint8_t *table, size_t table_len, uint8_t *store, size_t store_len,
                                       size_t i, const uint8_t *value, size_t value_len);
@@ -247,9 +249,12 @@ CETSKOBI_MUST_USE
 struct cetskobi_reading cetskobi_read(struct cetskobi_replica me, const uint8_t *table, size_t table_len, const uint8_t *store,
                                       size_t store_len, size_t i);
 
-/* Ask for a record, then save it. A ringer opens a record: cetskobi_ask answers as cetskobi_read does, and with it the record's timestamp.
- * She saves over what she saw: cetskobi_commit brings that timestamp back, and is a write if the record here is still valid with it.
- * Otherwise it is refused by 26, and nothing is overwritten: ask again, and show her what stands there now. */
+/* A ringer opens a record, and saves over what she saw (document 02, Wish 5). cetskobi_ask is cetskobi_read, and gives the record's
+ * timestamp too: keep it, with a copy of the text, since what comes in later overwrites the store. Nobody else is kept from saving the
+ * record. cetskobi_commit brings that timestamp back. If the record is still valid with it, this laptop took no newer save since, and the
+ * commit goes on as a write. If not, the answer is 26, in place of a write's 7 and before its 8 and 9: keep her text, ask again, and show
+ * her both. version and tie may be any; no record has a tie above 15. Two laptops may both commit on one timestamp: then the save with the
+ * greater new one stands, as of two writes. */
 CETSKOBI_MUST_USE
 struct cetskobi_asked cetskobi_ask(struct cetskobi_replica me, const uint8_t *table, size_t table_len, const uint8_t *store,
                                    size_t store_len, size_t i);

@@ -1,14 +1,16 @@
-/* Two laptops keep one ring record in step by packets, although one packet is lost and one comes twice.
+/* Two laptops keep one ring record in step by packets, although one packet is lost and one comes twice. Both open it before either saves:
+ * the second save is refused, and made again over the text that stands there by then.
  * From the repository's root (rust/cetskobi/examples/two_laptops.rs tells the same in Rust):
  *   sh tools/archive && cc -O2 examples/c/two_laptops.c -Iinclude target/staticlib/libcetskobi.a -o target/two_laptops && target/two_laptops
  */
 #include "cetskobi_text.h"
 #include <stdio.h>
 #include <stdlib.h>
+#include <string.h>
 
 /* The record's number, and what is saved there. */
 enum { RING = 7, COUNT = 8 };
-static const uint8_t TEXT[] = "Blue tit, wing 62, weight 11";
+static const char WING[] = "Blue tit, wing 62", REMARK[] = "Blue tit, female", BOTH[] = "Blue tit, female, wing 62";
 
 struct laptop {
     struct cetskobi_replica me;
@@ -84,10 +86,23 @@ static void show(const struct laptop *l) {
         printf("  laptop %d does not show it: question %d\n", l->me.number, r.number);
 }
 
+/* A ringer opens the ring: what she sees, and the timestamp that her save brings back. */
+static struct cetskobi_asked open_ring(const struct laptop *l) {
+    struct cetskobi_asked a = cetskobi_ask(LENT(l), RING);
+    accepted(a.number);
+    printf("  laptop %d opens (%u,%u): \"%.*s\"\n", l->me.number, (unsigned)a.version, (unsigned)a.tie, (int)a.len,
+           (const char *)l->store + RING * CETSKOBI_VALUE_MAX);
+    return a;
+}
+
+/* She saves over what she saw. */
+static struct cetskobi_answer save(struct laptop *l, struct cetskobi_asked seen, const char *text) {
+    return cetskobi_commit(LENT(l), RING, seen.version, seen.tie, (const uint8_t *)text, strlen(text));
+}
+
 /* A refused event: nothing has changed. */
-static void refused(struct cetskobi_arrival a) {
-    if (a.answer.number != 0)
-        printf("  refused: question %d\n", a.answer.number);
+static void refused(struct cetskobi_answer a) {
+    if (a.number != 0) printf("  refused: question %d\n", a.number);
 }
 
 int main(void) {
@@ -97,8 +112,11 @@ int main(void) {
     start(&hut, 1);
     printf("laptops 0 and 1 start with %d records\n", COUNT);
 
-    printf("laptop 0 saves record %d\n", RING);
-    send(&net, cetskobi_write(LENT(&net), RING, TEXT, sizeof TEXT - 1), net.me.number);
+    printf("a ringer at each opens record %d\n", RING);
+    struct cetskobi_asked seen_at_net = open_ring(&net), seen_at_hut = open_ring(&hut);
+
+    printf("laptop 0 saves over what it opened\n");
+    send(&net, save(&net, seen_at_net, WING), net.me.number);
     printf("the packet is lost\n");
     show(&net);
 
@@ -113,10 +131,17 @@ int main(void) {
     struct packet val = reply(&net, take(&net, &ack));
     show(&net);
     printf("the packet comes a second time\n");
-    refused(take(&net, &ack));
+    refused(take(&net, &ack).answer);
 
     printf("laptop 1 takes the packet\n");
     accepted(take(&hut, &val).answer.number);
     show(&hut);
+
+    /* It would save over a text that its ringer never saw. She keeps her own, opens the ring again, and sees both. */
+    printf("laptop 1 saves over what it opened\n");
+    refused(save(&hut, seen_at_hut, REMARK));
+    seen_at_hut = open_ring(&hut);
+    printf("laptop 1 saves over that\n");
+    send(&hut, save(&hut, seen_at_hut, BOTH), hut.me.number);
     return 0;
 }

@@ -29,6 +29,8 @@ int main(void) {
     CALL(struct cetskobi_admission, cetskobi_view(me, 1, 6))
     CALL(struct cetskobi_reading, cetskobi_read(LENT, 0))
     CALL(struct cetskobi_answer, cetskobi_write(LENT, 0, text, LEN))
+    CALL(struct cetskobi_asked, cetskobi_ask(LENT, 0))
+    CALL(struct cetskobi_answer, cetskobi_commit(LENT, 0, 1, 2, text, LEN))
     CALL(struct cetskobi_answer, cetskobi_deliver(LENT, 0, message, text, LEN))
     CALL(struct cetskobi_answer, cetskobi_replay(LENT, 0))
     CALL(struct cetskobi_answer, cetskobi_validate(LENT, 0))

@@ -123,6 +123,82 @@ static size_t along(size_t i, struct cetskobi_answer left) {
     return cetskobi_body(TABLE, store, STORE, i, left);
 }
 
+static int opens(struct cetskobi_asked a, int number, int tie, uint32_t version, size_t len) {
+    return a.number == number && a.tie == tie && a.version == version && a.len == len;
+}
+
+/* Record 1 in this state with timestamp (version,5), whose last-write timestamp is (6,3). */
+static struct cetskobi_record holding(uint8_t state, uint32_t version) {
+    return RECORD(.state = state, .tie = 5, .writer = 4, .written_tie = 3, .version = version, .written_version = 6, .acks = 2, .len = 62);
+}
+
+/* A commit that is refused with this number: neither record nor store has changed. */
+static void not_committed(struct cetskobi_record record, size_t i, uint32_t version, uint8_t tie, size_t len, int number) {
+    static const uint8_t value[CETSKOBI_VALUE_MAX + 1] = "wing";
+    lay(record);
+    CHECK(answers(cetskobi_commit(LENT, i, version, tie, value, len), number, CETSKOBI_NONE, 0, 0));
+    CHECK(is(record));
+    for (size_t n = 0; n < STORE; n++) CHECK(store[n] == 7);
+}
+
+/* What a read answers, with the record's timestamp; and a save on it (02, Wish 5). */
+static void asking(void) {
+    const uint8_t *value = (const uint8_t *)"wing";
+    struct cetskobi_record valid = holding(CETSKOBI_VALID, VERSION - 1);
+    lay(valid);
+    CHECK(opens(cetskobi_ask(LENT, 1), 0, 5, VERSION - 1, 62));
+    CHECK(opens(cetskobi_ask(LENT, 0), 0, 1, 0, 0));
+    CHECK(opens(cetskobi_ask(LENT, COUNT), 4, 0, 0, 0) && opens(cetskobi_ask(LENT, SIZE_MAX), 4, 0, 0, 0));
+    CHECK(opens(cetskobi_ask(me, TABLE, store, STORE - 1, 1), 2, 0, 0, 0));
+    CHECK(is(valid));
+    struct cetskobi_answer inv = cetskobi_commit(LENT, 1, VERSION - 1, 5, value, 4);
+    CHECK(answers(inv, 0, CETSKOBI_INV, 2, VERSION));
+    CHECK(is(RECORD(.state = CETSKOBI_WRITE, .tie = 2, .writer = 2, .written_tie = 2, .version = VERSION,
+                    .written_version = VERSION, .len = 4)));
+    CHECK(holds("wing"));
+    CHECK(along(1, inv) == 4 && cetskobi_recipients(me, inv.kind, 0) == 34);
+    /* It waits for the others now. */
+    CHECK(opens(cetskobi_ask(LENT, 1), CETSKOBI_REFUSED_NOT_READABLE, 0, 0, 0));
+    CHECK(answers(cetskobi_commit(LENT, 1, VERSION, 2, value, 4), CETSKOBI_REFUSED_NOT_AS_OPENED, CETSKOBI_NONE, 0, 0));
+    CHECK(holds("wing"));
+
+    /* Any other timestamp: an older, a newer, the last-write one, every other tie-breaker, those of no laptop too. */
+    valid = holding(CETSKOBI_VALID, VERSION);
+    not_committed(valid, 1, VERSION - 1, 5, 4, 26);
+    not_committed(valid, 1, VERSION + 1, 5, 4, 26);
+    not_committed(valid, 1, 6, 3, 4, 26);
+    for (int tie = 0; tie <= UINT8_MAX; tie++)
+        if (tie != 5) not_committed(valid, 1, VERSION, (uint8_t)tie, 4, 26);
+    /* Every state but valid, on the very timestamp; a write is accepted in invalid. */
+    for (uint8_t state = CETSKOBI_INVALID; state <= CETSKOBI_REPLAY; state++) {
+        lay(holding(state, VERSION));
+        CHECK(opens(cetskobi_ask(LENT, 1), 6, 0, 0, 0));
+        not_committed(holding(state, VERSION), 1, VERSION, 5, 4, 26);
+        not_committed(holding(state, UINT32_MAX), 1, UINT32_MAX, 5, CETSKOBI_VALUE_MAX + 1, 26);
+    }
+    /* The order: 4 and 5, then 26, then 8, then 9. */
+    not_committed(valid, COUNT, VERSION, 5, 4, 4);
+    not_committed(RECORD(.tie = 16, .version = VERSION), 1, VERSION, 16, 4, 5);
+    not_committed(valid, 1, VERSION, 4, CETSKOBI_VALUE_MAX + 1, 26);
+    not_committed(valid, 1, VERSION, 5, CETSKOBI_VALUE_MAX + 1, 8);
+    not_committed(holding(CETSKOBI_VALID, UINT32_MAX), 1, UINT32_MAX, 5, CETSKOBI_VALUE_MAX + 1, 8);
+    not_committed(holding(CETSKOBI_VALID, UINT32_MAX), 1, UINT32_MAX, 5, 4, 9);
+    not_committed(holding(CETSKOBI_VALID, UINT32_MAX), 1, UINT32_MAX, 4, 4, 26);
+
+    /* A newer text comes between; it is asked for again, and saved over. */
+    lay(valid);
+    struct cetskobi_asked seen = cetskobi_ask(LENT, 1);
+    struct cetskobi_message newer = {.kind = CETSKOBI_INV, .sender = 5, .tie = 5, .epoch = 9, .version = VERSION + 1};
+    CHECK(answers(cetskobi_deliver(LENT, 1, newer, (const uint8_t *)"newer", 5), 0, CETSKOBI_ACK, 5, VERSION + 1));
+    CHECK(cetskobi_commit(LENT, 1, seen.version, seen.tie, value, 4).number == 26);
+    newer.kind = CETSKOBI_VAL;
+    CHECK(answers(cetskobi_deliver(LENT, 1, newer, NULL, 0), 0, CETSKOBI_NONE, 0, 0));
+    CHECK(cetskobi_commit(LENT, 1, seen.version, seen.tie, value, 4).number == 26 && holds("newer"));
+    seen = cetskobi_ask(LENT, 1);
+    CHECK(opens(seen, 0, 5, VERSION + 1, 5));
+    CHECK(answers(cetskobi_commit(LENT, 1, seen.version, seen.tie, value, 4), 0, CETSKOBI_INV, 2, VERSION + 2) && holds("wing"));
+}
+
 /* The bytes of what left an event, as long as they are there. */
 static void leaving(void) {
     const struct cetskobi_answer inv = {.kind = CETSKOBI_INV, .tie = 2, .version = VERSION};
@@ -499,7 +575,7 @@ static void texts(void) {
     CHECK(says(cetskobi_state_name(CETSKOBI_INVALID_WRITE), "invalid-write"));
     CHECK(says(cetskobi_kind_name(CETSKOBI_NONE), "none") && says(cetskobi_kind_name(CETSKOBI_ACK), "ACK"));
     for (int n = 0; n <= UINT8_MAX; n++) {
-        int known = n <= CETSKOBI_REFUSED_PACKET_ROOM || n == CETSKOBI_REFUSED_PLAYER_ROOM;
+        int known = n <= CETSKOBI_REFUSED_NOT_AS_OPENED || n == CETSKOBI_REFUSED_PLAYER_ROOM;
         CHECK(says(cetskobi_meaning((uint8_t)n), "unknown refusal") == !known);
         CHECK(says(cetskobi_state_name((uint8_t)n), "unknown state") == (n > CETSKOBI_REPLAY));
         CHECK(says(cetskobi_kind_name((uint8_t)n), "unknown kind") == (n > CETSKOBI_VAL));
@@ -512,6 +588,7 @@ static void texts(void) {
 int main(void) {
     membership();
     writing();
+    asking();
     leaving();
     recipients();
     delivery();

@@ -13,7 +13,9 @@ int main() {
     cetskobi_replica me = admission.replica;
     cetskobi_reading reading = cetskobi_read(me, bytes, sizeof table, store, sizeof store, 0);
     const uint8_t text[] = {'w', 'r', 'e', 'n'};
-    cetskobi_answer left = cetskobi_write(me, bytes, sizeof table, store, sizeof store, 0, text, sizeof text);
+    cetskobi_asked asked = cetskobi_ask(me, bytes, sizeof table, store, sizeof store, 0);
+    cetskobi_answer left =
+        cetskobi_commit(me, bytes, sizeof table, store, sizeof store, 0, asked.version, asked.tie, text, sizeof text);
     size_t len = cetskobi_body(bytes, sizeof table, store, sizeof store, 0, left);
 
     cetskobi_entry entry = {left.kind, me.number, me.epoch, 0, left.version, left.tie, static_cast<uint32_t>(len)};
@@ -27,7 +29,7 @@ int main() {
         cetskobi_deliver_accepted(me, bytes, sizeof table, store, sizeof store, packet, written.len, accepted, 0);
     cetskobi_played played = cetskobi_play(nullptr, 0, printed, sizeof printed);
 
-    bool right = reading.len == 0 && len == sizeof text && written.len == 24 && number == CETSKOBI_REFUSED_OTHER_SENDER && played.len == 2;
+    bool right = reading.len == 0 && asked.len == 0 && len == sizeof text && written.len == 24 && number == CETSKOBI_REFUSED_OTHER_SENDER && played.len == 2;
     right = right && accepted.count == 1 && arrival.answer.number == number && arrival.sender == me.number;
     return right && std::strcmp(cetskobi_state_name(table[0].state), "write") == 0 ? 0 : 1;
 }

@@ -70,18 +70,28 @@ static int is(const struct hut *h, uint8_t state, uint32_t version, uint8_t tie,
     return r->state == state && r->version == version && r->tie == tie && r->acks == acks;
 }
 
+/* What was opened has this text, and this stamp. */
+static int has(const struct opened *o, const char *text, uint32_t version, uint8_t tie) {
+    return o->ring == RING && o->len == strlen(text) && memcmp(o->text, text, o->len) == 0 && o->stamp.version == version &&
+           o->stamp.tie == tie;
+}
+
 static int shows(const struct hut *h, const char *text) {
-    struct stamp seen;
-    size_t len = 0;
-    return open_ring(h, RING, &len, &seen) == 0 && len == strlen(text) && memcmp(h->store + CETSKOBI_VALUE_MAX * RING, text, len) == 0;
+    struct opened o;
+    return open_ring(h, RING, &o) == 0 && has(&o, text, o.stamp.version, o.stamp.tie);
+}
+
+/* A ringer saves this text over what she opened. */
+static uint8_t saves_over(struct hut *h, const struct opened *o, const char *text, struct stamp *saved) {
+    return save(h, o, (const uint8_t *)text, strlen(text), saved);
 }
 
 /* Opens the ring and saves it at once. */
 static struct stamp saves(struct hut *h, const char *text) {
-    struct stamp seen = {0, 0}, saved = {0, 0};
-    size_t len;
-    CHECK(open_ring(h, RING, &len, &seen) == 0);
-    CHECK(save(h, RING, seen, (const uint8_t *)text, strlen(text), &saved) == 0);
+    struct stamp saved = {0, 0};
+    struct opened o = {0};
+    CHECK(open_ring(h, RING, &o) == 0);
+    CHECK(saves_over(h, &o, text, &saved) == 0);
     return saved;
 }
 
@@ -93,8 +103,10 @@ static void a_worked_morning(void) {
     fresh();
     CHECK(is(&one, CETSKOBI_VALID, 0, 1, 0));
 
-    /* 2 saves; 5 does not hear it. */
-    struct stamp first = saves(&two, "robin, wing 73");
+    /* The ring is opened at 1 and at 2. 2 saves; 5 does not hear it. */
+    struct opened seen_at_one;
+    CHECK(open_ring(&one, RING, &seen_at_one) == 0 && has(&seen_at_one, "", 0, 1));
+    struct stamp first = saves(&two, "robin, wing 73"), none;
     struct packet inv = sent(SET_1 | SET_5), ack, val;
     CHECK(inv.len == 34 && carries(inv, CETSKOBI_INV, 1, 2));
     came(&one, inv);
@@ -122,12 +134,14 @@ static void a_worked_morning(void) {
     CHECK(carries(val, CETSKOBI_VAL, 1, 2) && is(&two, CETSKOBI_VALID, 1, 2, SET_1 | SET_5) && fate_of(&two, RING, first) == FINISHED);
     came(&five, val);
     CHECK(is(&five, CETSKOBI_VALID, 1, 2, 0));
-    CHECK(cetskobi_read(one.me, LENT(&one), RING).number == 6);
+    /* 1's ringer would save over what she saw. Her text is kept, and once the other's is shown, it says more than hers. */
+    CHECK(saves_over(&one, &seen_at_one, "robin", &none) == 26);
+    CHECK(reopen(&one, 26, &seen_at_one) == 6 && has(&seen_at_one, "", 0, 1));
     ticks(&two, 8);
     val = sent(SET_1 | SET_5);
     came(&one, val);
     silent();
-    CHECK(is(&one, CETSKOBI_VALID, 1, 2, 0) && shows(&one, "robin, wing 73"));
+    CHECK(is(&one, CETSKOBI_VALID, 1, 2, 0) && open_ring(&one, RING, &seen_at_one) == 0 && has(&seen_at_one, "robin, wing 73", 1, 2));
 
     /* 5 saves, only 1 hears it, and 5 dies. */
     saves(&five, "robin, wing 74");
@@ -307,23 +321,36 @@ static void an_overtaken_laptop_replays(void) {
     replayed(sent(SET_1));
 }
 
+/* 1's ringer opens the ring and measures the bird; 2's save comes between. Hers is refused, and kept: she sees both texts, and saves what
+ * shall stand. */
 static void a_save_since_the_ring_was_opened(void) {
     fresh();
-    struct stamp seen, saved;
-    size_t len;
-    CHECK(open_ring(&one, RING, &len, &seen) == 0 && len == 0);
-    saves(&two, "two's");
+    struct opened seen;
+    struct stamp saved = {0, 0};
+    CHECK(open_ring(&one, RING, &seen) == 0 && has(&seen, "", 0, 1));
+    saves(&two, "wing 73");
     struct packet inv = sent(SET_1 | SET_5);
     came(&one, inv);
     came(&two, sent(SET_2));
-    CHECK(save(&one, RING, seen, (const uint8_t *)"late", 4, &saved) == 6);
+    /* The other's save is not finished here: hers stays on the screen until it is. */
+    CHECK(saves_over(&one, &seen, "weight 18", &saved) == 26 && reopen(&one, 26, &seen) == 6 && has(&seen, "", 0, 1));
     came(&five, inv);
     came(&two, sent(SET_2));
     came(&one, sent(SET_1 | SET_5));
-    CHECK(save(&one, RING, seen, (const uint8_t *)"late", 4, &saved) == CHANGED);
-    CHECK(save(&one, COUNT, seen, (const uint8_t *)"late", 4, &saved) == 4);
+    CHECK(saves_over(&one, &seen, "weight 18", &saved) == 26 && reopen(&one, 26, &seen) == 0 && has(&seen, "wing 73", 1, 2));
     silent();
-    CHECK(shows(&one, "two's"));
+    CHECK(shows(&one, "wing 73") && saved.version == 0);
+    /* She sees both, and makes one of them. It is too long; then it is not. */
+    static const uint8_t full[CETSKOBI_VALUE_MAX + 1] = {0};
+    CHECK(save(&one, &seen, full, sizeof full, &saved) == 8 && reopen(&one, 8, &seen) == 0 && has(&seen, "wing 73", 1, 2));
+    silent();
+    CHECK(saves_over(&one, &seen, "wing 73, weight 18", &saved) == 0 && saved.version == 2 && saved.tie == 1);
+    CHECK(carries(sent(SET_2 | SET_5), CETSKOBI_INV, 2, 1));
+    /* A ring that is none is neither opened nor saved. */
+    CHECK(open_ring(&one, COUNT, &seen) == 4 && has(&seen, "wing 73", 1, 2));
+    seen.ring = COUNT;
+    CHECK(saves_over(&one, &seen, "wren", &saved) == 4 && saved.version == 2);
+    silent();
 }
 
 /* 2's save waits for 5 alone when 5 is struck off: no ACK comes that would finish it, so the view does. */
@@ -353,12 +380,14 @@ static void a_save_that_waits_at_a_struck_off_laptop(void) {
     came(&five, inv);
     came(&two, sent(SET_2));
     came(&one, sent(SET_1 | SET_5));
-    struct stamp seen = {0, 1}, saved = {0, 0};
-    size_t len;
-    CHECK(save(&two, 0, seen, (const uint8_t *)"wren", 4, &saved) == 0);
+    struct stamp saved = {0, 0}, none;
+    struct opened seen, also;
+    CHECK(open_ring(&two, 0, &seen) == 0 && open_ring(&two, 1, &also) == 0);
+    CHECK(saves_over(&two, &seen, "wren", &saved) == 0);
     sent(SET_1 | SET_5);
     CHECK(fate_of(&two, 0, saved) == WAITING);
-    CHECK(view_came(&two, 1, SET_1 | SET_5) == 0 && open_ring(&two, 0, &len, &seen) == 3);
+    CHECK(view_came(&two, 1, SET_1 | SET_5) == 0 && open_ring(&two, 0, &seen) == 3);
+    CHECK(saves_over(&two, &also, "robin", &none) == 3);
     ticks(&two, 3000);
     silent();
     CHECK(fate_of(&two, 0, saved) == STRUCK_OFF);
@@ -401,9 +430,10 @@ static void waits(void) {
 static void packets_are_shared(void) {
     fresh();
     static const uint8_t text[CETSKOBI_VALUE_MAX];
-    struct stamp seen = {0, 1}, saved;
+    struct stamp saved;
+    struct opened seen;
     for (size_t i = 0; i < 200; i++) {
-        CHECK(save(&one, i, seen, text, i < 20 ? sizeof text : 0, &saved) == 0);
+        CHECK(open_ring(&one, i, &seen) == 0 && save(&one, &seen, text, i < 20 ? sizeof text : 0, &saved) == 0);
         struct packet inv = sent(SET_2 | SET_5);
         if (i < 20) continue; /* stay in state write */
         came(&two, inv);
@@ -449,11 +479,12 @@ static void a_tick(int now, size_t awake) {
     poor_link(awake);
     for (size_t k = 0; k < awake; k++) {
         int together = now >= 1890;
-        size_t i = (together ? (size_t)now : (size_t)now / 12 + 5 * k) % 30, len;
-        struct stamp seen, saved;
+        size_t i = (together ? (size_t)now : (size_t)now / 12 + 5 * k) % 30;
+        struct opened seen;
+        struct stamp saved;
         const int text[] = {now, huts[k]->me.number};
-        if (now < 1900 && (together || (size_t)now % 12 == 4 * k) && open_ring(huts[k], i, &len, &seen) == 0)
-            CHECK(save(huts[k], i, seen, (const uint8_t *)text, sizeof text, &saved) == 0);
+        if (now < 1900 && (together || (size_t)now % 12 == 4 * k) && open_ring(huts[k], i, &seen) == 0)
+            CHECK(save(huts[k], &seen, (const uint8_t *)text, sizeof text, &saved) == 0);
         tick(huts[k]);
     }
 }

@@ -76,6 +76,17 @@ static void shown(void) {
     number = cetskobi_read(LENT, LAST).number;
 }
 
+static struct cetskobi_asked seen;
+
+static void ask(void) {
+    seen = cetskobi_ask(LENT, LAST);
+    number = seen.number;
+}
+
+static void commit(void) {
+    number = cetskobi_commit(LENT, LAST, seen.version, seen.tie, text, sizeof text).number;
+}
+
 /* A full text for record 0, from a laptop that is struck off then. */
 static void invalidated(void) {
     struct cetskobi_message inv = {.kind = CETSKOBI_INV, .sender = 5, .tie = 5, .epoch = 0, .version = 7};
@@ -164,6 +175,8 @@ int main(int argc, char **argv) {
         {"deliver, ACK", acknowledged, CETSKOBI_STACK},
         {"validate", validate, CETSKOBI_STACK},
         {"read", shown, CETSKOBI_STACK},
+        {"ask", ask, CETSKOBI_STACK},
+        {"commit", commit, CETSKOBI_STACK},
         {"deliver, INV", invalidated, CETSKOBI_STACK},
         {"replay", replay, CETSKOBI_STACK},
         {"pack", pack, CETSKOBI_STACK},

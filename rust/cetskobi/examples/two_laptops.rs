@@ -1,13 +1,16 @@
-//! Two laptops keep one ring record in step by packets, although one packet is lost and one comes twice.
+//! Two laptops keep one ring record in step by packets, although one packet is lost and one comes twice. Both open it before either
+//! saves: the second save is refused, and made again over the text that stands there by then.
 //! From the repository's root (examples/c/two_laptops.c tells the same in C):
 //!   sh tools/archive
 //!   CARGO_TARGET_DIR=target/rust cargo run --offline --release --quiet --manifest-path rust/Cargo.toml -p cetskobi --example two_laptops
 
-use cetskobi::{packet, Laptop, Leaving, Refusal};
+use cetskobi::{packet, Laptop, Leaving, NotCommitted, Opened, Refusal};
 
 /// The record's number, and what is saved there.
 const RING: usize = 7;
-const TEXT: &[u8] = b"Blue tit, wing 62, weight 11";
+const WING: &[u8] = b"Blue tit, wing 62";
+const REMARK: &[u8] = b"Blue tit, female";
+const BOTH: &[u8] = b"Blue tit, female, wing 62";
 
 fn main() -> Result<(), Refusal> {
     // Two laptops, both in the view, eight records each.
@@ -15,8 +18,12 @@ fn main() -> Result<(), Refusal> {
     let mut hut = Laptop::start(1, 0b11, 8)?;
     println!("laptops 0 and 1 start with {} records", net.count());
 
-    println!("laptop 0 saves record {RING}");
-    send(net.write(RING, TEXT)?)?;
+    println!("a ringer at each opens record {RING}");
+    let seen_at_net = open(&net)?;
+    let seen_at_hut = open(&hut)?;
+
+    println!("laptop 0 saves over what it opened");
+    send(net.commit(seen_at_net, WING)?)?;
     println!("the packet is lost");
     show(&net);
 
@@ -36,7 +43,26 @@ fn main() -> Result<(), Refusal> {
     println!("laptop 1 takes the packet");
     take(&mut hut, &val)?;
     show(&hut);
+
+    // It would save over a text that its ringer never saw. She keeps her own, opens the ring again, and sees both.
+    println!("laptop 1 saves over what it opened");
+    refused(hut.commit(seen_at_hut, REMARK).map_err(NotCommitted::into));
+    let seen_at_hut = open(&hut)?;
+    println!("laptop 1 saves over that");
+    send(hut.commit(seen_at_hut, BOTH)?)?;
     Ok(())
+}
+
+/// A ringer opens the ring: what she sees, and what her save brings back.
+fn open(laptop: &Laptop) -> Result<Opened, Refusal> {
+    let opened = laptop.ask(RING)?;
+    println!(
+        "  laptop {} opens {}: \"{}\"",
+        laptop.number(),
+        opened.timestamp(),
+        opened.text().escape_ascii()
+    );
+    Ok(opened)
 }
 
 /// The packet of what left an event.

@@ -19,8 +19,8 @@ pub type Lent<'a> = Laptop<&'a mut [u8], &'a mut [u8]>;
 /// of 192 bytes for each.
 ///
 /// An event on record `i` gives `Ok` with what [leaves](Leaving), or `Err` with
-/// the question of document 01 that said no; then nothing has changed. Every
-/// number and every slice may be passed.
+/// the question that said no; then nothing has changed. Every number and every
+/// slice may be passed.
 ///
 /// A clone is a copy to look at. One that is used later in the laptop's place
 /// sets the laptop back, and one that is used beside it is a second laptop of
@@ -72,10 +72,8 @@ impl<T: AsMut<[u8]>, S: AsMut<[u8]>> Laptop<T, S> {
 
     /// Saves a value over what [`ask`](Laptop::ask) opened, if the record here is
     /// still valid with the timestamp that it had then: this laptop took no newer
-    /// save between. An INV leaves, with the value.
-    ///
-    /// Two laptops may both commit on one timestamp, as two may write: then the
-    /// save with the greater new timestamp stands.
+    /// save between. It goes on as a [`write`](Laptop::write): an INV leaves, with
+    /// the value.
     ///
     /// ```
     /// use cetskobi::{Laptop, Refusal};
@@ -84,25 +82,30 @@ impl<T: AsMut<[u8]>, S: AsMut<[u8]>> Laptop<T, S> {
     /// # let mut net = Laptop::start(0, 0b11, 1)?;
     /// # let mut hut = Laptop::start(1, 0b11, 1)?;
     /// // Two ringers open the ring; the first saves over what she saw.
-    /// let seen = net.ask(0)?;
-    /// let also = hut.ask(0)?;
-    /// let inv = net.commit(seen, b"Wren, wing 48")?;
+    /// let hers = net.ask(0)?;
+    /// let his = hut.ask(0)?;
+    /// let inv = net.commit(hers, b"Wren, wing 48")?;
     /// let ack = hut.deliver(inv.arriving())?.leaving();
     /// # let ack = ack.expect("an INV is acknowledged").into_owned();
     /// # let val = net.deliver(ack.arriving())?.leaving();
     /// # let val = val.expect("1 was the last").into_owned();
     /// # assert_eq!(hut.deliver(val.arriving())?.leaving(), None);
     ///
-    /// // The second would save over a text that he never saw, and is told so.
-    /// let no = hut.commit(also, b"Wren, weight 9.5").unwrap_err();
+    /// // The second would save over a text that he never saw. He is told so, and
+    /// // opens the ring again: both texts are there.
+    /// let entered = b"Wren, weight 9.5";
+    /// let no = hut.commit(his, entered).unwrap_err();
     /// assert_eq!(no.refusal(), Refusal::NotAsOpened);
-    /// let seen = hut.ask(0)?;
-    /// assert_eq!(seen.text(), b"Wren, wing 48");
-    /// let inv = hut.commit(seen, b"Wren, wing 48, weight 9.5")?;
+    /// let now = hut.ask(0)?;
+    /// assert_eq!(now.text(), b"Wren, wing 48");
+    /// let inv = hut.commit(now, b"Wren, wing 48, weight 9.5")?;
     /// assert_eq!(inv.body(), b"Wren, wing 48, weight 9.5");
     /// # Ok(())
     /// # }
     /// ```
+    ///
+    /// Two laptops may both commit on one timestamp, as two may write: then the
+    /// save with the greater new timestamp stands.
     ///
     /// # Errors
     ///
@@ -117,8 +120,9 @@ impl<T: AsMut<[u8]>, S: AsMut<[u8]>> Laptop<T, S> {
             .map_err(|refusal| NotCommitted { refusal, opened })
     }
 
-    /// Saves a value as record `i`, whatever stands there. An INV leaves, with the
-    /// value. To save over a text that a ringer has seen, [`ask`](Laptop::ask) and
+    /// Saves a value as record `i`, whatever stands there: also over a text that
+    /// nobody has looked at here, and over one that is not valid yet (invalid). An
+    /// INV leaves, with the value. For a ringer's save there is
     /// [`commit`](Laptop::commit).
     ///
     /// # Errors
@@ -381,7 +385,8 @@ impl<T: AsRef<[u8]>, S: AsRef<[u8]>> Laptop<T, S> {
         self.read(i).is_ok()
     }
 
-    /// The value of record `i`.
+    /// The value of record `i`, to be shown. Who saves over it opens it by
+    /// [`ask`](Laptop::ask).
     ///
     /// # Errors
     ///
@@ -393,7 +398,7 @@ impl<T: AsRef<[u8]>, S: AsRef<[u8]>> Laptop<T, S> {
     }
 
     /// Opens record `i`: its value, and the timestamp that [`commit`](Laptop::commit)
-    /// brings back. Nothing changes.
+    /// brings back. Nothing changes, and nobody else is kept from saving it.
     ///
     /// # Errors
     ///

@@ -4,8 +4,8 @@
 //! protocol with membership epochs, over a radio link that loses, repeats and
 //! holds back messages. The engine behind this crate is written in Rattle and
 //! proved: for every input the answer, the records and the store are what
-//! document 01 says, with Wishes 1, 2, 4 and 5 of document 02. This crate calls it with
-//! Rust's types and adds no rule.
+//! document 01 says, with Wishes 1, 2, 4 and 5 of document 02. This crate calls
+//! it with Rust's types and adds no rule.
 //!
 //! * [`Laptop`] is one laptop with its records. Each event on it is accepted,
 //!   with what leaves, or refused with its [`Refusal`]; a refused event has
@@ -28,8 +28,11 @@
 //! let mut net = Laptop::start(0, 0b11, 1)?;
 //! let mut hut = Laptop::start(1, 0b11, 1)?;
 //!
-//! // The net saves. Until the hut has acknowledged, neither shows the record.
-//! let inv = net.write(0, b"Blue tit, wing 62")?;
+//! // A ringer at the net opens the record, and saves over what she saw. Until the
+//! // hut has acknowledged, neither shows it.
+//! let opened = net.ask(0)?;
+//! assert_eq!(opened.text(), b"");
+//! let inv = net.commit(opened, b"Blue tit, wing 62")?;
 //! let ack = hut.deliver(inv.arriving())?.leaving();
 //! let ack = ack.expect("an INV is acknowledged").into_owned();
 //! assert_eq!(hut.read(0), Err(Refusal::NotReadable));

@@ -7,10 +7,62 @@ use crate::{Refusal, Timestamp};
 
 /// A record as [`Laptop::ask`](crate::Laptop::ask) opened it: the text that the
 /// ringer sees, and its timestamp. [`Laptop::commit`](crate::Laptop::commit)
-/// takes it: nothing else makes one, and it cannot be copied, so a save is of a
-/// record that was opened, and each opening is saved over once.
+/// takes it, so who saves has opened before, and each opening is saved over once.
 ///
-/// The text is a copy: what comes in later changes the record, and not this.
+/// The text is a copy: what comes in later changes the record, and not this. Nor
+/// does it hold the record: others may save it meanwhile, and then the commit is
+/// refused. It knows its record and timestamp, and no laptop: of a group in one
+/// memory another laptop may commit it, if it shows that record with that timestamp.
+///
+/// ```
+/// use cetskobi::{Laptop, Refusal};
+///
+/// # fn main() -> Result<(), Refusal> {
+/// # let mut net = Laptop::start(0, 0b11, 1)?;
+/// let opened = net.ask(0)?;
+/// assert_eq!(opened.text(), b"");
+/// assert_eq!(opened.timestamp().to_string(), "(0,0)");
+/// let inv = net.commit(opened, b"Wren, wing 48")?;
+/// assert_eq!(inv.body(), b"Wren, wing 48");
+/// # Ok(())
+/// # }
+/// ```
+///
+/// A save that was not opened cannot be written by mistake. Nobody else makes one:
+///
+/// ```compile_fail,E0451
+/// # use cetskobi::{Opened, Timestamp};
+/// let timestamp = Timestamp { version: 0, tie: 0 };
+/// let opened = Opened { record: 0, timestamp, text: Vec::new() };
+/// ```
+///
+/// None is copied:
+///
+/// ```compile_fail,E0599
+/// # use cetskobi::{Laptop, Refusal};
+/// # fn main() -> Result<(), Refusal> {
+/// # let net = Laptop::start(0, 0b11, 1)?;
+/// let opened = net.ask(0)?;
+/// let twice = opened.clone();
+/// # Ok(())
+/// # }
+/// ```
+///
+/// And none is saved over twice:
+///
+/// ```compile_fail,E0382
+/// # use cetskobi::{Laptop, Refusal};
+/// # fn main() -> Result<(), Refusal> {
+/// # let mut net = Laptop::start(0, 0b11, 1)?;
+/// let opened = net.ask(0)?;
+/// let inv = net.commit(opened, b"Wren")?.into_owned();
+/// let again = net.commit(opened, b"Robin")?.into_owned();
+/// # Ok(())
+/// # }
+/// ```
+///
+/// To save over whatever stands there is another event, with a name of its own:
+/// [`Laptop::write`](crate::Laptop::write).
 #[derive(Debug, PartialEq, Eq)]
 pub struct Opened {
     pub(crate) record: usize,
@@ -36,12 +88,28 @@ impl Opened {
     }
 }
 
-/// A commit that was refused: why, and what had been opened.
+/// A commit that was refused: why, and what had been opened. Nothing was saved,
+/// and the value is still the caller's.
 ///
-/// [`NotAsOpened`](Refusal::NotAsOpened) says that the text is no longer the one
-/// that was opened: ask again, and show the ringer what stands there now. After
-/// another refusal, of a value that is too long say, the commit may be tried
-/// again with what was opened.
+/// [`NotAsOpened`](Refusal::NotAsOpened) says that another save has come since, and
+/// what was opened is out of date: keep the ringer's text, ask again, and show her
+/// both. After any other refusal what was opened still counts, for another try:
+///
+/// ```
+/// use cetskobi::{Laptop, Refusal};
+///
+/// # fn main() -> Result<(), Refusal> {
+/// # let mut net = Laptop::start(0, 0b11, 1)?;
+/// let opened = net.ask(0)?;
+/// let no = net.commit(opened, &[b'x'; 193]).unwrap_err();
+/// assert_eq!(no.refusal(), Refusal::ValueTooLong);
+/// let inv = net.commit(no.into_opened(), &[b'x'; 192])?;
+/// assert_eq!(inv.body().len(), 192);
+/// # Ok(())
+/// # }
+/// ```
+///
+/// Where only the number counts, `?` makes a [`Refusal`] of it.
 #[derive(Debug, PartialEq, Eq)]
 pub struct NotCommitted {
     pub(crate) refusal: Refusal,
@@ -54,7 +122,7 @@ impl NotCommitted {
         self.refusal
     }
 
-    /// What had been opened, for another try.
+    /// What had been opened.
     pub fn into_opened(self) -> Opened {
         self.opened
     }

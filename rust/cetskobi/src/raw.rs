@@ -4,8 +4,8 @@
 //! [`Laptop`](crate::Laptop) is the same with Rust's types. This is for software
 //! that wants the engine's own answers, for any bytes: every input may be passed,
 //! also numbers of no laptop and bytes that are no record. An answer's `number`
-//! is 0, or that of the question of document 01 that said no; then nothing that
-//! was lent has changed.
+//! is 0, or that of the question that said no; then nothing that was lent has
+//! changed.
 //!
 //! A call is sound if each pointer and length come from one slice, and what is
 //! lent to be written overlaps nothing else. Rust's borrows say both.
@@ -54,8 +54,9 @@ pub fn ask(me: Replica, table: &[u8], store: &[u8], i: usize) -> Asked {
     unsafe { sys::cetskobi_ask(me, t, t_len, s, s_len, i) }
 }
 
-/// Commit of a value to record `i`: a write, if the record is still valid with
-/// this timestamp.
+/// Commit of a value to record `i`: a write, if the record is valid with this
+/// timestamp, as an [`ask`] gave it; else 26. It may be any: no record has a
+/// tie-breaker above 15.
 pub fn commit(
     me: Replica,
     table: &mut [u8],

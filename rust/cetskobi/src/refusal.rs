@@ -1,11 +1,11 @@
-//! Refusals: the questions of document 01 by number.
+//! Refusals: the questions of documents 01 and 02 by number.
 
 use std::error::Error;
 use std::fmt;
 
-/// Why an event or a packet was refused: the first question of document 01
-/// whose answer is no. A refused event has changed nothing. Later versions may
-/// have more: document 02 announces 27 to 37.
+/// Why an event or a packet was refused: the first question of document 01, or
+/// from 26 on of document 02, whose answer is no. A refused event has changed
+/// nothing. Later versions may have more: document 02 announces 27 to 37.
 #[derive(Clone, Copy, Debug, PartialEq, Eq, Hash, PartialOrd, Ord)]
 #[non_exhaustive]
 #[repr(u8)]
@@ -20,13 +20,13 @@ pub enum Refusal {
     StrayRecord = 4,
     /// 5: what stands in the table there is no sound record.
     UnsoundRecord = 5,
-    /// 6: a read of a record that is not valid.
+    /// 6: a read of a record that is not valid, or an ask for it.
     NotReadable = 6,
     /// 7: a write to a record that is neither valid nor invalid.
     NotWritable = 7,
-    /// 8: a write of more than 192 bytes.
+    /// 8: a write or commit of more than 192 bytes.
     ValueTooLong = 8,
-    /// 9: a write to a record at the last version.
+    /// 9: a write or commit to a record at the last version.
     LastVersion = 9,
     /// 10: a message of another epoch.
     OtherEpoch = 10,
@@ -104,7 +104,7 @@ impl Refusal {
         Refusal::PlayerRoom,
     ];
 
-    /// Its number in document 01.
+    /// Its number in document 01 or 02.
     pub const fn number(self) -> u8 {
         self as u8
     }
@@ -119,7 +119,7 @@ impl Refusal {
         if number == 0 {
             return Ok(());
         }
-        Err(Refusal::from_number(number).expect("the engine answers with a number of document 01"))
+        Err(Refusal::from_number(number).expect("the engine answers with a number of these"))
     }
 
     /// What is wrong, in a few plain words.

@@ -119,6 +119,127 @@ fn write() {
     assert_eq!(store[196..], [0; 188]);
 }
 
+/// What a read answers, and the record's timestamp: not the last-write one, (6,3).
+#[test]
+fn ask() {
+    let valid = [0, 5, 4, 3, 4, 3, 2, 1, 6, 0, 0, 0, 0b10, 0, 62, 9];
+    let asked = |record, i| {
+        let (table, store) = table(record);
+        let (t, s) = (table.as_ptr(), store.as_ptr());
+        unsafe { cetskobi_ask(ME, t, table.len(), s, store.len(), i) }
+    };
+    let answer = |number, tie, version, len| Asked {
+        number,
+        tie,
+        version,
+        len,
+    };
+    assert_eq!(asked(valid, 1), answer(0, 5, VERSION, 62));
+    assert_eq!(asked(valid, 0), answer(0, 1, 0, 0));
+    // A refused one has no timestamp, and the empty part.
+    assert_eq!(asked(valid, 2), answer(4, 0, 0, 0));
+    for state in 1..=4 {
+        let mut waiting = valid;
+        waiting[0] = state;
+        assert_eq!(asked(waiting, 1), answer(6, 0, 0, 0));
+    }
+    let mut unsound = valid;
+    unsound[14] = 193;
+    assert_eq!(asked(unsound, 1), answer(5, 0, 0, 0));
+}
+
+/// A valid record of this version, with tie-breaker 5.
+const fn opened(version: u32) -> Bytes {
+    let [a, b, c, d] = version.to_le_bytes();
+    [0, 5, 4, 3, a, b, c, d, 6, 0, 0, 0, 0b10, 0, 62, 9]
+}
+
+/// Commit to record 1, which was this one: the answer, and the memory after it.
+fn commit_to(
+    record: Bytes,
+    i: usize,
+    (version, tie): (u32, u8),
+    value: &[u8],
+) -> (Answer, Vec<u8>, Vec<u8>) {
+    let (mut table, mut store) = table(record);
+    let (t, s) = (table.as_mut_ptr(), store.as_mut_ptr());
+    let (v, v_len) = (value.as_ptr(), value.len());
+    let answer = unsafe {
+        cetskobi_commit(
+            ME,
+            t,
+            table.len(),
+            s,
+            store.len(),
+            i,
+            version,
+            tie,
+            v,
+            v_len,
+        )
+    };
+    (answer, table, store)
+}
+
+/// On the record's timestamp it is a write, byte for byte.
+#[test]
+fn commit() {
+    let (left, table, store) = commit_to(opened(VERSION - 1), 1, (VERSION - 1, 5), b"wing");
+    assert_eq!(left, answer(0, 1, 2, VERSION));
+    let written = [3, 2, 2, 2, 4, 3, 2, 1, 4, 3, 2, 1, 0, 0, 4, 9];
+    assert_eq!(table, [FRESH, written].as_flattened());
+    assert_eq!(store[..192], [7; 192]);
+    assert_eq!(store[192..196], *b"wing");
+    assert_eq!(store[196..], [0; 188]);
+    // An empty value, and one that fills the room.
+    for len in [0, 192] {
+        let (left, table, _) =
+            commit_to(opened(VERSION - 1), 1, (VERSION - 1, 5), &[8; 192][..len]);
+        assert_eq!((left.number, usize::from(table[30])), (0, len));
+    }
+}
+
+/// 26 of every other timestamp and of every state but valid; it stands after 4
+/// and 5, and before 8 and 9.
+#[test]
+fn a_refused_commit_changes_nothing() {
+    let long = [8; 193];
+    let refused = |record: Bytes, i, stamp, value: &[u8], number| {
+        let (no, after, store) = commit_to(record, i, stamp, value);
+        let case = format!("{record:?} {i} {stamp:?} {} bytes", value.len());
+        assert_eq!(no, answer(number, 0, 0, 0), "{case}");
+        assert_eq!(after, [FRESH, record].as_flattened(), "{case}");
+        assert_eq!(store, [7; 2 * 192], "{case}");
+    };
+    let at = (VERSION, 5);
+    // The last-write timestamp, an older one, a newer one, another tie-breaker, one of no laptop.
+    let others = [(6, 3), (VERSION - 1, 5), (VERSION + 1, 5), (VERSION, 4)];
+    let others = others
+        .into_iter()
+        .chain([6, 15, 16, 21, 255].map(|tie| (VERSION, tie)));
+    for stamp in others {
+        refused(opened(VERSION), 1, stamp, b"wing", 26);
+        refused(opened(VERSION), 1, stamp, &long, 26);
+        refused(opened(VERSION), 2, stamp, b"wing", 4);
+    }
+    for state in 1..=4 {
+        let mut record = opened(VERSION);
+        record[0] = state;
+        refused(record, 1, at, b"wing", 26);
+        refused(record, 1, at, &long, 26);
+        let mut last = opened(u32::MAX);
+        last[0] = state;
+        refused(last, 1, (u32::MAX, 5), b"wing", 26);
+    }
+    refused(opened(VERSION), 1, at, &long, 8);
+    refused(opened(u32::MAX), 1, (u32::MAX, 5), &long, 8);
+    refused(opened(u32::MAX), 1, (u32::MAX, 5), b"wing", 9);
+    refused(opened(u32::MAX), 1, (u32::MAX, 4), b"wing", 26);
+    let mut unsound = opened(VERSION);
+    unsound[1] = 16;
+    refused(unsound, 1, (VERSION, 16), b"wing", 5);
+}
+
 #[test]
 fn deliver() {
     let (mut table, mut store) = table([3, 2, 2, 2, 6, 0, 0, 0, 6, 0, 0, 0, 0b10, 0, 62, 9]);

@@ -3,6 +3,7 @@
 //! tests/c/guide.c does the same in C.
 
 use cetskobi::{Record, Reply};
+use std::collections::BTreeMap;
 use std::fs;
 
 // The guide's block to the letter, as wide as it is there: the first test
@@ -98,9 +99,8 @@ fn three() -> [Hut; 3] {
 impl Hut {
     /// Opens the ring and saves it at once.
     fn saves(&mut self, text: &[u8]) -> Timestamp {
-        let (_, seen) = self.open(RING).expect("shown");
-        let saved = self.save(RING, seen, text).expect("accepted");
-        saved.expect("nothing came between")
+        let opened = self.open(RING).expect("shown");
+        self.save(opened, text).expect("nothing came between")
     }
 
     fn came(&mut self, packet: &[u8]) {
@@ -161,7 +161,9 @@ fn a_worked_morning() {
     let [mut one, mut two, mut five] = three();
     let (first, second) = (stamp(1, 2), stamp(2, 5));
 
-    // 2 saves; 5 does not hear it.
+    // The ring is opened at 1 and at 2. 2 saves; 5 does not hear it.
+    let seen_at_one = one.open(RING).expect("shown");
+    assert_eq!(seen_at_one.timestamp(), stamp(0, 1));
     assert_eq!(two.saves(b"robin, wing 73"), first);
     let inv = two.sent([1, 5]);
     assert_eq!(inv.len(), 34);
@@ -192,11 +194,19 @@ fn a_worked_morning() {
     assert_eq!(two.fate(RING, first), Fate::Finished);
     five.came(&val);
     five.is(State::Valid, first, 0);
-    assert_eq!(one.open(RING), Err(Refusal::NotReadable));
+    // 1's ringer would save over what she saw. Her text is kept, and once the other's
+    // is shown, it says more than hers.
+    let no = one.save(seen_at_one, b"robin").unwrap_err();
+    assert_eq!(no.refusal(), Refusal::NotAsOpened);
+    assert_eq!(one.reopen(no), Err(Refusal::NotReadable));
     two.ticks(8);
     one.came(&two.sent([1, 5]));
     one.is(State::Valid, first, 0);
-    one.shows(b"robin, wing 73");
+    let now = one.open(RING).expect("shown");
+    assert_eq!(
+        (now.timestamp(), now.text()),
+        (first, &b"robin, wing 73"[..])
+    );
 
     // 5 saves, only 1 hears it, and 5 dies.
     assert_eq!(five.saves(b"robin, wing 74"), second);
@@ -296,8 +306,10 @@ fn the_worked_morning_is_told_as_it_happens() {
     let mut huts = three();
     // All that was sent. A delivery is of the last that its row can mean.
     let mut sent: Vec<Leaving<'static>> = Vec::new();
+    // What each laptop opened last.
+    let mut opened: BTreeMap<u8, Opened> = BTreeMap::new();
     let rows = rows("| at | event | answer | record 7 there | what leaves |");
-    assert_eq!(rows.len(), 23);
+    assert_eq!(rows.len(), 28);
     for row in rows {
         let [at, event, answer, record, leaves] = &row[..] else {
             panic!("{row:?}");
@@ -308,8 +320,20 @@ fn the_worked_morning_is_told_as_it_happens() {
         let event = event.split(", 8 ticks later").next().unwrap();
         let (verb, rest) = event.split_once(' ').unwrap_or((event, ""));
         let result = match verb {
-            "write" => (laptop.write(RING, rest.trim_matches('"').as_bytes())).map(Some),
-            "read" => laptop.read(RING).map(|_| None),
+            "ask" => laptop.ask(RING).map(|o| opened.insert(at, o)).map(|_| None),
+            "commit" => {
+                let (on, text) = rest.split_once(' ').unwrap();
+                let seen = opened.remove(&at).expect("it was opened");
+                assert_eq!(seen.timestamp().to_string(), on, "{row:?}");
+                match laptop.commit(seen, text.trim_matches('"').as_bytes()) {
+                    Ok(inv) => Ok(Some(inv)),
+                    Err(no) => {
+                        let refusal = no.refusal();
+                        opened.insert(at, no.into_opened());
+                        Err(refusal)
+                    }
+                }
+            }
             "validate" => laptop.validate(RING).map(Some),
             "replay" => laptop.replay(RING).map(Some),
             "resend" => laptop.resend(RING).map(Some),
@@ -404,23 +428,60 @@ fn a_finished_save_may_be_covered_by_one_that_crossed_it() {
     assert_eq!(two.fate(RING, lesser), Fate::Replaced);
 }
 
+/// 1's ringer opens the ring and measures the bird; 2's save comes between. Hers
+/// is refused, and kept: she sees both texts, and saves what shall stand.
 #[test]
-fn a_save_is_held_back_if_another_came_since_the_ring_was_opened() {
+fn a_save_is_refused_if_another_came_since_the_ring_was_opened() {
     let [mut one, mut two, mut five] = three();
-    let (_, seen) = one.open(RING).expect("shown");
-    two.saves(b"two's");
-    let inv = two.sent([1, 5]);
+    two.saves(b"wing 73");
+    let (inv, first) = (two.sent([1, 5]), stamp(1, 2));
+    let seen = one.open(RING).expect("shown");
+    let hers = b"weight 18";
+
+    // The other's save is not finished here: hers stays on the screen until it is.
     one.came(&inv);
-    assert_eq!(one.save(RING, seen, b"late"), Err(Refusal::NotReadable));
+    let no = one.save(seen, hers).unwrap_err();
+    assert_eq!(no.refusal(), Refusal::NotAsOpened);
+    assert_eq!(one.reopen(no), Err(Refusal::NotReadable));
     for hut in [&mut one, &mut five] {
         hut.came(&inv);
         two.came(&hut.all_sent()[0].0);
     }
     one.came(&two.sent([1, 5]));
-    assert_eq!(one.save(RING, seen, b"late"), Ok(None));
+    let now = one.open(RING).expect("shown");
+    assert_eq!((now.timestamp(), now.text()), (first, &b"wing 73"[..]));
+
+    // She sees both, and makes one of them. It is too long; then it is not.
+    let both = [now.text(), b", ", hers].concat();
+    let long = [&both[..], &[b'.'; 192]].concat();
+    let no = one.save(now, &long).unwrap_err();
+    assert_eq!(no.refusal(), Refusal::ValueTooLong);
+    assert!(one.all_sent().is_empty());
+    let now = one.reopen(no).expect("it still stands");
+    assert_eq!((now.timestamp(), now.text()), (first, &b"wing 73"[..]));
+    assert_eq!(one.save(now, &both), Ok(stamp(2, 1)));
+    assert_eq!(messages(&one.sent([2, 5])), [Message::Inv(stamp(2, 1))]);
+}
+
+/// The other's save is finished before hers: reopening shows it at once. A plain
+/// write would have gone over it unseen.
+#[test]
+fn a_save_over_a_text_unseen_is_refused() {
+    let [mut one, mut two, mut five] = three();
+    let seen = one.open(RING).expect("shown");
+    two.saves(b"two's");
+    let inv = two.sent([1, 5]);
+    for hut in [&mut one, &mut five] {
+        hut.came(&inv);
+        two.came(&hut.sent([2]));
+    }
+    one.came(&two.sent([1, 5]));
+    let no = one.save(seen, b"late").unwrap_err();
+    assert_eq!(no.refusal(), Refusal::NotAsOpened);
+    let now = one.reopen(no).expect("shown");
+    assert_eq!((now.timestamp(), now.text()), (stamp(1, 2), &b"two's"[..]));
     one.shows(b"two's");
     assert!(one.all_sent().is_empty());
-    // The engine itself would have taken it.
     assert!(one.laptop.write(RING, b"late").is_ok());
 }
 
@@ -467,13 +528,14 @@ fn a_save_that_waits_at_a_struck_off_laptop_is_never_finished_there() {
         two.came(&hut.sent([2]));
     }
     five.came(&two.sent([1, 5]));
-    let (_, seen) = two.open(0).expect("shown");
-    let saved = two.save(0, seen, b"wren").expect("accepted");
-    let saved = saved.expect("nothing came between");
+    let (opened, also) = (two.open(0).expect("shown"), two.open(1).expect("shown"));
+    let saved = two.save(opened, b"wren").expect("nothing came between");
     two.sent([1, 5]);
     assert_eq!(two.fate(0, saved), Fate::Waiting);
     two.view_came(1, 34).expect("accepted");
     assert_eq!(two.open(0), Err(Refusal::StruckOff));
+    let no = two.save(also, b"robin").unwrap_err();
+    assert_eq!(no.refusal(), Refusal::StruckOff);
     two.ticks(3000);
     assert!(two.all_sent().is_empty());
     assert_eq!(two.fate(0, saved), Fate::StruckOff);
@@ -525,7 +587,8 @@ fn both_show_the_winners_text(mut one: Hut, mut two: Hut) {
         from_two.iter().for_each(|(p, _)| one.came(p));
     }
     for hut in [&one, &two] {
-        assert_eq!(hut.open(RING), Ok((&b"five's"[..], GREATER)));
+        hut.shows(b"five's");
+        assert_eq!(hut.open(RING).expect("shown").timestamp(), GREATER);
     }
     assert_eq!(two.fate(RING, LESSER), Fate::Replaced);
 }
@@ -635,7 +698,8 @@ fn what_leaves_together_shares_packets() {
     let start = |number| Hut::begin(number, 7, 200, Radio::default()).expect("a laptop");
     let (mut zero, mut one, mut two) = (start(0), start(1), start(2));
     for ring in 0..200 {
-        zero.save(ring, stamp(0, 0), b"robin").expect("accepted");
+        let opened = zero.open(ring).expect("shown");
+        zero.save(opened, b"robin").expect("accepted");
     }
     // 1 and 2 hear every one, and their answers come back.
     for (packet, _) in zero.all_sent() {
@@ -656,8 +720,8 @@ fn what_leaves_together_shares_packets() {
     let start = |number| Hut::begin(number, 3, 20, Radio::default()).expect("a laptop");
     let mut zero = start(0);
     for ring in 0..20 {
-        let full = [b'x'; 192];
-        zero.save(ring, stamp(0, 0), &full).expect("accepted");
+        let opened = zero.open(ring).expect("shown");
+        zero.save(opened, &[b'x'; 192]).expect("accepted");
     }
     assert_eq!(counts(zero.all_sent()), [1; 20]);
     zero.ticks(8);
@@ -723,12 +787,12 @@ fn settles(mut dice: Dice) -> usize {
             let (n, ring) = (dice.below(awake), dice.below(RINGS));
             let with = (570..600).contains(&now).then_some(DYING);
             for n in [n].into_iter().chain(with) {
-                let Ok((_, seen)) = huts[n].open(ring) else {
+                let Ok(opened) = huts[n].open(ring) else {
                     continue;
                 };
                 let text = format!("{n} at {now}").into_bytes();
-                let saved = huts[n].save(ring, seen, &text).expect("accepted");
-                saves.push((n, ring, saved.expect("opened just now"), text));
+                let saved = huts[n].save(opened, &text).expect("opened just now");
+                saves.push((n, ring, saved, text));
             }
         }
         for hut in &mut huts[..awake] {
@@ -745,14 +809,14 @@ fn settles(mut dice: Dice) -> usize {
     }
     assert!(saves.len() > 200);
     for ring in 0..RINGS {
-        let (text, timestamp) = huts[0].open(ring).expect("settled");
+        let opened = huts[0].open(ring).expect("settled");
         for hut in &huts[1..4] {
-            assert_eq!(hut.open(ring), Ok((text, timestamp)));
+            assert_eq!(hut.open(ring).as_ref(), Ok(&opened));
         }
         // It is the text that was saved with that timestamp, and every fate is told.
         for (n, _, saved, kept) in saves.iter().filter(|s| s.1 == ring) {
-            let stands = *saved == timestamp;
-            assert!(!stands || kept == text);
+            let stands = *saved == opened.timestamp();
+            assert!(!stands || kept == opened.text());
             if *n != DYING {
                 let fate = huts[*n].fate(ring, *saved);
                 assert_eq!(fate == Fate::Finished, stands);
@@ -784,9 +848,9 @@ fn goes_over(mut dice: Dice) -> usize {
         }
         for (n, hut) in huts.iter_mut().enumerate() {
             let ring = dice.below(RINGS);
-            if let (Ok((_, seen)), 0) = (hut.open(ring), dice.below(3)) {
+            if let (Ok(opened), 0) = (hut.open(ring), dice.below(3)) {
                 let text = format!("{n} at {now}").into_bytes();
-                hut.save(ring, seen, &text).expect("accepted");
+                hut.save(opened, &text).expect("accepted");
             }
             hut.tick();
             for (packet, to) in hut.all_sent() {

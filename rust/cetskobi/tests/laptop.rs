@@ -1,7 +1,7 @@
 //! A laptop's events, its limits, and lent memory.
 
-use cetskobi::{Arriving, Envelope, Laptop, Leaving, Members, Message, Record, Refusal, Replica};
-use cetskobi::{Reply, State, Timestamp};
+use cetskobi::{Arriving, Envelope, Laptop, Leaving, Members, Message, NotCommitted, Opened};
+use cetskobi::{Record, Refusal, Replica, Reply, State, Timestamp};
 
 fn stamp(version: u32, tie: u8) -> Timestamp {
     Timestamp { version, tie }
@@ -126,6 +126,213 @@ fn a_write_from_save_to_screen() {
     assert_eq!(acked(&mut l, 1), Err(Refusal::StrayAck));
     assert_eq!(l, settled);
     assert_eq!(l.resend(1), Ok(val));
+}
+
+/// A save of laptop 5 is taken in here, and its VAL.
+fn saved_elsewhere(l: &mut Laptop, stamp: Timestamp, body: &[u8]) {
+    assert!(invalidated(l, stamp, body).is_ok());
+    let val = from(5, Message::Val(stamp));
+    assert_eq!(replied(l.deliver(Arriving::new(val, b""))), Ok(None));
+}
+
+/// What a commit that is refused tells: the number, and what comes back.
+fn refused(l: &mut Laptop, opened: Opened, value: &[u8], why: Refusal) -> Opened {
+    let before = l.clone();
+    let no = l.commit(opened, value).expect_err("refused");
+    assert_eq!(no.refusal(), why);
+    assert_eq!(*l, before);
+    no.into_opened()
+}
+
+/// Document 02, Wish 5: an ask is a read that has the timestamp too.
+#[test]
+fn an_ask_is_answered_as_a_read() {
+    let mut l = laptop();
+    let fresh = l.ask(1).unwrap();
+    assert_eq!((fresh.record(), fresh.timestamp()), (1, stamp(0, 1)));
+    assert_eq!(fresh.text(), b"");
+    saved_elsewhere(&mut l, stamp(3, 5), b"wren");
+    let before = l.clone();
+    let opened = l.ask(1).unwrap();
+    assert_eq!((opened.record(), opened.timestamp()), (1, stamp(3, 5)));
+    assert_eq!(opened.text(), b"wren");
+    assert_eq!(l, before);
+    // Asked again it is the same; of another record it is another.
+    assert_eq!(l.ask(1), Ok(opened));
+    assert_eq!(l.ask(0).unwrap().timestamp(), stamp(0, 1));
+
+    // Refused as a read: invalid, write, no such record, struck off.
+    assert!(invalidated(&mut l, stamp(4, 5), b"robin").is_ok());
+    assert_eq!(l.ask(1), Err(Refusal::NotReadable));
+    assert!(l.write(0, b"").is_ok());
+    assert_eq!(l.ask(0), Err(Refusal::NotReadable));
+    assert_eq!(l.ask(3), Err(Refusal::StrayRecord));
+    assert_eq!(l.ask(usize::MAX), Err(Refusal::StrayRecord));
+    l.change_view(1, 0b10_0010).unwrap();
+    assert_eq!(l.ask(2), Err(Refusal::StruckOff));
+}
+
+/// On what was opened a commit is a write, byte for byte, and what leaves.
+#[test]
+fn a_commit_is_a_write() {
+    let mut l = laptop();
+    saved_elsewhere(&mut l, stamp(3, 5), b"robin");
+    let mut written = l.clone();
+    let opened = l.ask(1).unwrap();
+    let inv = l.commit(opened, b"wren").unwrap().into_owned();
+    assert_eq!(inv.envelope(), from(2, Message::Inv(stamp(4, 2))));
+    assert_eq!(inv.recipients(), Members::from_iter([1, 5]));
+    assert_eq!(written.write(1, b"wren"), Ok(inv.clone()));
+    assert_eq!(l, written);
+    // It waits and is sent again as every write.
+    assert_eq!(l.record(1).unwrap().state, State::Write);
+    assert_eq!(l.read(1), Err(Refusal::NotReadable));
+    assert_eq!(l.resend(1), Ok(inv));
+}
+
+/// The text that the ringer saw stays as it was, whatever comes; a save came, so
+/// hers is refused, first as the record is not valid, then as it has another
+/// timestamp. What she opened comes back, and is out of date for good.
+#[test]
+fn a_save_between_ask_and_commit_refuses_it() {
+    let mut l = laptop();
+    saved_elsewhere(&mut l, stamp(3, 5), b"robin");
+    let opened = l.ask(1).unwrap();
+    assert!(invalidated(&mut l, stamp(4, 5), b"dunnock").is_ok());
+    let opened = refused(&mut l, opened, b"wren", Refusal::NotAsOpened);
+    let val = from(5, Message::Val(stamp(4, 5)));
+    assert_eq!(replied(l.deliver(Arriving::new(val, b""))), Ok(None));
+    let opened = refused(&mut l, opened, b"wren", Refusal::NotAsOpened);
+    assert_eq!((opened.record(), opened.timestamp()), (1, stamp(3, 5)));
+    assert_eq!(opened.text(), b"robin");
+
+    // She opens it again, sees the newer text, and saves over that.
+    let now = l.ask(1).unwrap();
+    assert_eq!(
+        (now.timestamp(), now.text()),
+        (stamp(4, 5), &b"dunnock"[..])
+    );
+    let inv = l.commit(now, b"wren").unwrap();
+    assert_eq!(inv.envelope(), from(2, Message::Inv(stamp(5, 2))));
+}
+
+/// The version alone does not tell: a save of the same version with a greater
+/// tie-breaker has come.
+#[test]
+fn a_commit_asks_for_the_tie_breaker_too() {
+    let mut l = laptop();
+    saved_elsewhere(&mut l, stamp(3, 1), b"robin");
+    let opened = l.ask(1).unwrap();
+    saved_elsewhere(&mut l, stamp(3, 5), b"dunnock");
+    refused(&mut l, opened, b"wren", Refusal::NotAsOpened);
+    assert_eq!(l.read(1), Ok(b"dunnock".as_slice()));
+}
+
+/// Two screens of one laptop opened the record: the first that saves is accepted.
+#[test]
+fn the_second_commit_of_one_laptop_is_refused() {
+    let mut l = laptop();
+    let (first, second) = (l.ask(1).unwrap(), l.ask(1).unwrap());
+    assert!(l.commit(first, b"wren").is_ok());
+    let second = refused(&mut l, second, b"robin", Refusal::NotAsOpened);
+    assert_eq!(acked(&mut l, 1), Ok(None));
+    assert!(acked(&mut l, 5).unwrap().is_some());
+    refused(&mut l, second, b"robin", Refusal::NotAsOpened);
+    assert_eq!(l.read(1), Ok(b"wren".as_slice()));
+    // A plain write asks nothing of what was seen.
+    assert!(l.write(1, b"robin").is_ok());
+}
+
+/// A plain write is accepted in invalid, where a commit on the very timestamp is
+/// not; in write neither is, and each has its own number.
+#[test]
+fn a_commit_is_refused_by_26_where_a_write_is_accepted_or_refused_by_7() {
+    // What was opened at a laptop that has the VAL already.
+    let mut elsewhere = laptop();
+    saved_elsewhere(&mut elsewhere, stamp(3, 5), b"robin");
+    let opened = elsewhere.ask(1).unwrap();
+    let mut l = laptop();
+    assert!(invalidated(&mut l, stamp(3, 5), b"robin").is_ok());
+    let opened = refused(&mut l, opened, b"wren", Refusal::NotAsOpened);
+    let mut plain = l.clone();
+    assert!(plain.write(1, b"wren").is_ok());
+    assert_eq!(plain.write(1, b"wren"), Err(Refusal::NotWritable));
+    let opened = refused(&mut plain, opened, b"wren", Refusal::NotAsOpened);
+    // The VAL comes here too: the text is the one that was seen.
+    let val = from(5, Message::Val(stamp(3, 5)));
+    assert_eq!(replied(l.deliver(Arriving::new(val, b""))), Ok(None));
+    assert!(l.commit(opened, b"wren").is_ok());
+}
+
+/// A text that is too long: what was opened comes back, and the shorter one is
+/// taken. 26 comes before 8 and 9.
+#[test]
+fn a_refused_commit_is_tried_again() {
+    let mut l = laptop();
+    let opened = l.ask(0).unwrap();
+    let opened = refused(&mut l, opened, &[1; 193], Refusal::ValueTooLong);
+    assert_eq!(opened, l.ask(0).unwrap());
+    assert!(l.commit(opened, &[1; 192]).is_ok());
+
+    let mut l = laptop();
+    let last = stamp(u32::MAX, 5);
+    saved_elsewhere(&mut l, stamp(u32::MAX - 1, 5), b"");
+    let opened = l.ask(1).unwrap();
+    let mut before = l.clone();
+    saved_elsewhere(&mut l, last, b"");
+    let opened = refused(&mut l, opened, &[1; 193], Refusal::NotAsOpened);
+    let inv = before.commit(opened, b"").unwrap();
+    assert_eq!(inv.envelope().message, Message::Inv(stamp(u32::MAX, 2)));
+    let opened = l.ask(1).unwrap();
+    let opened = refused(&mut l, opened, &[1; 193], Refusal::ValueTooLong);
+    let opened = refused(&mut l, opened, b"", Refusal::LastVersion);
+
+    // A laptop with fewer records, and one that is struck off.
+    let mut small = Laptop::start(2, 38, 1).unwrap();
+    let opened = refused(&mut small, opened, b"", Refusal::StrayRecord);
+    l.change_view(1, 0b10_0010).unwrap();
+    refused(&mut l, opened, b"", Refusal::StruckOff);
+}
+
+/// A refused commit as an error, and as a refusal where only the number counts.
+#[test]
+fn a_refused_commit_as_an_error() {
+    fn save(l: &mut Laptop, opened: Opened) -> Result<Timestamp, Refusal> {
+        let inv = l.commit(opened, &[1; 193])?;
+        Ok(inv.envelope().message.timestamp())
+    }
+    let mut l = laptop();
+    let opened = l.ask(0).unwrap();
+    assert_eq!(save(&mut l, opened), Err(Refusal::ValueTooLong));
+    let opened = l.ask(0).unwrap();
+    let no: NotCommitted = l.commit(opened, &[1; 193]).expect_err("refused");
+    assert_eq!(no.to_string(), Refusal::ValueTooLong.to_string());
+    let error: Box<dyn std::error::Error> = Box::new(no);
+    assert!(error.to_string().starts_with("refused (8)"));
+}
+
+/// Laptops 2 and 5 commit on one timestamp: both are accepted, and the greater new
+/// one stands, as of two writes. The lesser text is in no record.
+#[test]
+fn two_laptops_commit_on_one_timestamp() {
+    let [mut two, mut five] = [2, 5].map(|number| Laptop::start(number, 0b10_0100, 3).unwrap());
+    let (hers, his) = (two.ask(1).unwrap(), five.ask(1).unwrap());
+    assert_eq!(hers, his);
+    let lesser = two.commit(hers, b"wren").unwrap().into_owned();
+    let greater = five.commit(his, b"robin").unwrap().into_owned();
+    assert_eq!(lesser.envelope().message, Message::Inv(stamp(1, 2)));
+    assert_eq!(greater.envelope().message, Message::Inv(stamp(1, 5)));
+    let ack = two.deliver(greater.arriving()).unwrap().leaving();
+    let ack = ack.expect("an INV is acknowledged").into_owned();
+    assert!(five.deliver(lesser.arriving()).is_ok());
+    let val = five.deliver(ack.arriving()).unwrap().leaving();
+    let val = val.expect("2 was the last").into_owned();
+    assert_eq!(replied(two.deliver(val.arriving())), Ok(None));
+    for laptop in [&two, &five] {
+        assert_eq!(laptop.ask(1).unwrap().timestamp(), stamp(1, 5));
+        assert_eq!(laptop.read(1), Ok(b"robin".as_slice()));
+        assert!(!laptop.store().windows(4).any(|w| w == b"wren"));
+    }
 }
 
 /// The last acknowledgement of a replay: the record keeps the dead writer's

@@ -3,8 +3,8 @@
 //! drawn, leads where the picture and the table say, and sends what they say.
 //! tests/picture.sh compares docs/states.svg with the dot.
 
-use cetskobi::Timestamp;
-use cetskobi::{Arriving, Envelope, Laptop, Leaving, Members, Message, Record, Refusal, State};
+use cetskobi::{Arriving, Envelope, Laptop, Leaving, Members, Message, NotCommitted, Opened};
+use cetskobi::{Record, Refusal, State, Timestamp};
 use std::collections::BTreeSet;
 use std::fs;
 
@@ -19,7 +19,9 @@ const STRANGER: u8 = 7;
 #[derive(Clone, Copy, Debug, PartialEq, Eq)]
 enum Kind {
     Read,
+    Ask,
     Write,
+    Commit,
     InvGreater,
     InvNotGreater,
     LastAck,
@@ -34,9 +36,11 @@ enum Kind {
 }
 
 /// A kind with its words in the picture, and in the table.
-const WORDS: [(Kind, &str, &str); 12] = [
+const WORDS: [(Kind, &str, &str); 14] = [
     (Kind::Read, "read", "read"),
+    (Kind::Ask, "ask", "ask"),
     (Kind::Write, "write", "write"),
+    (Kind::Commit, "commit", "commit, on the record's stamp"),
     (
         Kind::InvGreater,
         "greater INV comes",
@@ -74,7 +78,8 @@ const WORDS: [(Kind, &str, &str); 12] = [
 ];
 
 /// What the picture's note says of those words: the kinds above are meant so.
-const NOTE: [&str; 8] = [
+const NOTE: [&str; 9] = [
+    "Commit: it brings the record's stamp.",
     "A greater INV has a greater stamp than the record, any other INV an equal or lesser one.",
     "A VAL that comes has the record's stamp.",
     "An ACK that comes has the last-write stamp, and its sender is not yet counted.",
@@ -122,15 +127,31 @@ fn records() -> Vec<Record> {
     records
 }
 
-/// Messages of each kind about record 0 with timestamps around those of the
-/// records, from both others.
-fn messages() -> Vec<Envelope> {
+/// Timestamps around those of the records.
+fn stamps() -> [Timestamp; 5] {
     let stamps = [(3, 1), (3, 2), (3, 5), (4, 1), (4, 2)];
-    let stamps = stamps.map(|(version, tie)| Timestamp { version, tie });
+    stamps.map(|(version, tie)| Timestamp { version, tie })
+}
+
+/// Record 0 as it was opened when it had this timestamp.
+fn opened(timestamp: Timestamp) -> Opened {
+    let seen = Record {
+        state: State::Valid,
+        timestamp,
+        writer: ME,
+        written: timestamp,
+        acks: Members::default(),
+        len: 5,
+    };
+    laptop(&seen).ask(0).expect("a valid record is opened")
+}
+
+/// Messages of each kind about record 0, from both others.
+fn messages() -> Vec<Envelope> {
     let kinds = [Message::Inv, Message::Ack, Message::Val];
     let mut messages = Vec::new();
     for message in kinds {
-        for timestamp in stamps {
+        for timestamp in stamps() {
             for sender in OTHERS {
                 messages.push(Envelope {
                     sender,
@@ -213,7 +234,18 @@ fn all_tried() -> Vec<Tried> {
             _ => Kind::Resend,
         };
         tried.push(attempt(&r, Kind::Read, |l| l.read(0).map(|_| None)));
+        tried.push(attempt(&r, Kind::Ask, |l| l.ask(0).map(|_| None)));
         tried.push(attempt(&r, Kind::Write, |l| l.write(0, b"robin").map(sent)));
+        for timestamp in stamps() {
+            let commit = match timestamp == r.timestamp {
+                true => Kind::Commit,
+                false => Kind::Other(Refusal::NotAsOpened),
+            };
+            tried.push(attempt(&r, commit, |l| {
+                let inv = l.commit(opened(timestamp), b"robin");
+                inv.map(sent).map_err(NotCommitted::into)
+            }));
+        }
         tried.push(attempt(&r, validate, |l| l.validate(0).map(sent)));
         tried.push(attempt(&r, replay, |l| l.replay(0).map(sent)));
         tried.push(attempt(&r, resend, |l| l.resend(0).map(sent)));

@@ -1,4 +1,4 @@
-use cetskobi::{packet, Laptop, Leaving, Members, Message, Refusal, State, Timestamp};
+use cetskobi::{packet, Laptop, Leaving, Members, Message, NotCommitted, Opened, Refusal, State, Timestamp};
 
 /// Ticks until a message goes again: each wait is twice the one before, up to the most.
 const WAIT_FIRST: u16 = 8;
@@ -61,24 +61,28 @@ impl Hut {
         self.put(left);
     }
 
-    /// A ringer opens a ring: its text, and the timestamp that the save brings back.
-    fn open(&self, ring: usize) -> Result<(&[u8], Timestamp), Refusal> {
-        let text = self.laptop.read(ring)?;
-        let record = self.laptop.record(ring).ok_or(Refusal::StrayRecord)?;
-        Ok((text, record.timestamp))
+    /// A ringer opens a ring: the text that she sees, and the timestamp that the save brings back.
+    fn open(&self, ring: usize) -> Result<Opened, Refusal> {
+        self.laptop.ask(ring)
     }
 
-    /// A ringer saves over the text that she saw. Ok(None): it is another by now; show it to her first. Else the save's
-    /// timestamp: keep it with the text, and ask for its fate.
-    fn save(&mut self, ring: usize, seen: Timestamp, text: &[u8]) -> Result<Option<Timestamp>, Refusal> {
-        if self.open(ring)?.1 != seen {
-            return Ok(None);
-        }
-        let inv = self.laptop.write(ring, text)?.into_owned();
+    /// A ringer saves over the text that she saw. Ok has the save's timestamp: keep it with her text, and ask for its fate. Err: nothing
+    /// was saved. Keep her text on the screen, and reopen.
+    fn save(&mut self, opened: Opened, text: &[u8]) -> Result<Timestamp, NotCommitted> {
+        let inv = self.laptop.commit(opened, text)?.into_owned();
         let saved = inv.envelope().message.timestamp();
         self.put_again(inv, WAIT_FIRST);
         self.send();
-        Ok(Some(saved))
+        Ok(saved)
+    }
+
+    /// After a refused save: what to show her beside her own text, and what her next save brings back. Err(6): a newer save is not
+    /// finished here; open the ring in a while.
+    fn reopen(&self, no: NotCommitted) -> Result<Opened, Refusal> {
+        match no.refusal() {
+            Refusal::NotAsOpened => self.open(no.into_opened().record()), // saved since: the text as it stands now
+            _ => Ok(no.into_opened()), // what she saw still stands: after 8 she shortens her text
+        }
     }
 
     /// Asked after every packet and every change of view: while it is Waiting, and better to the end of the day.
