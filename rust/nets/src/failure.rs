@@ -2,6 +2,8 @@
 
 use std::fmt;
 
+use cetskobi::Timestamp;
+
 use crate::agreement::Disagreement;
 
 /// Which check failed.
@@ -36,6 +38,22 @@ pub enum Cause {
         /// The record.
         record: usize,
     },
+    /// A text that was not made from the one that it replaced: its ringer had not
+    /// seen that.
+    Unseen {
+        /// The record.
+        record: usize,
+        /// The save's timestamp.
+        saved: Timestamp,
+        /// That of the text that it replaced.
+        over: Timestamp,
+    },
+}
+
+impl From<Disagreement> for Cause {
+    fn from(d: Disagreement) -> Cause {
+        Cause::Disagreement(d)
+    }
 }
 
 impl Cause {
@@ -47,7 +65,8 @@ impl Cause {
             | Cause::NoWay { record }
             | Cause::Restless { record }
             | Cause::OtherText { record }
-            | Cause::Unsaved { record } => *record,
+            | Cause::Unsaved { record }
+            | Cause::Unseen { record, .. } => *record,
         }
     }
 }
@@ -75,6 +94,14 @@ impl fmt::Display for Cause {
                     f,
                     "record {record} has settled, and a bird still waits for it"
                 )
+            }
+            Cause::Unseen {
+                record,
+                saved,
+                over,
+            } => {
+                let laptop = saved.tie;
+                write!(f, "laptop {laptop} saved record {record} with {saved} over {over}, which its ringer had not seen")
             }
         }
     }

@@ -10,6 +10,7 @@
 
 mod agreement;
 mod air;
+mod chain;
 mod counts;
 mod failure;
 mod fault;
