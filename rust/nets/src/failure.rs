@@ -5,12 +5,15 @@ use std::fmt;
 use cetskobi::Timestamp;
 
 use crate::agreement::Disagreement;
+use crate::opening::Unkept;
 
 /// Which check failed.
 #[derive(Clone, Copy, Debug, PartialEq, Eq)]
 pub enum Cause {
     /// Agreement, after an event.
     Disagreement(Disagreement),
+    /// A promise of one laptop, after an event.
+    Unkept(Unkept),
     /// A record that is not valid on all laptops of the newest view though the
     /// link has healed.
     Unsettled {
@@ -56,11 +59,18 @@ impl From<Disagreement> for Cause {
     }
 }
 
+impl From<Unkept> for Cause {
+    fn from(u: Unkept) -> Cause {
+        Cause::Unkept(u)
+    }
+}
+
 impl Cause {
     /// The record it is about.
     pub fn record(&self) -> usize {
         match self {
             Cause::Disagreement(d) => d.record(),
+            Cause::Unkept(u) => u.record(),
             Cause::Unsettled { record }
             | Cause::NoWay { record }
             | Cause::Restless { record }
@@ -75,6 +85,7 @@ impl fmt::Display for Cause {
     fn fmt(&self, f: &mut fmt::Formatter<'_>) -> fmt::Result {
         match self {
             Cause::Disagreement(d) => write!(f, "no agreement: {d}"),
+            Cause::Unkept(u) => write!(f, "a promise not kept: {u}"),
             Cause::Unsettled { record } => {
                 write!(f, "record {record} has not settled since the link healed")
             }

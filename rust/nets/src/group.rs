@@ -10,6 +10,7 @@ use crate::agreement::Agreement;
 use crate::chain::Save;
 use crate::failure::Cause;
 use crate::history::{kind_of, Answer, Event, History, Kind};
+use crate::opening::Openings;
 use crate::settings::Settings;
 use crate::times::Times;
 use crate::{holdings, Tick};
@@ -53,6 +54,7 @@ impl EventCounts {
 pub(crate) struct Group {
     laptops: Vec<Laptop>,
     pub agreement: Agreement,
+    openings: Openings,
     pub history: History,
     pub counts: EventCounts,
     pub times: Times,
@@ -105,6 +107,7 @@ impl Group {
         Ok(Group {
             laptops: laptops?,
             agreement: Agreement::new(settings.records),
+            openings: Openings::default(),
             history: History::new(settings.records),
             counts: EventCounts::default(),
             times: Times::new(settings.ticks),
@@ -130,22 +133,38 @@ impl Group {
 
     pub fn ask(&mut self, number: u8, i: usize) -> Result<Result<Opened, Refusal>, Cause> {
         let asked = self.laptop(number).ask(i);
+        let kept = match &asked {
+            Ok(opened) => {
+                let laptop = &self.laptops[usize::from(number)];
+                self.openings.opened(laptop, opened)
+            }
+            Err(_) => Ok(()),
+        };
         let answer = asked.as_ref().map(|_| None).map_err(|refusal| *refusal);
         let answered = self.watched(number, i, Kind::Ask, None, answer)?;
+        kept?;
         Ok(answered.and(asked))
     }
 
     /// A commit (document 02, Wish 5). If 26 says no, a copy of the laptop is asked
     /// what a plain write would have done.
     pub fn commit(&mut self, number: u8, opened: Opened, text: &[u8]) -> Watched {
-        let i = opened.record();
+        let (i, brought) = (opened.record(), opened.timestamp());
+        self.openings.look(&self.laptops[usize::from(number)], i);
         let commit = |l: &mut Laptop| sent(l.commit(opened, text).map_err(Refusal::from));
         let answer = self.save(number, i, text, commit);
-        if matches!(answer, Err(Refusal::NotAsOpened)) {
-            let unseen = self.laptop(number).clone().write(i, text).is_ok();
-            self.counts.unseen += u64::from(unseen);
+        let mut kept = Ok(());
+        match &answer {
+            Ok(_) => kept = self.openings.committed(number, i, brought),
+            Err(Refusal::NotAsOpened) => {
+                let unseen = self.laptop(number).clone().write(i, text).is_ok();
+                self.counts.unseen += u64::from(unseen);
+            }
+            Err(_) => {}
         }
-        self.watched(number, i, Kind::Commit, None, answer)
+        let left = self.watched(number, i, Kind::Commit, None, answer)?;
+        kept?;
+        Ok(left)
     }
 
     /// A plain write, whatever stands there.
@@ -261,6 +280,8 @@ impl Group {
         for i in 0..self.laptop(number).count() {
             self.agreement.check(&self.laptops, i)?;
         }
+        self.openings
+            .check_all(&self.laptops[usize::from(number)])?;
         Ok(answer.map(|_| None))
     }
 
@@ -300,6 +321,7 @@ impl Group {
         let event = self.event(number, kind, came, answer, self.record(number, i));
         self.history.on_record(i, event);
         self.agreement.check(&self.laptops, i)?;
+        self.openings.check(&self.laptops[usize::from(number)], i)?;
         Ok(left)
     }
 
