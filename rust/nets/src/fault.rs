@@ -22,7 +22,7 @@ pub enum Fault {
     /// Hut software refuses the saves of one record in seven.
     Save,
     /// Hut software saves what was opened by a plain write, whatever stands there by
-    /// then, as before document 02's Wish 5.
+    /// then: the engine had nothing else before document 02's Wish 5.
     Blind,
 }
 

@@ -97,8 +97,9 @@ fn saves_that_are_refused() {
     assert!(matches!(failure.cause, Cause::Unsaved { .. }), "{failure}");
 }
 
-/// As before document 02's Wish 5: laptops 1 and 5 open record 3052, which tells of one
-/// capture. 1 saves; 5 saves over that, unseen, and 1's capture is in no record.
+/// What a plain write lets happen, and a commit does not (document 02, Wish 5): laptops
+/// 1 and 5 open record 3052, which tells of one capture. 1 saves; 5 saves over that,
+/// unseen, and 1's capture is in no record.
 #[test]
 fn saves_over_what_the_ringer_has_not_seen() {
     let failure = failure(Fault::Blind);
