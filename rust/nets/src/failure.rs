@@ -2,13 +2,18 @@
 
 use std::fmt;
 
+use cetskobi::Timestamp;
+
 use crate::agreement::Disagreement;
+use crate::opening::Unkept;
 
 /// Which check failed.
 #[derive(Clone, Copy, Debug, PartialEq, Eq)]
 pub enum Cause {
     /// Agreement, after an event.
     Disagreement(Disagreement),
+    /// A promise of one laptop, after an event.
+    Unkept(Unkept),
     /// A record that is not valid on all laptops of the newest view though the
     /// link has healed.
     Unsettled {
@@ -36,6 +41,28 @@ pub enum Cause {
         /// The record.
         record: usize,
     },
+    /// A text that was not made from the one that it replaced: its ringer had not
+    /// seen that.
+    Unseen {
+        /// The record.
+        record: usize,
+        /// The save's timestamp.
+        saved: Timestamp,
+        /// That of the text that it replaced.
+        over: Timestamp,
+    },
+}
+
+impl From<Disagreement> for Cause {
+    fn from(d: Disagreement) -> Cause {
+        Cause::Disagreement(d)
+    }
+}
+
+impl From<Unkept> for Cause {
+    fn from(u: Unkept) -> Cause {
+        Cause::Unkept(u)
+    }
 }
 
 impl Cause {
@@ -43,11 +70,13 @@ impl Cause {
     pub fn record(&self) -> usize {
         match self {
             Cause::Disagreement(d) => d.record(),
+            Cause::Unkept(u) => u.record(),
             Cause::Unsettled { record }
             | Cause::NoWay { record }
             | Cause::Restless { record }
             | Cause::OtherText { record }
-            | Cause::Unsaved { record } => *record,
+            | Cause::Unsaved { record }
+            | Cause::Unseen { record, .. } => *record,
         }
     }
 }
@@ -56,6 +85,7 @@ impl fmt::Display for Cause {
     fn fmt(&self, f: &mut fmt::Formatter<'_>) -> fmt::Result {
         match self {
             Cause::Disagreement(d) => write!(f, "no agreement: {d}"),
+            Cause::Unkept(u) => write!(f, "a promise not kept: {u}"),
             Cause::Unsettled { record } => {
                 write!(f, "record {record} has not settled since the link healed")
             }
@@ -75,6 +105,14 @@ impl fmt::Display for Cause {
                     f,
                     "record {record} has settled, and a bird still waits for it"
                 )
+            }
+            Cause::Unseen {
+                record,
+                saved,
+                over,
+            } => {
+                let laptop = saved.tie;
+                write!(f, "laptop {laptop} saved record {record} with {saved} over {over}, which its ringer had not seen")
             }
         }
     }

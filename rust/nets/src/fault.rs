@@ -21,6 +21,9 @@ pub enum Fault {
     Replay,
     /// Hut software refuses the saves of one record in seven.
     Save,
+    /// Hut software saves what was opened by a plain write, whatever stands there by
+    /// then: the engine had nothing else before document 02's Wish 5.
+    Blind,
 }
 
 impl Fault {
@@ -37,7 +40,8 @@ impl Fault {
             "val" => Ok(Fault::Val),
             "replay" => Ok(Fault::Replay),
             "save" => Ok(Fault::Save),
-            _ => Err("--fault: text, epoch, sender, val, replay or save".to_owned()),
+            "blind" => Ok(Fault::Blind),
+            _ => Err("--fault: text, epoch, sender, val, replay, save or blind".to_owned()),
         }
     }
 }

@@ -32,13 +32,15 @@ impl Figures<'_> {
     }
 
     fn leftovers(&self, f: &mut fmt::Formatter<'_>) -> fmt::Result {
-        let (times, unshown) = (&self.0.times, grouped(self.0.unshown));
+        let times = &self.0.times;
+        let [openings, unshown] = self.0.openings();
         let remark = "saves, at a laptop that died or was struck off";
         line(f, "never finished", times.left as u64, remark)?;
         let remark = "of the time of all records at laptops in service, while birds come";
         line_of(f, "unreadable", &self.share(), remark)?;
+        let unshown = grouped(unshown);
         let remark = format!("by ringers; {unshown} met an unreadable record");
-        line(f, "look-ups", self.0.lookups, &remark)
+        line(f, "openings", openings, &remark)
     }
 
     fn air(&self, f: &mut fmt::Formatter<'_>) -> fmt::Result {

@@ -1,13 +1,16 @@
 //! The laptops of the group. Every event goes through here: it is counted,
-//! remembered, and agreement is checked after it.
+//! remembered, and the checks are made after it.
 
 use cetskobi::packet::Messages;
-use cetskobi::{Arriving, Envelope, Laptop, Leaving, Members, Message, Record, Refusal, Reply};
-use cetskobi::{State, Timestamp};
+use cetskobi::{Arriving, Envelope, Laptop, Leaving, Members, Message, Opened, Record, Refusal};
+use cetskobi::{Reply, State, Timestamp};
 use std::collections::BTreeMap;
 
-use crate::agreement::{Agreement, Disagreement};
+use crate::agreement::Agreement;
+use crate::chain::Save;
+use crate::failure::Cause;
 use crate::history::{kind_of, Answer, Event, History, Kind};
+use crate::opening::Openings;
 use crate::settings::Settings;
 use crate::times::Times;
 use crate::{holdings, Tick};
@@ -19,6 +22,9 @@ pub(crate) struct EventCounts {
     pub accepted: [u64; Kind::ALL.len()],
     /// By the number of the question.
     pub refused: BTreeMap<u8, u64>,
+    /// Commits refused by 26 where a plain write would have been accepted: over a newer
+    /// text, which the ringer has not seen.
+    pub unseen: u64,
     /// Saves overtaken by another laptop's: from write to invalid-write.
     pub overtaken: u64,
     /// Of these, given up by a replay: from invalid-write to replay.
@@ -48,11 +54,12 @@ impl EventCounts {
 pub(crate) struct Group {
     laptops: Vec<Laptop>,
     pub agreement: Agreement,
+    openings: Openings,
     pub history: History,
     pub counts: EventCounts,
     pub times: Times,
-    /// Each accepted save: its text, by record and timestamp.
-    pub saves: BTreeMap<(usize, Timestamp), Vec<u8>>,
+    /// Each accepted save, by record and timestamp.
+    pub saves: BTreeMap<(usize, Timestamp), Save>,
     pub now: Tick,
     /// When a record or a view last changed.
     pub last_change: Tick,
@@ -63,8 +70,8 @@ pub(crate) struct Group {
 /// What leaves an event, if anything does, or its refusal.
 pub(crate) type Left = Result<Option<Leaving<'static>>, Refusal>;
 
-/// What leaves an event, unless agreement failed after it.
-pub(crate) type Watched = Result<Left, Disagreement>;
+/// What leaves an event, unless a check failed after it.
+pub(crate) type Watched = Result<Left, Cause>;
 
 /// What came of a packet's message: what its arrival tells, and what leaves.
 pub(crate) struct Came {
@@ -100,6 +107,7 @@ impl Group {
         Ok(Group {
             laptops: laptops?,
             agreement: Agreement::new(settings.records),
+            openings: Openings::default(),
             history: History::new(settings.records),
             counts: EventCounts::default(),
             times: Times::new(settings.ticks),
@@ -123,18 +131,64 @@ impl Group {
         holdings::of(&self.laptops, i)
     }
 
-    pub fn read(&mut self, number: u8, i: usize) -> Watched {
-        let answer = self.laptop(number).read(i).map(|_| None);
-        self.watched(number, i, Kind::Read, None, answer)
+    pub fn ask(&mut self, number: u8, i: usize) -> Result<Result<Opened, Refusal>, Cause> {
+        let asked = self.laptop(number).ask(i);
+        let kept = match &asked {
+            Ok(opened) => {
+                let laptop = &self.laptops[usize::from(number)];
+                self.openings.opened(laptop, opened)
+            }
+            Err(_) => Ok(()),
+        };
+        let answer = asked.as_ref().map(|_| None).map_err(|refusal| *refusal);
+        let answered = self.watched(number, i, Kind::Ask, None, answer)?;
+        kept?;
+        Ok(answered.and(asked))
     }
 
-    pub fn write(&mut self, number: u8, i: usize, text: &[u8]) -> Watched {
-        let answer = self.act(number, i, |l| sent(l.write(i, text)));
-        if let Ok(Some(inv)) = &answer {
-            let stamp = inv.envelope().message.timestamp();
-            self.saves.insert((i, stamp), text.to_vec());
+    /// A commit (document 02, Wish 5). If 26 says no, a copy of the laptop is asked
+    /// what a plain write would have done.
+    pub fn commit(&mut self, number: u8, opened: Opened, text: &[u8]) -> Watched {
+        let (i, brought) = (opened.record(), opened.timestamp());
+        self.openings.look(&self.laptops[usize::from(number)], i);
+        let commit = |l: &mut Laptop| sent(l.commit(opened, text).map_err(Refusal::from));
+        let answer = self.save(number, i, text, commit);
+        let mut kept = Ok(());
+        match &answer {
+            Ok(_) => kept = self.openings.committed(number, i, brought),
+            Err(Refusal::NotAsOpened) => {
+                let unseen = self.laptop(number).clone().write(i, text).is_ok();
+                self.counts.unseen += u64::from(unseen);
+            }
+            Err(_) => {}
         }
+        let left = self.watched(number, i, Kind::Commit, None, answer)?;
+        kept?;
+        Ok(left)
+    }
+
+    /// A plain write, whatever stands there.
+    pub fn write(&mut self, number: u8, i: usize, text: &[u8]) -> Watched {
+        let answer = self.save(number, i, text, |l| sent(l.write(i, text)));
         self.watched(number, i, Kind::Write, None, answer)
+    }
+
+    /// A commit or a write. Once accepted it is remembered, with what it replaced.
+    fn save(
+        &mut self,
+        number: u8,
+        i: usize,
+        text: &[u8],
+        event: impl FnOnce(&mut Laptop) -> Left,
+    ) -> Left {
+        let over = self.record(number, i).map(|r| r.timestamp);
+        let answer = self.act(number, i, event);
+        if let (Ok(Some(inv)), Some(over)) = (&answer, over) {
+            let stamp = inv.envelope().message.timestamp();
+            let text = text.to_vec();
+            self.saves.insert((i, stamp), Save { text, over });
+        }
+        answer
     }
 
     pub fn validate(&mut self, number: u8, i: usize) -> Watched {
@@ -166,7 +220,7 @@ impl Group {
         &mut self,
         number: u8,
         messages: &mut Messages<'_>,
-    ) -> Result<Option<Came>, Disagreement> {
+    ) -> Result<Option<Came>, Cause> {
         // Only to be watched and remembered; the hut has what the arrival tells.
         let Some(next) = messages.clone().next() else {
             return Ok(None);
@@ -226,6 +280,8 @@ impl Group {
         for i in 0..self.laptop(number).count() {
             self.agreement.check(&self.laptops, i)?;
         }
+        self.openings
+            .check_all(&self.laptops[usize::from(number)])?;
         Ok(answer.map(|_| None))
     }
 
@@ -265,6 +321,7 @@ impl Group {
         let event = self.event(number, kind, came, answer, self.record(number, i));
         self.history.on_record(i, event);
         self.agreement.check(&self.laptops, i)?;
+        self.openings.check(&self.laptops[usize::from(number)], i)?;
         Ok(left)
     }
 
@@ -312,6 +369,7 @@ impl Group {
 #[cfg(test)]
 mod tests {
     use super::*;
+    use crate::agreement::Disagreement;
 
     const SAVED: Timestamp = Timestamp { version: 1, tie: 0 };
 
@@ -359,11 +417,11 @@ mod tests {
 
     /// What is noticed when 3, which still shows the fresh record, is wrongly
     /// said to have acknowledged.
-    const NOTICED: Watched = Err(Disagreement::OlderText {
+    const NOTICED: Watched = Err(Cause::Disagreement(Disagreement::OlderText {
         record: 0,
         laptop: 3,
         validated: SAVED,
-    });
+    }));
 
     #[test]
     fn the_last_acknowledgement_of_a_write_is_a_validation() {

@@ -10,7 +10,8 @@ use crate::Tick;
 /// The kinds of events.
 #[derive(Clone, Copy, Debug, PartialEq, Eq)]
 pub(crate) enum Kind {
-    Read,
+    Ask,
+    Commit,
     Write,
     Deliver,
     Validate,
@@ -20,8 +21,9 @@ pub(crate) enum Kind {
 }
 
 impl Kind {
-    pub const ALL: [Kind; 7] = [
-        Kind::Read,
+    pub const ALL: [Kind; 8] = [
+        Kind::Ask,
+        Kind::Commit,
         Kind::Write,
         Kind::Deliver,
         Kind::Validate,
@@ -32,7 +34,8 @@ impl Kind {
 
     pub const fn name(self) -> &'static str {
         match self {
-            Kind::Read => "read",
+            Kind::Ask => "ask",
+            Kind::Commit => "commit",
             Kind::Write => "write",
             Kind::Deliver => "deliver",
             Kind::Validate => "validate",

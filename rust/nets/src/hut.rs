@@ -4,9 +4,9 @@
 use std::collections::BTreeMap;
 
 use cetskobi::packet::{self, Messages};
-use cetskobi::{Arriving, Envelope, Members, Message, Refusal, State, Timestamp};
+use cetskobi::{Arriving, Envelope, Leaving, Members, Message, Opened, Refusal, State, Timestamp};
 
-use crate::agreement::Disagreement;
+use crate::failure::Cause;
 use crate::fault::Fault;
 use crate::group::{Came, Group, Left, Watched};
 use crate::outbox::Outbox;
@@ -40,8 +40,8 @@ pub(crate) struct Hut {
     fault: Option<Fault>,
 }
 
-/// Done, unless agreement failed.
-pub(crate) type Done = Result<(), Disagreement>;
+/// Done, unless a check failed.
+pub(crate) type Done = Result<(), Cause>;
 
 impl Hut {
     pub fn new(number: u8, fault: Option<Fault>) -> Hut {
@@ -56,28 +56,30 @@ impl Hut {
         }
     }
 
-    /// A ringer opens a record: the timestamp that the save brings back, unless
-    /// it is not shown.
-    pub fn open(&self, group: &mut Group, i: usize) -> Result<Option<Timestamp>, Disagreement> {
-        let shown = group.read(self.number, i)?.is_ok();
-        let record = group.record(self.number, i).filter(|_| shown);
-        Ok(record.map(|r| r.timestamp))
+    /// A ringer opens a record, unless it is not shown.
+    pub fn open(&self, group: &mut Group, i: usize) -> Result<Result<Opened, Refusal>, Cause> {
+        group.ask(self.number, i)
     }
 
-    /// A ringer saves over the text that she saw, unless it is another by now.
+    /// A ringer saves over what she saw, unless it is another by now (26). Gives the
+    /// save's timestamp.
     pub fn save(
         &mut self,
         group: &mut Group,
-        i: usize,
-        seen: Timestamp,
+        opened: Opened,
         text: &[u8],
-    ) -> Result<bool, Disagreement> {
-        let refuses = self.fault == Some(Fault::Save) && i.is_multiple_of(7);
-        if self.open(group, i)? != Some(seen) || refuses {
-            return Ok(false);
-        }
-        let answer = group.write(self.number, i, text)?;
-        Ok(self.put_again(group, i, answer, WAIT_FIRST))
+    ) -> Result<Result<Timestamp, Refusal>, Cause> {
+        let i = opened.record();
+        let answer = match self.fault {
+            Some(Fault::Save) if i.is_multiple_of(7) => Err(Refusal::NotWritable),
+            Some(Fault::Blind) => group.write(self.number, i, text)?,
+            _ => group.commit(self.number, opened, text)?,
+        };
+        let stamp =
+            |left: &Option<Leaving>| left.as_ref().map(|l| l.envelope().message.timestamp());
+        let saved = answer.as_ref().map(stamp).map_err(|refusal| *refusal);
+        self.put_again(group, i, answer, WAIT_FIRST);
+        Ok(saved.map(|stamp| stamp.expect("an INV leaves with a save")))
     }
 
     /// A packet comes: its messages one by one, in one pass.
@@ -150,11 +152,7 @@ impl Hut {
     }
 
     /// Takes the next message of a packet in.
-    fn take(
-        &self,
-        group: &mut Group,
-        messages: &mut Messages<'_>,
-    ) -> Result<Option<Came>, Disagreement> {
+    fn take(&self, group: &mut Group, messages: &mut Messages<'_>) -> Result<Option<Came>, Cause> {
         let is_val = |m: Arriving| matches!(m.envelope().message, Message::Val(_));
         match self.fault {
             Some(Fault::Epoch) => messages.next().map(|m| self.twist(group, m)).transpose(),
@@ -169,7 +167,7 @@ impl Hut {
     }
 
     /// Hands a message over as if it were of the laptop's own epoch.
-    fn twist(&self, group: &mut Group, m: Arriving) -> Result<Came, Disagreement> {
+    fn twist(&self, group: &mut Group, m: Arriving) -> Result<Came, Cause> {
         let came = m.envelope();
         let epoch = group.laptop(self.number).epoch();
         let handed = Arriving::new(Envelope { epoch, ..came }, m.body());
@@ -203,12 +201,7 @@ impl Hut {
 
     /// Finishes a write or replay, if the last laptop that was missing is struck
     /// off. Else the last acknowledgement does it.
-    fn validated(
-        &mut self,
-        group: &mut Group,
-        i: usize,
-        state: State,
-    ) -> Result<bool, Disagreement> {
+    fn validated(&mut self, group: &mut Group, i: usize, state: State) -> Result<bool, Cause> {
         if !matches!(state, State::Write | State::Replay) {
             return Ok(false);
         }
@@ -283,6 +276,13 @@ mod tests {
         at
     }
 
+    /// A ringer opens the record and saves.
+    fn saves(hut: &mut Hut, group: &mut Group, text: &[u8]) {
+        let opened = hut.open(group, 0).expect("agreement").expect("shown");
+        let saved = hut.save(group, opened, text).expect("agreement");
+        assert!(saved.is_ok());
+    }
+
     /// The one packet that a hut sends now.
     fn sent(hut: &mut Hut) -> Vec<u8> {
         let mut packets = hut.packets();
@@ -307,8 +307,7 @@ mod tests {
     fn messages_go_again_after_these_waits() {
         let (mut group, [mut zero, mut one, mut two]) = huts();
         let group = &mut group;
-        let seen = zero.open(group, 0).expect("agreement").expect("shown");
-        assert_eq!(zero.save(group, 0, seen, b"Wren"), Ok(true));
+        saves(&mut zero, group, b"Wren");
         let inv = sent(&mut zero);
         assert_eq!(sent_at(&mut zero, group, 130), [8, 24, 56, 88, 120]);
         for hut in [&mut one, &mut two] {
@@ -336,8 +335,7 @@ mod tests {
     fn a_view_that_is_missing_is_heard_of() {
         let (mut group, [mut zero, mut one, mut two]) = huts();
         let group = &mut group;
-        let seen = zero.open(group, 0).expect("agreement").expect("shown");
-        assert_eq!(zero.save(group, 0, seen, b"Wren"), Ok(true));
+        saves(&mut zero, group, b"Wren");
         one.packet_came(group, &sent(&mut zero)).expect("agreement");
         let ack = sent(&mut one);
         let view = Members::from(0b011);
@@ -411,8 +409,7 @@ mod tests {
     fn a_replay_leaves_with_the_view() {
         let (mut group, [mut zero, mut one, mut two]) = huts();
         let group = &mut group;
-        let seen = zero.open(group, 0).expect("agreement").expect("shown");
-        assert_eq!(zero.save(group, 0, seen, b"Wren"), Ok(true));
+        saves(&mut zero, group, b"Wren");
         one.packet_came(group, &sent(&mut zero)).expect("agreement");
         sent(&mut one);
         for hut in [&mut one, &mut two] {
@@ -431,9 +428,8 @@ mod tests {
     fn an_overtaken_save_is_given_up_with_the_view() {
         let (mut group, [mut zero, mut one, mut two]) = huts();
         let group = &mut group;
-        let seen = one.open(group, 0).expect("agreement").expect("shown");
-        assert_eq!(one.save(group, 0, seen, b"Wren"), Ok(true));
-        assert_eq!(two.save(group, 0, seen, b"Robin"), Ok(true));
+        saves(&mut one, group, b"Wren");
+        saves(&mut two, group, b"Robin");
         let [first, second] = [sent(&mut one), sent(&mut two)];
         one.packet_came(group, &second).expect("agreement");
         zero.packet_came(group, &first).expect("agreement");
@@ -479,8 +475,7 @@ mod tests {
     fn the_last_acknowledgement_sends_the_val() {
         let (mut group, [mut zero, mut one, mut two]) = huts();
         let group = &mut group;
-        let seen = zero.open(group, 0).expect("agreement").expect("shown");
-        assert_eq!(zero.save(group, 0, seen, b"Wren"), Ok(true));
+        saves(&mut zero, group, b"Wren");
         let inv = sent(&mut zero);
         for hut in [&mut one, &mut two] {
             hut.packet_came(group, &inv).expect("agreement");
@@ -507,8 +502,7 @@ mod tests {
     fn a_view_finishes_the_save_that_only_the_dead_miss() {
         let (mut group, [mut zero, _, _, mut three]) = huts();
         let group = &mut group;
-        let seen = zero.open(group, 0).expect("agreement").expect("shown");
-        assert_eq!(zero.save(group, 0, seen, b"Wren"), Ok(true));
+        saves(&mut zero, group, b"Wren");
         let inv = sent(&mut zero);
         three.packet_came(group, &inv).expect("agreement");
         zero.packet_came(group, &sent(&mut three))
@@ -538,19 +532,5 @@ mod tests {
         assert!(group.laptop(3).shows_valid(0));
         assert_eq!(sent_at(&mut zero, group, 130), [8, 24, 56, 120]);
         assert_eq!(validations(group), (2, 1));
-    }
-
-    #[test]
-    fn a_text_that_changed_since_it_was_opened_is_not_saved_over() {
-        let (mut group, [mut zero, mut one]) = huts();
-        let group = &mut group;
-        let seen = one.open(group, 0).expect("agreement").expect("shown");
-        assert_eq!(zero.save(group, 0, seen, b"Wren"), Ok(true));
-        one.packet_came(group, &sent(&mut zero)).expect("agreement");
-        assert_eq!(one.save(group, 0, seen, b"Robin"), Ok(false));
-        zero.packet_came(group, &sent(&mut one)).expect("agreement");
-        one.packet_came(group, &sent(&mut zero)).expect("agreement");
-        assert!(group.laptop(1).shows_valid(0));
-        assert_eq!(one.save(group, 0, seen, b"Robin"), Ok(false));
     }
 }

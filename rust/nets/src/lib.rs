@@ -1,7 +1,7 @@
 //! A morning at the nets: a group of laptops on the proved engine, each with
 //! hut software as docs/GUIDE.md has it, over a radio link that loses, repeats
 //! and holds back packets. After every event the group's agreement is checked
-//! as document 01 words it.
+//! as document 01 words it, and what document 02's Wish 5 promises of a laptop.
 //!
 //! [`run`] plays one morning. Equal [`Settings`] give equal [`Report`]s.
 
@@ -10,6 +10,7 @@
 
 mod agreement;
 mod air;
+mod chain;
 mod counts;
 mod failure;
 mod fault;
@@ -21,6 +22,7 @@ mod hut;
 mod layout;
 mod link;
 mod morning;
+mod opening;
 mod options;
 mod outbox;
 mod plan;
@@ -38,6 +40,7 @@ pub use counts::Counts;
 pub use failure::{Cause, Failure};
 pub use fault::Fault;
 pub use morning::run;
+pub use opening::Unkept;
 pub use options::{Command, HELP};
 pub use report::Report;
 pub use settings::Settings;

@@ -45,8 +45,10 @@ fn one(settings: &Settings, counts: bool) -> io::Result<ExitCode> {
 
 fn many(settings: &Settings, seeds: u64) -> io::Result<ExitCode> {
     let begun = Instant::now();
-    // Overtaken saves that were given up, and in how many mornings.
+    // Overtaken saves that were given up, and in how many mornings; commits that 26
+    // refused, and those that a plain write would have done.
     let (mut given_up, mut mornings) = (0, 0);
+    let (mut refused, mut unseen) = (0, 0);
     for n in 0..seeds {
         let seed = settings.seed.wrapping_add(n);
         let settings = Settings {
@@ -57,6 +59,8 @@ fn many(settings: &Settings, seeds: u64) -> io::Result<ExitCode> {
             Ok(report) => {
                 given_up += report.given_up();
                 mornings += u64::from(report.given_up() > 0);
+                refused += report.commits()[1];
+                unseen += report.unseen();
                 say(&format!("{}\n", report.line()))?;
             }
             Err(failure) => return failed(&failure),
@@ -64,7 +68,7 @@ fn many(settings: &Settings, seeds: u64) -> io::Result<ExitCode> {
     }
     let seconds = begun.elapsed().as_secs_f64();
     say(&format!(
-        "{seeds} mornings, agreement held throughout, every record settled; saves given up: {given_up}, in {mornings} mornings; {seconds:.2} s\n"
+        "{seeds} mornings, agreement held throughout, every record settled; saves given up: {given_up}, in {mornings} mornings; commits refused by 26: {refused}, {unseen} of them over an unseen text; {seconds:.2} s\n"
     ))?;
     Ok(ExitCode::SUCCESS)
 }

@@ -3,6 +3,7 @@
 use cetskobi::{Laptop, Members};
 
 use crate::air::Air;
+use crate::chain;
 use crate::failure::{Cause, Failure};
 use crate::group::Group;
 use crate::hut::{Done, Hut, WAIT_VAL};
@@ -32,14 +33,21 @@ pub fn run(settings: &Settings, mut progress: impl FnMut(u32)) -> Result<Report,
     let mut morning = Morning::new(settings);
     loop {
         progress(morning.group.now);
-        let done = morning.step().map_err(Cause::Disagreement);
-        let done = done.and_then(|()| morning.look());
+        let done = morning.step().and_then(|()| morning.look());
         match done.and_then(|()| morning.end()) {
             Ok(None) => morning.group.now += 1,
-            Ok(Some(settled)) => return Ok(morning.report(settled)),
+            Ok(Some(end)) => return Ok(morning.report(end)),
             Err(cause) => return Err(Box::new(morning.failure(cause))),
         }
     }
+}
+
+/// What is left in the end.
+#[derive(Clone, Copy, Debug, PartialEq, Eq)]
+struct End {
+    settled: Settled,
+    /// Captures that the texts in the records tell of.
+    told: usize,
 }
 
 struct Morning {
@@ -162,7 +170,7 @@ impl Morning {
     /// Whether the morning is over: None as long as it goes on. It ends when
     /// nothing has changed for a calm, in which every hut has sent all that it
     /// sends again, and all of it was heard.
-    fn end(&self) -> Result<Option<Settled>, Cause> {
+    fn end(&self) -> Result<Option<End>, Cause> {
         let now = self.group.now;
         let calm = WAIT_VAL + self.link.longest();
         let last_view = self.plan.issues.last().map_or(0, |i| i.tick);
@@ -178,28 +186,29 @@ impl Morning {
         let members = self.plan.members.into_iter();
         let members: Vec<&Laptop> = members.map(|n| self.group.laptop(n)).collect();
         let settled = settled::look(&self.group, &members)?;
-        match self.ringers.waiting() {
-            None => Ok(Some(settled)),
+        if let Some(record) = self.ringers.waiting() {
             // Its record is valid everywhere, so it can be saved.
-            Some(record) => Err(Cause::Unsaved { record }),
+            return Err(Cause::Unsaved { record });
         }
+        let told = chain::look(&self.group, &self.ringers.slips, members[0])?;
+        Ok(Some(End { settled, told }))
     }
 
-    fn report(self, settled: Settled) -> Report {
+    fn report(self, end: End) -> Report {
         Report {
             settings: self.settings,
             plan: self.plan,
             times: self.group.times.report(self.group.now),
-            lookups: self.ringers.lookups,
-            unshown: self.ringers.unshown,
+            visits: self.ringers.counts,
             air: self.air,
             events: self.group.counts,
             link: self.link.counts,
             to_the_dead: self.to_the_dead,
             checks: self.group.agreement.checks,
-            saved: self.ringers.saved,
+            saved: self.ringers.slips.len(),
             unsettled: self.unsettled.expect("looked at when the link healed"),
-            settled,
+            settled: end.settled,
+            told: end.told,
             last_change: self.group.last_change,
             ticks: self.group.now,
             missed: self.huts.into_iter().flat_map(|h| h.missed).collect(),

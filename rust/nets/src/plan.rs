@@ -8,12 +8,14 @@ use crate::settings::{Part, Settings};
 use crate::Tick;
 
 /// A bird in the hand: at this laptop, from this tick on.
-#[derive(Clone, Copy, Debug)]
+#[derive(Clone, Copy, Debug, PartialEq, Eq)]
 pub(crate) struct Bird {
     pub tick: Tick,
     pub laptop: u8,
     pub record: usize,
     pub recapture: bool,
+    /// Ticks between opening its record and saving over it.
+    pub measuring: Tick,
 }
 
 /// A laptop's end. Its radio is weak first: few hear its last packets.
@@ -46,6 +48,7 @@ pub(crate) struct Issue {
 #[derive(Clone, Debug)]
 pub(crate) struct Plan {
     pub birds: Vec<Bird>,
+    /// Birds that two laptops have at once.
     pub pairs: Vec<(Bird, Bird)>,
     pub deaths: Vec<Death>,
     pub late: Members,
@@ -59,9 +62,10 @@ impl Plan {
     pub fn new(settings: &Settings) -> Plan {
         let mut rng = settings.rng(Part::Plan);
         let mut birds = rings(settings, &mut rng);
-        let pairs = recaptures(settings, &mut rng, &mut birds);
+        let mut pairs = recaptures(settings, &mut rng, &mut birds);
         birds.sort_by_key(|b| (b.tick, b.record, b.laptop));
         let deaths = deaths(settings, &mut rng, &pairs);
+        linger(settings, &mut birds, &mut pairs, &deaths);
         let all: Members = (0..settings.laptops).collect();
         let dies = |n: &u8| deaths.iter().any(|d| d.laptop == *n);
         let members = all.into_iter().filter(|n| !dies(n)).collect();
@@ -76,6 +80,12 @@ impl Plan {
             all,
             members,
         }
+    }
+
+    /// In how many pairs one ringer takes longer than the other.
+    pub fn apart(&self) -> usize {
+        let differ = |(a, b): &&(Bird, Bird)| a.measuring != b.measuring;
+        self.pairs.iter().filter(differ).count()
     }
 
     /// The laptops that run, struck off or not.
@@ -108,6 +118,7 @@ fn rings(settings: &Settings, rng: &mut Rng) -> Vec<Bird> {
                 laptop: laptop(rng, settings),
                 record: records[n],
                 recapture: false,
+                measuring: MEASURING,
             }
         })
         .collect()
@@ -170,6 +181,30 @@ fn deaths(settings: &Settings, rng: &mut Rng, pairs: &[(Bird, Bird)]) -> Vec<Dea
     deaths
 }
 
+/// Two times in three the second ringer of a pair takes longer than the first, whose
+/// save may come between. Where one of the two laptops dies, both save at once.
+fn linger(settings: &Settings, birds: &mut [Bird], pairs: &mut [(Bird, Bird)], deaths: &[Death]) {
+    let mut rng = settings.rng(Part::Hands);
+    for (first, second) in pairs {
+        let longer = match rng.chance(2, 3) {
+            true => 1 + below(&mut rng, LINGERING),
+            false => 0,
+        };
+        let dies = |b: &Bird| {
+            let at = |d: &Death| d.laptop == b.laptop && d.weak == b.tick + MEASURING;
+            deaths.iter().any(at)
+        };
+        if dies(first) || dies(second) {
+            continue;
+        }
+        let planned = birds.iter_mut().find(|b| **b == *second);
+        second.measuring += longer;
+        if let Some(bird) = planned {
+            *bird = *second;
+        }
+    }
+}
+
 fn late(settings: &Settings, rng: &mut Rng, members: Members) -> Members {
     let mut rest: Vec<u8> = members.into_iter().collect();
     (0..settings.late.min(rest.len() as u8))
@@ -210,8 +245,10 @@ fn issues(settings: &Settings, rng: &mut Rng, deaths: &[Death], late: Members) -
     issues
 }
 
-/// Ticks between reading a bird's old record and saving the new one.
+/// Ticks between opening a bird's record and saving over it, and the most that one
+/// ringer takes longer than another.
 pub(crate) const MEASURING: Tick = 3;
+const LINGERING: Tick = 60;
 
 fn laptop(rng: &mut Rng, settings: &Settings) -> u8 {
     rng.below(usize::from(settings.laptops)) as u8

@@ -12,6 +12,7 @@ use crate::history::Kind;
 use crate::layout::{grouped, line, line_of, seconds};
 use crate::link::LinkCounts;
 use crate::plan::{Death, Plan};
+use crate::ringer::Visits;
 use crate::settings::Settings;
 use crate::settled::Settled;
 use crate::spread::Spread;
@@ -25,8 +26,7 @@ pub struct Report {
     pub(crate) settings: Settings,
     pub(crate) plan: Plan,
     pub(crate) times: TimesReport,
-    pub(crate) lookups: u64,
-    pub(crate) unshown: u64,
+    pub(crate) visits: Visits,
     pub(crate) air: Air,
     pub(crate) events: EventCounts,
     pub(crate) link: LinkCounts,
@@ -35,6 +35,8 @@ pub struct Report {
     pub(crate) saved: usize,
     pub(crate) unsettled: Unsettled,
     pub(crate) settled: Settled,
+    /// Captures that the texts in the records tell of.
+    pub(crate) told: usize,
     pub(crate) last_change: Tick,
     pub(crate) ticks: Tick,
     /// How long each view was missing after its laptop had heard of it.
@@ -64,6 +66,37 @@ impl Report {
     /// Rings and recaptures that were saved.
     pub fn saved(&self) -> usize {
         self.saved
+    }
+
+    /// How often ringers opened a record, and how often it could not be shown.
+    pub fn openings(&self) -> [u64; 2] {
+        [self.visits.openings, self.visits.unshown]
+    }
+
+    /// Commits, those that question 26 refused, and those of them whose bird was
+    /// opened again and saved.
+    pub fn commits(&self) -> [u64; 3] {
+        let commits = self.events.events[Kind::Commit as usize];
+        [commits, self.visits.refused, self.visits.mended]
+    }
+
+    /// Commits refused by 26 where a plain write would have been accepted, over a
+    /// newer text that the ringer had not seen.
+    pub fn unseen(&self) -> u64 {
+        self.events.unseen
+    }
+
+    /// Plain writes.
+    pub fn writes(&self) -> u64 {
+        self.events.events[Kind::Write as usize]
+    }
+
+    /// Saved birds of which the record's text tells in the end; those that a save of
+    /// another laptop replaced, which had not heard of them; and those of which nobody
+    /// had heard when their laptop died.
+    pub fn birds(&self) -> [usize; 3] {
+        let (told, lost) = (self.told, self.settled.lost);
+        [told, self.saved - told - lost, lost]
     }
 
     /// Records that are valid on all laptops of the newest view, with one timestamp
@@ -150,13 +183,14 @@ impl Report {
     /// The whole in one line.
     pub fn line(&self) -> String {
         format!(
-            "seed {}: agreed after {} events; {} messages in {} packets of {} bytes; {} given up; {} ticks",
+            "seed {}: agreed after {} events; {} messages in {} packets of {} bytes; {} given up; {} refused by 26; {} ticks",
             self.settings.seed,
             grouped(self.events()),
             grouped(self.messages()),
             grouped(self.link.packets),
             grouped(self.link.bytes),
             self.given_up(),
+            self.visits.refused,
             grouped(self.ticks.into()),
         )
     }
@@ -173,9 +207,10 @@ impl Report {
             s.repeat
         )?;
         let pairs = self.plan.pairs.len();
+        let at_once = pairs - self.plan.apart();
         writeln!(
             f,
-            "  {} birds ringed, {} met again; {pairs} times two laptops saved one bird at once",
+            "  {} birds ringed, {} met again; {pairs} times two laptops opened one bird at once, and {at_once} times saved it so",
             s.rings, s.recaptures
         )?;
         for (epoch, death) in (1..).zip(&self.plan.deaths) {
@@ -239,13 +274,7 @@ impl Report {
             self.given_up(),
             "by a replay of the later one, whose laptop was struck off",
         )?;
-        line(f, "birds saved", self.saved as u64, "all that came")?;
-        line(
-            f,
-            "saves lost",
-            self.settled.lost as u64,
-            "nobody had heard of them when their laptop died",
-        )?;
+        self.saves(f)?;
         let (views, longest) = self.views_missed();
         let lead = match views {
             0 => String::new(),
@@ -270,6 +299,29 @@ impl Report {
 }
 
 impl Report {
+    /// What ringers committed, what was refused, and what is left of it.
+    fn saves(&self, f: &mut fmt::Formatter<'_>) -> fmt::Result {
+        let [commits, refused, mended] = self.commits();
+        let remark = "by ringers, over what they had opened";
+        line(f, "commits", commits, remark)?;
+        let (mended, birds) = (grouped(mended), grouped(self.visits.again));
+        let remark =
+            format!("no longer as opened; {mended} shown what stands, and saved: {birds} birds");
+        line(f, "  refused by 26", refused, &remark)?;
+        let remark = "newer texts that a plain write would have gone over instead";
+        line(f, "  unseen", self.unseen(), remark)?;
+        line(f, "birds saved", self.saved as u64, "all that came")?;
+        let remark = "opened at a laptop that died or was struck off, saved at another";
+        line(f, "  elsewhere", self.visits.moved, remark)?;
+        let [told, replaced, lost] = self.birds().map(|n| n as u64);
+        let remark = "of which the texts tell in the end";
+        line(f, "  in the records", told, remark)?;
+        let remark = "by a save of another laptop that had not heard of them";
+        line(f, "  replaced", replaced, remark)?;
+        let remark = "nobody had heard of them when their laptop died";
+        line(f, "saves lost", lost, remark)
+    }
+
     /// What was open at one moment, and what would have settled it.
     fn open(&self, f: &mut fmt::Formatter<'_>) -> fmt::Result {
         let open = &self.unsettled;

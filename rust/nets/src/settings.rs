@@ -17,7 +17,7 @@ pub struct Settings {
     pub records: usize,
     /// Birds ringed: saves to records that were empty.
     pub rings: usize,
-    /// Birds met again: saves over a record that was read.
+    /// Birds met again: saves over a record that was opened.
     pub recaptures: usize,
     /// Laptops that die and are struck off.
     pub deaths: u8,
@@ -67,6 +67,7 @@ pub(crate) enum Part {
     Plan,
     Link,
     Texts,
+    Hands,
 }
 
 impl Settings {

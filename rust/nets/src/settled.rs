@@ -2,6 +2,7 @@
 
 use cetskobi::{Laptop, State};
 
+use crate::chain::text_of;
 use crate::failure::Cause;
 use crate::group::Group;
 
@@ -32,11 +33,7 @@ pub(crate) fn look(group: &Group, members: &[&Laptop]) -> Result<Settled, Cause>
 /// Valid everywhere: one timestamp and one text, that which was saved with it.
 pub(crate) fn same_text(group: &Group, members: &[&Laptop], i: usize) -> Result<(), Cause> {
     let timestamp = members[0].record(i).map(|r| r.timestamp);
-    // A record of version 0 is as it was at the fresh start.
-    let saved: Option<&[u8]> = timestamp.and_then(|t| match t.version {
-        0 => Some(&[][..]),
-        _ => group.saves.get(&(i, t)).map(Vec::as_slice),
-    });
+    let saved = timestamp.and_then(|t| text_of(group, i, t));
     let same =
         |text, l: &Laptop| l.record(i).map(|r| r.timestamp) == timestamp && l.read(i) == Ok(text);
     match saved {
@@ -58,10 +55,19 @@ fn lost(group: &Group, members: &[&Laptop]) -> usize {
 #[cfg(test)]
 mod tests {
     use super::*;
+    use crate::chain::Save;
     use crate::settings::Settings;
     use cetskobi::{Leaving, Members, Record, Replica, Timestamp};
 
     const SAVED: Timestamp = Timestamp { version: 1, tie: 0 };
+
+    /// A save over the fresh record.
+    fn save(text: &[u8]) -> Save {
+        Save {
+            text: text.to_vec(),
+            over: Timestamp::default(),
+        }
+    }
 
     /// Two laptops; laptop 0 has saved the one record, and 1 acknowledges that.
     fn saved() -> (Group, Leaving<'static>) {
@@ -148,7 +154,7 @@ mod tests {
         let mut group = Group::start(&settings).expect("a group of three");
         for tie in [0, 1, 2, 5] {
             let saved = (0, Timestamp { version: 1, tie });
-            group.saves.insert(saved, Vec::new());
+            group.saves.insert(saved, save(b""));
         }
         look(&group, &members).map(|s| s.settled)
     }
@@ -218,7 +224,7 @@ mod tests {
     #[test]
     fn another_text_than_was_saved_is_noticed() {
         let mut group = finished();
-        group.saves.insert((0, SAVED), b"Robin".to_vec());
+        group.saves.insert((0, SAVED), save(b"Robin"));
         assert_eq!(looked(&group), Err(OTHER_TEXT));
     }
 
@@ -226,7 +232,7 @@ mod tests {
     fn a_save_that_nobody_heard_is_lost() {
         let mut group = finished();
         let later = Timestamp { version: 2, tie: 3 };
-        group.saves.insert((0, later), b"Robin".to_vec());
+        group.saves.insert((0, later), save(b"Robin"));
         assert_eq!(looked(&group).map(|s| s.lost), Ok(1));
     }
 }

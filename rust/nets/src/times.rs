@@ -22,7 +22,7 @@ pub(crate) struct Times {
     /// How long laptops were in service while birds came, all together.
     served: u64,
     /// Saves under way: timestamp and tick. A laptop has one of a record at most,
-    /// as question 7 refuses a second.
+    /// as question 26 refuses a second, and 7 a plain write.
     saving: BTreeMap<Place, (Timestamp, Tick)>,
     finished: Vec<Tick>,
     replaced: Vec<Tick>,
@@ -37,7 +37,7 @@ pub(crate) struct Times {
 /// What is told of it in the end.
 #[derive(Clone, Debug, PartialEq, Eq)]
 pub(crate) struct TimesReport {
-    /// From the write to the record valid at the saver, with the save's timestamp.
+    /// From the accepted save to the record valid at the saver, with the save's timestamp.
     pub finished: Option<Spread>,
     /// The same for a later timestamp: another save had overtaken this one.
     pub replaced: Option<Spread>,

@@ -125,7 +125,7 @@ mod tests {
     fn another_text_than_was_saved_is_noticed() {
         let mut group = saved();
         let saves = group.saves.values_mut();
-        saves.for_each(|text| *text = b"Robin".to_vec());
+        saves.for_each(|save| save.text = b"Robin".to_vec());
         let all = Members::from(0b111);
         assert_eq!(look(&group, all), Err(Cause::NoWay { record: 0 }));
     }

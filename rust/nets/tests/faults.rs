@@ -1,6 +1,7 @@
 //! The checks can fail: each deliberate fault is reported, with its seed, what
 //! each laptop holds, and the events that led there.
 
+use cetskobi::Timestamp;
 use nets::{run, Cause, Disagreement, Failure, Fault, Settings};
 
 fn failure(fault: Fault) -> Failure {
@@ -94,6 +95,27 @@ fn an_acknowledgement_in_anothers_name() {
 fn saves_that_are_refused() {
     let failure = failure(Fault::Save);
     assert!(matches!(failure.cause, Cause::Unsaved { .. }), "{failure}");
+}
+
+/// What a plain write lets happen, and a commit does not (document 02, Wish 5): laptops
+/// 1 and 5 open record 3052, which tells of one capture. 1 saves; 5 saves over that,
+/// unseen, and 1's capture is in no record.
+#[test]
+fn saves_over_what_the_ringer_has_not_seen() {
+    let failure = failure(Fault::Blind);
+    let stamp = |version, tie| Timestamp { version, tie };
+    let cause = Cause::Unseen {
+        record: 3052,
+        saved: stamp(3, 5),
+        over: stamp(2, 1),
+    };
+    assert_eq!(failure.cause, cause, "{failure}");
+    // Three were saved; the text tells of two, on each of the ten laptops.
+    let tells = |part: &str| {
+        let told = failure.holdings.iter().filter(|h| h.contains(part));
+        told.count()
+    };
+    assert_eq!([tells("; 2: "), tells("; 3: ")], [10, 0], "{failure}");
 }
 
 #[test]

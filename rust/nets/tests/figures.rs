@@ -45,7 +45,7 @@ fn a_save_without_trouble() {
         "record unreadable         2       2 s        2 s      2 s  at one laptop",
         "never finished            0  saves, at a laptop that died or was struck off",
         "unreadable          2.000 %  of the time of all records at laptops in service, while birds come",
-        "look-ups                  1  by ringers; 0 met an unreadable record",
+        "openings                  1  by ringers; 0 met an unreadable record",
         "bytes an hour         5,400  on air from all laptops, while birds come",
         "  a laptop            2,700  on average",
         "  the busiest         4,680  laptop 0",

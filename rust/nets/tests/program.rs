@@ -20,7 +20,13 @@ fn one_morning() {
     let output = nets(&["--seed", "3"]);
     assert_eq!(output.status.code(), Some(0));
     let said = out(&output);
-    for part in ["seed 3", "save to finished", "given up", "wall time"] {
+    for part in [
+        "seed 3",
+        "save to finished",
+        "given up",
+        "refused by 26",
+        "wall time",
+    ] {
         assert!(said.contains(part), "{part} is missing:\n{said}");
     }
     assert!(!said.contains("question"), "{said}");
@@ -51,6 +57,7 @@ fn many_mornings() {
     let last = said.lines().last().unwrap_or("");
     assert!(last.starts_with("3 mornings"), "{said}");
     assert!(last.contains("given up: 0, in 0 mornings"), "{said}");
+    assert!(last.contains("commits refused by 26: "), "{said}");
 }
 
 /// In the second of these mornings an overtaken save is given up.
