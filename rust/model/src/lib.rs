@@ -7,6 +7,7 @@
 #![forbid(unsafe_code)]
 
 pub mod engine;
+pub mod opened;
 pub mod packet;
 pub mod player;
 pub mod rng;

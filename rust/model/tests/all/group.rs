@@ -2,8 +2,8 @@
 //! the warden issues, demand 3 in both halves, and what Wish 5 promises.
 
 use model::engine::{body, has, number, Answer, Envelope, Message, State, Timestamp};
+use model::opened::{Held, Opened};
 
-use crate::opened::{Held, Opened};
 use crate::support::Member;
 
 /// A message that left, with the bytes it left with, and whom it is for.
@@ -200,7 +200,7 @@ impl Group {
         Ok(pairs)
     }
 
-    /// 02, Wish 5: see `opened`.
+    /// 02, Wish 5: see `model::opened`.
     pub fn opening(&self) -> Result<(), String> {
         self.against.clone().map_or(Ok(()), Err)
     }

@@ -7,7 +7,6 @@ mod every_order;
 mod group;
 mod hostile;
 mod moves;
-mod opened;
 mod order;
 mod packets;
 mod played;

@@ -1,10 +1,10 @@
 //! What one laptop has handed out of one record, and what 02, Wish 5, promises
-//! of it: between an accepted ask and an accepted commit on its stamp the record
-//! kept stamp and bytes, and what is handed out never goes back.
+//! of it, for tests: between an accepted ask and an accepted commit on its stamp
+//! the record kept stamp and bytes, and what is handed out never goes back.
 
 use std::collections::BTreeMap;
 
-use model::engine::Timestamp;
+use crate::engine::Timestamp;
 
 /// A stamp with its text.
 pub type Held = (Timestamp, Vec<u8>);
