@@ -83,7 +83,8 @@ fn end(name: &str) -> &'static str {
 }
 
 /// The names under which a commit on this stamp is tallied besides, given the
-/// record before. `saved` has the stamps on which another has committed.
+/// record before; whether another has committed on it; and whether this replica
+/// was handed it out.
 fn of_commit(
     answer: &Answer,
     before: &Record,

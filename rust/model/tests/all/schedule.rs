@@ -27,7 +27,7 @@ impl Schedule {
     /// A group that has just started, and its schedule. With `together`, most
     /// members begin by saving the same record, some messages arrive, and the
     /// one that wins a tie dies and is struck off first (02, Wish 2). Some of
-    /// these saves are commits on the one stamp that all are asked for (Wish 5).
+    /// these saves are commits on the one stamp that all were handed out (Wish 5).
     pub fn start(rng: &mut Rng, together: bool) -> (Group, Schedule) {
         let numbers = some_numbers(rng);
         let mut first = set(&numbers);
