@@ -8,7 +8,8 @@ use crate::crossing::{message_of, table_of};
 use crate::memory::Memory;
 use crate::settings::Settings;
 use crate::shrink::{less, shrink, Found, Smaller};
-use crate::single::{self, by_engine, replica_of, some_case, some_number, some_word, Event};
+use crate::single::{self, by_engine, replica_of, some_case, some_number, some_word};
+use crate::single::{Event, Kind};
 
 /// An event, and the message that is asked about after it, for this sender.
 #[derive(Clone, Debug, PartialEq)]
@@ -78,10 +79,12 @@ pub struct Tally {
     pub last: u64,
     /// INVs that a replay sent: from invalid, and from invalid-write.
     pub replayed: [u64; 2],
+    /// INVs that a write sent, and a commit (02, Wish 5), with their bytes.
+    pub saved: [u64; 2],
 }
 
 /// Random events of the usual count.
-const EVENTS: usize = 300_000;
+const EVENTS: usize = 370_000;
 
 pub fn compare(settings: &Settings, other: Leaving) -> Result<Tally, Box<Found<Case>>> {
     let mut rng = settings.rng("leaving");
@@ -102,6 +105,12 @@ pub fn compare(settings: &Settings, other: Leaving) -> Result<Tally, Box<Found<C
                 let state = case.event.record.state;
                 if case.event.event == Event::Replay && case.kind == 1 && seen.was_sent {
                     tally.replayed[usize::from(state == 2)] += 1;
+                }
+                let by = [Kind::Write, Kind::Commit];
+                let by = by.iter().position(|&kind| kind == case.event.kind());
+                let bytes = case.event.event.value().map(|value| value.len());
+                if let (Some(by), 1, true) = (by, case.kind, seen.was_sent) {
+                    tally.saved[by] += u64::from(bytes == Some(seen.len));
                 }
             }
             Err(what) => return Err(Box::new(shrink(case, what, |case| difference(case).err()))),

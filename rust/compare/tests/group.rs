@@ -67,6 +67,30 @@ const MANY: [(&str, u64); 7] = [
     ("given up: a Val, Valid", 20),
 ];
 
+/// Document 02, Wish 5: asks and commits, fresh, stale and made up. 15,267 commits
+/// were accepted, 1,138 of them on a stamp on which another laptop committed too.
+const SAVES: [(&str, u64); 19] = [
+    ("Ask at Valid", 30_000),
+    ("Ask answers 4", 800),
+    ("Ask answers 6", 10_000),
+    ("Commit at Valid", 10_000),
+    ("Commit answers 4", 300),
+    ("Commit answers 8", 2500),
+    ("Commit at Valid answers 26", 13_000),
+    ("Commit at Invalid answers 26", 4000),
+    ("Commit at InvalidWrite answers 26", 2000),
+    ("Commit at Write answers 26", 8000),
+    ("Commit at Replay answers 26", 600),
+    ("Commit: on what was handed out", 6000),
+    ("Commit: another did on this stamp", 700),
+    ("Commit: a newer save is under way", 6000),
+    ("Commit: a newer save came between", 5000),
+    ("Commit: its stamp, not valid", 4000),
+    ("Commit: another version", 4500),
+    ("Commit: another tie-breaker", 1100),
+    ("Commit: a tie-breaker above 15", 1000),
+];
+
 /// What must not come about: an ACK of the save that was given up is of the epoch
 /// before, and a greater INV finds no own save any more.
 const NEVER: [&str; 3] = [
@@ -79,7 +103,8 @@ fn often(tally: &Tally) {
     for (name, times) in tally {
         println!("{times:8} {name}");
     }
-    for (name, floor) in NAMES.map(|name| (name, OFTEN)).into_iter().chain(MANY) {
+    let names = NAMES.map(|name| (name, OFTEN)).into_iter();
+    for (name, floor) in names.chain(MANY).chain(SAVES) {
         let times = tally.get(name).copied().unwrap_or(0);
         assert!(times >= floor, "{name}: only {times} times");
     }
@@ -134,6 +159,36 @@ fn a_save_that_is_not_given_up_is_found() {
     // drops, stops at two more: a third write, by which the winner's stamp is the greater.
     assert!(found.shrunk.entries.len() <= 7);
     assert_eq!(found.shrunk.records, 1);
+}
+
+/// The same of a commit that compares the version alone (02, Wish 5).
+#[test]
+fn a_commit_on_the_version_alone_is_found() {
+    fn wrong(case: &Case, table: &mut [Record], store: &mut [u8]) -> Outcome {
+        let outcome = on_table(case, table, store);
+        let Event::Commit { opened, value } = &case.event else {
+            return outcome;
+        };
+        let held = table.get(case.i).copied();
+        let held = held.filter(|held| held.state == State::Valid);
+        let same = held.is_some_and(|held| held.timestamp.version == opened.0);
+        if outcome.number == 26 && same {
+            let value = value.clone();
+            let write = Case::on(case.me, case.i, Event::Write { value });
+            return on_table(&write, table, store);
+        }
+        outcome
+    }
+    let found = compare(&Settings::USUAL, by_hand, wrong).expect_err("a difference");
+    println!("{found}");
+    assert!(found.shrunk.entries.len() <= 12);
+    assert_eq!(found.shrunk.records, 1);
+    let last = found.shrunk.entries.last().map(|entry| &entry.what);
+    let event = match last {
+        Some(What::Own { event, .. }) => event,
+        _ => panic!("{last:?}"),
+    };
+    assert!(matches!(event, Event::Commit { .. }));
 }
 
 /// Plays entries: the laptop's place, what it does, and the entry's id.
@@ -334,4 +389,116 @@ fn a_record_hung_after_two_saves() {
             *b"greater"
         );
     }
+}
+
+/// Document 02, Wish 5: what the laptop at this place was handed out of record 0.
+fn asked(group: &mut Group, at: usize, id: usize) -> (u32, u8) {
+    let event = Event::Ask;
+    let ask = [(at, What::Own { i: 0, event }, id)];
+    assert_eq!(play(group, &ask), Ok(()));
+    let stamps = group.members[at].opened[0].stamps();
+    let last = stamps.max().expect("it is valid");
+    (last.version, last.tie)
+}
+
+fn commit(opened: (u32, u8), text: &[u8]) -> What {
+    let value = Bytes(text.to_vec());
+    let event = Event::Commit { opened, value };
+    What::Own { i: 0, event }
+}
+
+/// The record of the laptop at this place, and the first bytes of its text.
+fn shows(group: &Group, at: usize, text: &[u8]) -> (u8, (u32, u8)) {
+    let memory = &group.members[at].memory;
+    assert_eq!(memory.slot(0).expect("there is one")[..text.len()], *text);
+    let record = memory.record(0).expect("there is one");
+    (record.state, record.stamp())
+}
+
+/// Two laptops commit on one stamp, and the greater new one stands. The one that is
+/// late with its commit is refused.
+#[test]
+fn two_commits_on_one_stamp() {
+    let mut group = three();
+    let opened = [0, 1, 2].map(|at| asked(&mut group, at, at));
+    assert_eq!(opened, [(0, 0); 3]);
+    let entries = [
+        (2, commit((0, 0), b"greater"), 3),
+        (0, commit((0, 0), b"lesser"), 4),
+        (1, What::Deliver { of: 4 }, 5),
+        // 0's save is under way here.
+        (1, commit((0, 0), b"late"), 6),
+        (1, commit((1, 0), b"late"), 7),
+        (0, What::Deliver { of: 5 }, 8),
+        (0, What::Deliver { of: 3 }, 9),
+        (1, What::Deliver { of: 3 }, 10),
+        (2, What::Deliver { of: 9 }, 11),
+        (2, What::Deliver { of: 10 }, 12),
+        (0, What::Deliver { of: 12 }, 13),
+        (1, What::Deliver { of: 12 }, 14),
+        // It stands; neither what was seen before nor another tie-breaker will do.
+        (0, commit((0, 0), b"late"), 15),
+        (1, commit((1, 0), b"late"), 16),
+        (1, commit((1, 18), b"late"), 17),
+    ];
+    assert_eq!(play(&mut group, &entries), Ok(()));
+    let posts: Vec<usize> = group.posts.keys().copied().collect();
+    assert_eq!(posts, [3, 4, 5, 9, 10, 12]);
+    assert_eq!(group.posts[&3].value[..], *b"greater");
+    for at in 0..3 {
+        assert_eq!(shows(&group, at, b"greater"), (0, (1, 2)));
+    }
+
+    // 0 asks again, and saves over that.
+    assert_eq!(asked(&mut group, 0, 18), (1, 2));
+    let entries = [(0, commit((1, 2), b"over it"), 19)];
+    assert_eq!(play(&mut group, &entries), Ok(()));
+    assert_eq!(shows(&group, 0, b"over it"), (3, (2, 0)));
+}
+
+/// Laptop 0 was handed out (0,0) with the empty text; then somebody writes to its
+/// memory, against the premises, and it goes on.
+fn tampered(record: usize, store: Option<usize>, then: What) -> Result<(), String> {
+    let mut group = three();
+    assert_eq!(asked(&mut group, 0, 0), (0, 0));
+    let entries = [
+        (0, commit((0, 0), b"x"), 1),
+        (1, What::Deliver { of: 1 }, 2),
+    ];
+    play(&mut group, &entries)?;
+    let entries = [
+        (2, What::Deliver { of: 1 }, 3),
+        (0, What::Deliver { of: 2 }, 4),
+        (0, What::Deliver { of: 3 }, 5),
+    ];
+    play(&mut group, &entries)?;
+    assert_eq!(asked(&mut group, 0, 6), (1, 0));
+    let (table, bytes) = group.members[0].memory.lend();
+    table[record] ^= 1;
+    if let Some(k) = store {
+        bytes[k] ^= 1;
+    }
+    play(&mut group, &[(0, then, 7)])
+}
+
+/// What was handed out goes back, or changes under one stamp: the check sees it, by a
+/// read and by an ask; and by a commit on what is no longer there.
+#[test]
+fn the_check_of_what_was_handed_out_can_fail() {
+    const UNUSED: usize = 15;
+    const VERSION: usize = 4;
+    for event in [Event::Read, Event::Ask] {
+        let own = || What::Own {
+            i: 0,
+            event: event.clone(),
+        };
+        let back = tampered(VERSION, None, own()).expect_err("(0,0) after (1,0)");
+        assert!(back.contains("is shown after"), "{back}");
+        let other = tampered(UNUSED, Some(0), own()).expect_err("another text");
+        assert!(other.contains("is shown after"), "{other}");
+    }
+    let over = tampered(UNUSED, Some(0), commit((1, 0), b"y")).expect_err("another text");
+    assert!(over.contains("saved over"), "{over}");
+    let over = tampered(VERSION, None, commit((0, 0), b"y")).expect_err("it was away");
+    assert!(over.contains("saved over"), "{over}");
 }

@@ -7,7 +7,7 @@ use compare::crossing::Fields;
 use compare::memory::Memory;
 use compare::settings::Settings;
 use compare::shrink::{drops, less, shrink, Smaller};
-use compare::single::{by_model, compare, Case, Event, Outcome, Play};
+use compare::single::{by_model, compare, Case, Event, Kind, Outcome, Play};
 
 /// What a difference is printed with runs its case again: with the seed alone
 /// it may lie beyond the usual count.
@@ -261,6 +261,195 @@ fn the_stamp_of_a_write_that_is_given_up_is_kept() {
     assert_ne!(case.record.stamp(), case.record.written());
 }
 
+// Document 02, Wish 5: wrong asks and commits.
+
+/// A commit where question 26 refused it but `takes` does not look so closely: a write.
+fn committing(case: &Case, memory: &mut Memory, takes: fn(&Fields, (u32, u8)) -> bool) -> Outcome {
+    let outcome = by_model(case, memory);
+    match &case.event {
+        Event::Commit { opened, value } if outcome.number == 26 => {
+            let value = value.clone();
+            let write = Case {
+                event: Event::Write { value },
+                ..case.clone()
+            };
+            match takes(&case.record, *opened) {
+                true => by_model(&write, memory),
+                false => outcome,
+            }
+        }
+        _ => outcome,
+    }
+}
+
+/// A commit on one record by the wrong models: the record, and the stamp brought.
+fn commit_by(wrong: Play) -> (Fields, (u32, u8)) {
+    let case = caught(wrong);
+    one_record(&case);
+    let Event::Commit { opened, .. } = case.event else {
+        panic!("{case:?}");
+    };
+    (case.record, opened)
+}
+
+#[test]
+fn a_commit_compares_the_version_alone() {
+    fn wrong(case: &Case, memory: &mut Memory) -> Outcome {
+        committing(case, memory, |held, opened| {
+            held.state == 0 && held.version == opened.0
+        })
+    }
+    let (held, opened) = commit_by(wrong);
+    assert_eq!((held.state, held.version, opened.0), (0, 0, 0));
+    assert_eq!(held.tie.abs_diff(opened.1), 1);
+}
+
+#[test]
+fn a_commit_compares_the_tie_breaker_alone() {
+    fn wrong(case: &Case, memory: &mut Memory) -> Outcome {
+        committing(case, memory, |held, opened| {
+            held.state == 0 && held.tie == opened.1
+        })
+    }
+    let (held, opened) = commit_by(wrong);
+    assert_eq!((held.state, held.tie, opened.1), (0, 0, 0));
+    assert_eq!(held.version.abs_diff(opened.0), 1);
+}
+
+/// Four bits of it.
+#[test]
+fn a_commit_cuts_the_tie_breaker() {
+    fn wrong(case: &Case, memory: &mut Memory) -> Outcome {
+        committing(case, memory, |held, (version, tie)| {
+            held.state == 0 && held.stamp() == (version, tie & 15)
+        })
+    }
+    let (held, opened) = commit_by(wrong);
+    assert_eq!((held.state, held.version), (0, 0));
+    assert_eq!(opened, (0, held.tie + 16));
+}
+
+/// As a plain write looks: valid or invalid.
+#[test]
+fn a_commit_at_invalid_is_taken() {
+    fn wrong(case: &Case, memory: &mut Memory) -> Outcome {
+        committing(case, memory, |held, opened| {
+            held.state == 1 && held.stamp() == opened
+        })
+    }
+    let (held, opened) = commit_by(wrong);
+    assert_eq!((held.state, held.stamp(), opened), (1, (0, 0), (0, 0)));
+}
+
+/// 26 is asked after 8, or after 9.
+#[test]
+fn the_stamp_of_a_commit_is_asked_too_late() {
+    fn after(case: &Case, memory: &mut Memory, question: u8) -> Outcome {
+        let mut outcome = by_model(case, memory);
+        let long = case.event.value().is_some_and(|value| value.len() > 192);
+        let last = case.record.version == u32::MAX;
+        if outcome.number == 26 && [long, last][usize::from(question - 8)] {
+            outcome.number = question;
+        }
+        outcome
+    }
+    let (held, _) = commit_by(|case, memory| after(case, memory, 8));
+    assert_eq!(held.version, 0);
+    let (held, _) = commit_by(|case, memory| after(case, memory, 9));
+    assert_eq!(held.version, u32::MAX);
+}
+
+/// A commit that is refused as a write would be.
+#[test]
+fn a_commit_answers_7() {
+    fn wrong(case: &Case, memory: &mut Memory) -> Outcome {
+        let mut outcome = by_model(case, memory);
+        if outcome.number == 26 && case.record.state >= 2 {
+            outcome.number = 7;
+        }
+        outcome
+    }
+    let (held, _) = commit_by(wrong);
+    assert_eq!(held.state, 2);
+}
+
+/// It keeps the stamp that it was opened with.
+#[test]
+fn a_commit_does_not_count_up() {
+    fn wrong(case: &Case, memory: &mut Memory) -> Outcome {
+        let mut outcome = by_model(case, memory);
+        let committed = matches!(case.event, Event::Commit { .. }) && outcome.number == 0;
+        if let Some(mut record) = memory.record(case.i).filter(|_| committed) {
+            (record.version, record.written_version) = (case.record.version, case.record.version);
+            outcome.sent.2 = record.version;
+            memory.put_record(case.i, &record);
+        }
+        outcome
+    }
+    let (held, opened) = commit_by(wrong);
+    assert_eq!((held.state, held.stamp(), opened), (0, (0, 0), (0, 0)));
+}
+
+/// What a wrong model hands out: the record that shows it.
+fn ask_by(wrong: Play) -> Fields {
+    let case = caught(wrong);
+    one_record(&case);
+    assert_eq!(case.event, Event::Ask);
+    case.record
+}
+
+#[test]
+fn an_ask_hands_out_the_last_write_stamp() {
+    fn wrong(case: &Case, memory: &mut Memory) -> Outcome {
+        let mut outcome = by_model(case, memory);
+        if (&case.event, outcome.number) == (&Event::Ask, 0) {
+            outcome.opened = case.record.written();
+        }
+        outcome
+    }
+    let held = ask_by(wrong);
+    assert_eq!(held.state, 0);
+    assert_ne!(held.stamp(), held.written());
+}
+
+#[test]
+fn a_refused_ask_hands_out_the_stamp() {
+    fn wrong(case: &Case, memory: &mut Memory) -> Outcome {
+        let mut outcome = by_model(case, memory);
+        if (&case.event, outcome.number) == (&Event::Ask, 6) {
+            outcome.opened = case.record.stamp();
+        }
+        outcome
+    }
+    let held = ask_by(wrong);
+    assert_eq!(held.state, 1);
+    assert_ne!(held.stamp(), (0, 0));
+}
+
+#[test]
+fn an_ask_moves_the_record() {
+    fn wrong(case: &Case, memory: &mut Memory) -> Outcome {
+        let outcome = by_model(case, memory);
+        if (&case.event, outcome.number) == (&Event::Ask, 0) {
+            memory.lend().0[RECORD_BYTES * case.i + 15] ^= 1;
+        }
+        outcome
+    }
+    assert_eq!(ask_by(wrong), Fields::default());
+}
+
+#[test]
+fn an_ask_of_an_invalid_record_is_taken() {
+    fn wrong(case: &Case, memory: &mut Memory) -> Outcome {
+        let mut outcome = by_model(case, memory);
+        if (&case.event, outcome.number) == (&Event::Ask, 6) && case.record.state == 1 {
+            outcome.number = 0;
+        }
+        outcome
+    }
+    assert_eq!(ask_by(wrong).state, 1);
+}
+
 #[test]
 fn a_later_validation_is_taken() {
     fn wrong(case: &Case, memory: &mut Memory) -> Outcome {
@@ -386,39 +575,70 @@ fn bytes_over_are_no_hindrance() {
     assert_eq!((case.table, case.store), (RECORD_BYTES + 1, 192));
 }
 
+/// 8 after 9, of this kind of event.
+fn too_late(case: &Case, memory: &mut Memory, kind: Kind) -> Outcome {
+    let mut outcome = by_model(case, memory);
+    if outcome.number == 8 && case.record.version == u32::MAX && case.kind() == kind {
+        outcome.number = 9;
+    }
+    outcome
+}
+
 #[test]
 fn a_question_is_asked_too_late() {
-    // 8 after 9.
-    fn wrong(case: &Case, memory: &mut Memory) -> Outcome {
-        let mut outcome = by_model(case, memory);
-        if outcome.number == 8 && case.record.version == u32::MAX {
-            outcome.number = 9;
-        }
-        outcome
+    let value = || Bytes(vec![0; 193]);
+    let opened = (u32::MAX, 0);
+    let wrongs: [(Play, Event); 2] = [
+        (
+            |case, memory| too_late(case, memory, Kind::Write),
+            Event::Write { value: value() },
+        ),
+        (
+            |case, memory| too_late(case, memory, Kind::Commit),
+            Event::Commit {
+                opened,
+                value: value(),
+            },
+        ),
+    ];
+    for (wrong, event) in wrongs {
+        let case = caught(wrong);
+        one_record(&case);
+        assert_eq!(case.event, event);
+        let last = Fields {
+            version: u32::MAX,
+            ..Fields::default()
+        };
+        assert_eq!(case.record, last);
     }
-    let case = caught(wrong);
-    one_record(&case);
-    let value = Bytes(vec![0; 193]);
-    assert_eq!(case.event, Event::Write { value });
-    let last = Fields {
-        version: u32::MAX,
-        ..Fields::default()
-    };
-    assert_eq!(case.record, last);
+}
+
+/// A part of this kind of event begins behind its place.
+fn elsewhere(case: &Case, memory: &mut Memory, kind: Kind) -> Outcome {
+    let mut outcome = by_model(case, memory);
+    if outcome.part.1 > 3 && case.kind() == kind {
+        outcome.part.0 += 1;
+    }
+    outcome
 }
 
 #[test]
 fn a_part_begins_elsewhere() {
-    fn wrong(case: &Case, memory: &mut Memory) -> Outcome {
-        let mut outcome = by_model(case, memory);
-        if outcome.part.1 > 3 {
-            outcome.part.0 += 1;
-        }
-        outcome
+    let wrongs: [(Play, Event); 2] = [
+        (
+            |case, memory| elsewhere(case, memory, Kind::Read),
+            Event::Read,
+        ),
+        (
+            |case, memory| elsewhere(case, memory, Kind::Ask),
+            Event::Ask,
+        ),
+    ];
+    for (wrong, event) in wrongs {
+        let case = caught(wrong);
+        one_record(&case);
+        assert_eq!((case.event, case.record.len), (event, 4));
     }
-    let case = caught(wrong);
-    one_record(&case);
-    assert_eq!((case.event, case.record.len), (Event::Read, 4));
 }
 
 #[test]

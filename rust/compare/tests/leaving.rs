@@ -16,6 +16,8 @@ fn after_random_events() {
             assert!(tally.last >= 1000);
             // Some 3,100 of each.
             assert!(tally.replayed.iter().all(|&times| times >= 2000));
+            // Writes and, 02, Wish 5, commits: 6,397 and 5,463.
+            assert!(tally.saved.iter().all(|&times| times >= 3500));
             assert!(tally.bodies >= 1000 && tally.gone.iter().all(|&times| times >= 1000));
         }
         Err(found) => panic!("{settings}\n{found}"),

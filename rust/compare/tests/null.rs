@@ -37,6 +37,11 @@ fn no_memory() {
         assert_eq!(sys::cetskobi_start(0, 3, t, 0, s, 0).number, 2);
         assert_eq!(sys::cetskobi_read(ME, t, 0, s, 0, 0).number, 2);
         assert_eq!(sys::cetskobi_write(ME, t, 0, s, 0, 0, null(), 0).number, 2);
+        let asked = sys::cetskobi_ask(ME, t, 0, s, 0, 0);
+        assert_eq!((asked.number, asked.len), (2, 0));
+        assert_eq!((asked.version, asked.tie), (0, 0));
+        let committed = sys::cetskobi_commit(ME, t, 0, s, 0, 0, 0, 0, null(), 0);
+        assert_eq!(committed.number, 2);
         assert_eq!(sys::cetskobi_replay(ME, t, 0, s, 0, 0).number, 2);
         assert_eq!(sys::cetskobi_validate(ME, t, 0, s, 0, 0).number, 2);
         assert_eq!(sys::cetskobi_resend(ME, t, 0, s, 0, 0).number, 2);
@@ -63,6 +68,10 @@ fn a_table_or_a_store_alone() {
         assert_eq!((read.number, read.len), (2, 0));
         let read = sys::cetskobi_read(ME, null(), 0, store.as_ptr(), 192, 0);
         assert_eq!((read.number, read.len), (2, 0));
+        let asked = sys::cetskobi_ask(ME, table.as_ptr(), 16, null(), 0, 0);
+        assert_eq!((asked.number, asked.len), (2, 0));
+        let asked = sys::cetskobi_ask(ME, null(), 0, store.as_ptr(), 192, 0);
+        assert_eq!((asked.number, asked.len), (2, 0));
         let inv = sent(1, 0, 0);
         let body = sys::cetskobi_body(null(), 0, store.as_ptr(), 192, 0, inv);
         assert_eq!(body, GONE);
@@ -77,6 +86,15 @@ fn an_empty_value() {
     let mut store = [7; 192];
     let (t, s) = (table.as_mut_ptr(), store.as_mut_ptr());
     let answer = unsafe { sys::cetskobi_write(ME, t, 16, s, 192, 0, null(), 0) };
+    assert_eq!((answer, store), (sent(1, 1, 0), [0; 192]));
+
+    // The same on what an ask hands out.
+    let (mut table, mut store) = ([0; 16], [7; 192]);
+    let (t, s) = (table.as_mut_ptr(), store.as_mut_ptr());
+    let asked = unsafe { sys::cetskobi_ask(ME, t, 16, s, 192, 0) };
+    assert_eq!((asked.number, asked.len), (0, 0));
+    let (version, tie) = (asked.version, asked.tie);
+    let answer = unsafe { sys::cetskobi_commit(ME, t, 16, s, 192, 0, version, tie, null(), 0) };
     assert_eq!((answer, store), (sent(1, 1, 0), [0; 192]));
 }
 

@@ -1,6 +1,6 @@
 //! The rows of document 01, "From the ringing table", and of document 02's Wishes
-//! 1 and 2, the last acknowledgement and the record hung after two saves, one by
-//! one, in the engine and in the model. The rows of packets stand in `fetch` and
+//! 1, 2 and 5, the last acknowledgement, the record hung after two saves and the
+//! record that is asked for and saved, one by one, in the engine and in the model. The rows of packets stand in `fetch` and
 //! `pack`.
 
 use cetskobi::raw::{Message, Replica};
@@ -150,6 +150,28 @@ impl Laptop {
         let outcome = self.outcome(i, Event::Read);
         let (at, len) = outcome.part;
         (outcome.number == 0).then(|| self.engine.store()[at..at + len].to_vec())
+    }
+
+    /// The stamp and the value that an ask hands out; a refused one hands out none.
+    fn ask(&mut self, i: usize) -> Result<((u32, u8), Vec<u8>), u8> {
+        let Outcome {
+            number,
+            part,
+            opened,
+            ..
+        } = self.outcome(i, Event::Ask);
+        if number != 0 {
+            assert_eq!((part, opened), ((0, 0), (0, 0)));
+            return Err(number);
+        }
+        let (at, len) = part;
+        assert_eq!(at, 192 * i);
+        Ok((opened, self.engine.store()[at..at + len].to_vec()))
+    }
+
+    fn commit(&mut self, i: usize, opened: (u32, u8), value: &[u8]) -> Answer {
+        let value = Bytes(value.to_vec());
+        self.play(i, Event::Commit { opened, value })
     }
 
     fn record(&self) -> Fields {
@@ -374,6 +396,120 @@ fn a_greater_invalidation_after_giving_up() {
     assert_eq!(laptop.record(), later);
     assert_eq!(laptop.play(0, Event::Replay), refused(16));
     assert_eq!(laptop.write(0, b"D"), refused(7));
+}
+
+/// Document 02, Wish 5: 2 shows 5's save of (1,5).
+fn shown() -> Laptop {
+    let mut laptop = Laptop::fresh();
+    assert_eq!(laptop.deliver(5, (INV, 1, 5), b"wing 62"), sent(ACK, 1, 5));
+    assert_eq!(laptop.ask(0), Err(6));
+    assert_eq!(laptop.commit(0, (1, 5), b"B"), refused(26));
+    assert_eq!(laptop.deliver(5, (VAL, 1, 5), b""), DONE);
+    assert_eq!(laptop.record(), SHOWN);
+    laptop
+}
+
+const SHOWN: Fields = record(VALID, (1, 5), 5, (0, 1), 0, 7);
+
+#[test]
+fn ask_then_commit() {
+    let mut laptop = Laptop::fresh();
+    assert_eq!(laptop.ask(0), Ok(((0, 1), vec![])));
+    assert_eq!(laptop.commit(0, (0, 1), b"A1"), sent(INV, 1, 2));
+    assert_eq!(laptop.record(), WRITTEN);
+
+    let mut laptop = shown();
+    assert_eq!(laptop.ask(0), Ok(((1, 5), b"wing 62".to_vec())));
+    assert_eq!(laptop.record(), SHOWN);
+    assert_eq!(laptop.commit(0, (1, 5), b"11 g"), sent(INV, 2, 2));
+    let written = record(WRITE, (2, 2), 2, (2, 2), 0, 4);
+    assert_eq!(laptop.record(), written);
+    assert_eq!(laptop.engine.store()[..8], *b"11 g\0\0\0\0");
+    // Under way: neither the stamp before nor its own.
+    assert_eq!(laptop.ask(0), Err(6));
+    assert_eq!(laptop.commit(0, (1, 5), b"C"), refused(26));
+    assert_eq!(laptop.commit(0, (2, 2), b"C"), refused(26));
+    assert_eq!(laptop.record(), written);
+    assert_eq!(laptop.deliver(1, (ACK, 2, 2), b""), DONE);
+    assert_eq!(laptop.deliver(5, (ACK, 2, 2), b""), sent(VAL, 2, 2));
+    assert_eq!(laptop.commit(0, (1, 5), b"C"), refused(26));
+    assert_eq!(laptop.ask(0), Ok(((2, 2), b"11 g".to_vec())));
+    assert_eq!(laptop.commit(0, (2, 2), b"C"), sent(INV, 3, 2));
+}
+
+/// A newer save came between; a plain write would not look.
+#[test]
+fn a_commit_after_a_newer_save() {
+    let mut laptop = shown();
+    assert_eq!(laptop.deliver(1, (INV, 1, 6), b"newer"), sent(ACK, 1, 6));
+    assert_eq!(laptop.commit(0, (1, 5), b"C"), refused(26));
+    assert_eq!(laptop.deliver(1, (VAL, 1, 6), b""), DONE);
+    assert_eq!(laptop.commit(0, (1, 5), b"C"), refused(26));
+    assert_eq!(laptop.ask(0), Ok(((1, 6), b"newer".to_vec())));
+    assert_eq!(laptop.write(0, b"C"), sent(INV, 2, 2));
+}
+
+/// An older INV between is acknowledged, and does not matter.
+#[test]
+fn a_commit_after_an_older_save() {
+    let mut laptop = shown();
+    assert_eq!(laptop.deliver(1, (INV, 1, 1), b"older"), sent(ACK, 1, 1));
+    assert_eq!(laptop.commit(0, (1, 5), b"C"), sent(INV, 2, 2));
+}
+
+/// Older, newer, of an equal version, of an equal tie-breaker, and no laptop's.
+#[test]
+fn a_commit_on_another_stamp() {
+    let mut laptop = shown();
+    let equal_version = [(1, 4), (1, 6), (1, 0), (1, 15)];
+    let above = [(1, 16), (1, 21), (1, 37), (1, 255)];
+    let others = [(0, 1), (0, 5), (2, 5), (2, 2), (4_294_967_295, 5), (257, 5)];
+    for opened in [&equal_version[..], &above, &others].concat() {
+        assert_eq!(laptop.commit(0, opened, b"C"), refused(26), "{opened:?}");
+        assert_eq!(laptop.record(), SHOWN);
+    }
+    for state in [INVALID, INVALID_WRITE, WRITE, REPLAY] {
+        let held = Fields { state, ..SHOWN };
+        laptop.lay(&held);
+        assert_eq!(laptop.ask(0), Err(6));
+        assert_eq!(laptop.commit(0, (1, 5), b"C"), refused(26), "{state}");
+        assert_eq!(laptop.record(), held);
+    }
+}
+
+/// 26 stands after 5; 8 and 9 follow it.
+#[test]
+fn the_order_of_a_commit() {
+    let text = [7; 193];
+    let mut laptop = shown();
+    assert_eq!(laptop.commit(0, (1, 4), &text), refused(26));
+    assert_eq!(laptop.commit(0, (1, 5), &text), refused(8));
+    assert_eq!(laptop.commit(1, (1, 4), &text), refused(4));
+    const LAST: u32 = 4_294_967_295;
+    let last = record(VALID, (LAST, 5), 5, (0, 1), 0, 7);
+    laptop.lay(&last);
+    assert_eq!(laptop.ask(0).map(|(opened, _)| opened), Ok((LAST, 5)));
+    assert_eq!(laptop.commit(0, (LAST, 4), &text), refused(26));
+    assert_eq!(laptop.commit(0, (LAST, 5), &text), refused(8));
+    assert_eq!(laptop.commit(0, (LAST, 5), b"C"), refused(9));
+    assert_eq!(laptop.commit(0, (LAST - 1, 5), b"C"), refused(26));
+    assert_eq!(laptop.record(), last);
+    laptop.lay(&record(VALID, (LAST - 1, 5), 5, (0, 1), 0, 7));
+    assert_eq!(
+        laptop.commit(0, (LAST - 1, 5), &text[..192]),
+        sent(INV, LAST, 2)
+    );
+
+    // The stamp of an unsound record: 5.
+    let mut laptop = shown();
+    laptop.lay(&Fields { tie: 16, ..SHOWN });
+    assert_eq!(laptop.ask(0), Err(5));
+    assert_eq!(laptop.commit(0, (1, 16), b"C"), refused(5));
+    // Struck off: 3.
+    let mut laptop = shown();
+    assert_eq!(laptop.view(1, &[1, 5]), DONE);
+    assert_eq!(laptop.ask(0), Err(3));
+    assert_eq!(laptop.commit(0, (1, 5), b"C"), refused(3));
 }
 
 /// Laptops outside the view may be counted: the set is looked at, not its size.

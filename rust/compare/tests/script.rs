@@ -93,6 +93,15 @@ fn a_record_hung_after_two_saves() {
     assert_eq!(played(script.as_bytes()), printed);
 }
 
+/// Document 02, Wish 5, gives the program no new line.
+#[test]
+fn no_line_asks_or_commits() {
+    let script = "group 3\nask 0\ncommit 0\ncommit 0 text\ncommit 0 0 0 text\nask 0 0\nask\n\
+                  write 0 A\nask 0\nask 1\ncommit 1 0 0 B\nread 1";
+    let printed = "?\n?\n?\n?\n?\n?\n0 W 1 0 0\n?\n?\n?\n0 V 0 0 -\n";
+    assert_eq!(played(script.as_bytes()), printed);
+}
+
 #[test]
 fn limits() {
     // 65,536 bytes of line feeds and of reads; one byte more is beyond.

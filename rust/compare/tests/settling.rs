@@ -339,7 +339,7 @@ fn the_earliest_timestamp_is_not_driven() {
         }
         recipe(&reversed)
     }
-    caught(lists(wrong), "refused (14)", 1);
+    caught(lists(wrong), "nobody begins", 1);
 }
 
 #[test]
@@ -377,7 +377,7 @@ fn a_validation_is_needed() {
         }
         Some(steps)
     }
-    caught(lists(wrong), "state: Invalid,", 4);
+    caught(lists(wrong), "state: Write,", 4);
 }
 
 /// One more event than the bound, all accepted.

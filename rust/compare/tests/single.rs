@@ -22,6 +22,7 @@ fn random_events() {
             for [accepted, refused] in [invalid, invalid_write] {
                 assert!(accepted >= 20_000 && refused >= 3_000, "{tally}");
             }
+            tally.opened_often();
         }
         Err(found) => panic!("{settings}\n{found}"),
     }
@@ -59,11 +60,18 @@ fn events() -> Vec<Event> {
         },
         value: Bytes(value.to_vec()),
     };
-    let value = Bytes(b"wing 62".to_vec());
+    let value = || Bytes(b"wing 62".to_vec());
+    let commit = |opened| Event::Commit {
+        opened,
+        value: value(),
+    };
     vec![
         Event::Start,
         Event::Read,
-        Event::Write { value },
+        Event::Write { value: value() },
+        Event::Ask,
+        commit(RECORD.stamp()),
+        commit(RECORD.written()),
         Event::Replay,
         Event::Validate,
         Event::Resend,

@@ -16,6 +16,20 @@ struct cetskobi_reading peer_read(struct cetskobi_replica me, const uint8_t *tab
     return (struct cetskobi_reading){.len = r->len};
 }
 
+/* The step of a write and of a commit. */
+static inline struct cetskobi_answer save(struct cetskobi_replica me, record *r, uint8_t *store, size_t i, const uint8_t *value,
+                                          size_t value_len)
+{
+    uint32_t version = r->version + 1;
+    r->state = CETSKOBI_WRITE;
+    r->tie = r->writer = r->written_tie = me.number;
+    r->version = r->written_version = version;
+    r->acks = 0;
+    r->len = (uint8_t)value_len;
+    put_value(store, i, value, value_len);
+    return sent(CETSKOBI_INV, version, me.number);
+}
+
 struct cetskobi_answer peer_write(struct cetskobi_replica me, uint8_t *table, size_t table_len, uint8_t *store, size_t store_len, size_t i,
                                   const uint8_t *value, size_t value_len)
 {
@@ -27,17 +41,40 @@ struct cetskobi_answer peer_write(struct cetskobi_replica me, uint8_t *table, si
         return refused(CETSKOBI_REFUSED_NOT_WRITABLE);
     if (value_len > CETSKOBI_VALUE_MAX)
         return refused(CETSKOBI_REFUSED_VALUE_TOO_LONG);
-    uint32_t version = r->version;
-    if (version == UINT32_MAX)
+    if (r->version == UINT32_MAX)
         return refused(CETSKOBI_REFUSED_LAST_VERSION);
-    version++;
-    r->state = CETSKOBI_WRITE;
-    r->tie = r->writer = r->written_tie = me.number;
-    r->version = r->written_version = version;
-    r->acks = 0;
-    r->len = (uint8_t)value_len;
-    put_value(store, i, value, value_len);
-    return sent(CETSKOBI_INV, version, me.number);
+    return save(me, r, store, i, value, value_len);
+}
+
+/* As a read, and the timestamp with it (02, Wish 5). */
+struct cetskobi_asked peer_ask(struct cetskobi_replica me, const uint8_t *table, size_t table_len, const uint8_t *store, size_t store_len,
+                               size_t i)
+{
+    (void)store;
+    uint8_t no = ask(me, table, table_len, store_len, i);
+    if (no)
+        return (struct cetskobi_asked){.number = no};
+    const record *r = seen_at(table, i);
+    if (r->state != CETSKOBI_VALID)
+        return (struct cetskobi_asked){.number = CETSKOBI_REFUSED_NOT_READABLE};
+    return (struct cetskobi_asked){.tie = r->tie, .version = r->version, .len = r->len};
+}
+
+/* Question 26 in the place of 7 (02, Wish 5). */
+struct cetskobi_answer peer_commit(struct cetskobi_replica me, uint8_t *table, size_t table_len, uint8_t *store, size_t store_len, size_t i,
+                                   uint32_t version, uint8_t tie, const uint8_t *value, size_t value_len)
+{
+    uint8_t no = ask(me, table, table_len, store_len, i);
+    if (no)
+        return refused(no);
+    record *r = record_at(table, i);
+    if (r->state != CETSKOBI_VALID || r->version != version || r->tie != tie)
+        return refused(CETSKOBI_REFUSED_NOT_AS_OPENED);
+    if (value_len > CETSKOBI_VALUE_MAX)
+        return refused(CETSKOBI_REFUSED_VALUE_TOO_LONG);
+    if (r->version == UINT32_MAX)
+        return refused(CETSKOBI_REFUSED_LAST_VERSION);
+    return save(me, r, store, i, value, value_len);
 }
 
 struct cetskobi_answer peer_replay(struct cetskobi_replica me, uint8_t *table, size_t table_len, const uint8_t *store, size_t store_len,

@@ -19,6 +19,12 @@ struct cetskobi_answer peer_resend(struct cetskobi_replica me, uint8_t *table, s
 struct cetskobi_reading peer_read(struct cetskobi_replica me, const uint8_t *table, size_t table_len, const uint8_t *store, size_t store_len,
                                size_t i);
 
+/* 02, Wish 5. */
+struct cetskobi_asked peer_ask(struct cetskobi_replica me, const uint8_t *table, size_t table_len, const uint8_t *store, size_t store_len,
+                               size_t i);
+struct cetskobi_answer peer_commit(struct cetskobi_replica me, uint8_t *table, size_t table_len, uint8_t *store, size_t store_len, size_t i,
+                                   uint32_t version, uint8_t tie, const uint8_t *value, size_t value_len);
+
 struct cetskobi_admission peer_view(struct cetskobi_replica me, uint32_t epoch, uint16_t set);
 struct cetskobi_admission peer_start(uint8_t number, uint16_t view, uint8_t *table, size_t table_len, uint8_t *store, size_t store_len);
 

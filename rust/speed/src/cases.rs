@@ -104,6 +104,11 @@ pub const fn number(n: usize) -> Told {
     (0, [n, 0, 0])
 }
 
+/// Accepted: a value of this length with this stamp.
+const fn handed_out(len: usize, version: usize, tie: usize) -> Told {
+    (0, [len, tie, version])
+}
+
 /// Refused by this question.
 const fn refused(question: u8) -> Told {
     (question, [0; 3])
@@ -153,6 +158,38 @@ fn events(n: usize, visit: &mut impl Visit) {
         event("write-7", "write, refused by question 7", n, refused(7)),
         WRITING,
         TEXT.to_vec(),
+        visit,
+    );
+    visit.case(
+        event("ask", "ask", n, handed_out(TEXT.len(), 7, 5)),
+        both!(by => On {
+            lent: Lent::new(ME, n, VALID, ()),
+            prepare: |_: &mut _, _| (),
+            call: |e: &mut Lent<()>, i| by::ask(e.me, &e.table, &e.store, i),
+        }),
+        || On {
+            lent: Plain::new(ME, n, VALID, ()),
+            prepare: |_: &mut _, _| (),
+            call: |m: &mut Plain<()>, i| {
+                let asked = m.replica.ask(&m.table, &m.store, i);
+                asked.map(|(value, opened)| (value.len(), opened))
+            },
+        },
+    );
+    // The same text as the write's, so that the two compare.
+    commit(
+        event("commit", "commit, 32 bytes", n, sent(1, 8, 2)),
+        (7, 5),
+        visit,
+    );
+    commit(
+        event(
+            "commit-26",
+            "commit, refused by question 26",
+            n,
+            refused(26),
+        ),
+        (7, 4),
         visit,
     );
     visit.case(
@@ -211,6 +248,32 @@ fn write(about: About, record: Record, value: Vec<u8>, visit: &mut impl Visit) {
             prepare: move |m: &mut Plain<Vec<u8>>, i| m.table[i] = plain::record(record),
             call: |m: &mut Plain<Vec<u8>>, i| {
                 m.replica.write(&mut m.table, &mut m.store, i, &m.input)
+            },
+        },
+    );
+}
+
+/// A commit of 32 bytes to a valid record, on this stamp.
+fn commit(about: About, opened: (u32, u8), visit: &mut impl Visit) {
+    let n = about.records;
+    let stamp = model::engine::Timestamp::new(opened.0, opened.1);
+    visit.case(
+        about,
+        both!(by => On {
+            lent: Lent::new(ME, n, VALID, (opened, TEXT.to_vec())),
+            prepare: |e: &mut Lent<((u32, u8), Vec<u8>)>, i| e.set(i, VALID),
+            call: |e: &mut Lent<((u32, u8), Vec<u8>)>, i| {
+                let (opened, value) = &e.input;
+                by::commit(e.me, &mut e.table, &mut e.store, i, *opened, value)
+            },
+        }),
+        || On {
+            lent: Plain::new(ME, n, VALID, (stamp, TEXT.to_vec())),
+            prepare: |m: &mut Plain<_>, i| m.table[i] = plain::record(VALID),
+            call: |m: &mut Plain<(model::engine::Timestamp, Vec<u8>)>, i| {
+                let (opened, value) = &m.input;
+                m.replica
+                    .commit(&mut m.table, &mut m.store, i, *opened, value)
             },
         },
     );

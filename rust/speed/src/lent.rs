@@ -2,7 +2,7 @@
 
 use std::array::from_fn;
 
-use cetskobi::sys::{self, Admission, Answer, Arrival, Fetched, Message, Reading};
+use cetskobi::sys::{self, Admission, Answer, Arrival, Asked, Fetched, Message, Reading};
 use cetskobi::sys::{Replica, Written};
 use cetskobi::Record;
 
@@ -70,6 +70,13 @@ impl Answers for Fetched {
 impl Answers for Reading {
     fn told(&self) -> Told {
         (self.number, [self.len, 0, 0])
+    }
+}
+
+impl Answers for Asked {
+    fn told(&self) -> Told {
+        let handed_out = [self.len, self.tie.into(), self.version as usize];
+        (self.number, handed_out)
     }
 }
 

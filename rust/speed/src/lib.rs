@@ -8,8 +8,8 @@ pub mod pointers;
 macro_rules! over_slices {
     ($side:ident) => {
         use crate::pointers::$side as side;
-        use cetskobi::sys::{Accepted, Admission, Answer, Arrival, Fetched, Message, Reading};
-        use cetskobi::sys::{Replica, Written};
+        use cetskobi::sys::{Accepted, Admission, Answer, Arrival, Asked, Fetched, Message};
+        use cetskobi::sys::{Reading, Replica, Written};
 
         // SAFETY, for each call: every pointer and length come from one slice, and what
         // is written is borrowed mutably, so it overlaps nothing else that is passed.
@@ -41,6 +41,26 @@ macro_rules! over_slices {
         ) -> Answer {
             let (t, s, v) = (table.as_mut_ptr(), store.as_mut_ptr(), value.as_ptr());
             unsafe { side::write(me, t, table.len(), s, store.len(), i, v, value.len()) }
+        }
+
+        #[inline(always)]
+        pub fn ask(me: Replica, table: &[u8], store: &[u8], i: usize) -> Asked {
+            let (t, s) = (table.as_ptr(), store.as_ptr());
+            unsafe { side::ask(me, t, table.len(), s, store.len(), i) }
+        }
+
+        #[inline(always)]
+        pub fn commit(
+            me: Replica,
+            table: &mut [u8],
+            store: &mut [u8],
+            i: usize,
+            (version, tie): (u32, u8),
+            value: &[u8],
+        ) -> Answer {
+            let (t, s, v) = (table.as_mut_ptr(), store.as_mut_ptr(), value.as_ptr());
+            let (t_len, s_len, v_len) = (table.len(), store.len(), value.len());
+            unsafe { side::commit(me, t, t_len, s, s_len, i, version, tie, v, v_len) }
         }
 
         #[inline(always)]

@@ -105,6 +105,16 @@ impl Answers for Result<usize, Refusal> {
     }
 }
 
+/// The length of the value, and the stamp.
+impl Answers for Result<(usize, Timestamp), Refusal> {
+    fn told(&self) -> Told {
+        let Ok((len, opened)) = *self else {
+            return (engine::number(self), [0; 3]);
+        };
+        (0, [len, opened.tie.into(), opened.version as usize])
+    }
+}
+
 impl Answers for Result<Replica, Refusal> {
     fn told(&self) -> Told {
         let identity = match self {

@@ -8,7 +8,8 @@ pub const GONE: usize = usize::MAX;
 /// include/cetskobi.h, in the archive.
 pub mod engine {
     pub use cetskobi::sys::{
-        cetskobi_accept as accept, cetskobi_body as body, cetskobi_deliver as deliver,
+        cetskobi_accept as accept, cetskobi_ask as ask, cetskobi_body as body,
+        cetskobi_commit as commit, cetskobi_deliver as deliver,
         cetskobi_deliver_accepted as deliver_accepted, cetskobi_deliver_packet as deliver_packet,
         cetskobi_fetch as fetch, cetskobi_fetch_accepted as fetch_accepted, cetskobi_pack as pack,
         cetskobi_read as read, cetskobi_recipients as recipients, cetskobi_replay as replay,
@@ -20,7 +21,7 @@ pub mod engine {
 /// peer/peer.h, compiled by build.rs.
 #[rustfmt::skip]
 pub mod peer {
-    use cetskobi::sys::{Accepted, Admission, Answer, Arrival, Fetched, Message, Reading, Replica, Written};
+    use cetskobi::sys::{Accepted, Admission, Answer, Arrival, Asked, Fetched, Message, Reading, Replica, Written};
 
     unsafe extern "C" {
         #[link_name = "peer_start"]
@@ -31,6 +32,10 @@ pub mod peer {
         pub fn read(me: Replica, table: *const u8, table_len: usize, store: *const u8, store_len: usize, i: usize) -> Reading;
         #[link_name = "peer_write"]
         pub fn write(me: Replica, table: *mut u8, table_len: usize, store: *mut u8, store_len: usize, i: usize, value: *const u8, value_len: usize) -> Answer;
+        #[link_name = "peer_ask"]
+        pub fn ask(me: Replica, table: *const u8, table_len: usize, store: *const u8, store_len: usize, i: usize) -> Asked;
+        #[link_name = "peer_commit"]
+        pub fn commit(me: Replica, table: *mut u8, table_len: usize, store: *mut u8, store_len: usize, i: usize, version: u32, tie: u8, value: *const u8, value_len: usize) -> Answer;
         #[link_name = "peer_deliver"]
         pub fn deliver(me: Replica, table: *mut u8, table_len: usize, store: *mut u8, store_len: usize, i: usize, message: Message, value: *const u8, value_len: usize) -> Answer;
         #[link_name = "peer_replay"]

@@ -1,10 +1,11 @@
 use cetskobi::raw::{Replica, RECORD_BYTES};
-use model::engine::Record;
+use model::engine::{Record, Timestamp};
+use model::opened::Opened;
 
 use super::Run;
 use crate::crossing::{Fields, RecordBytes};
 use crate::memory::Memory;
-use crate::single::{by_engine, on_table, Case, Event};
+use crate::single::{by_engine, on_table, Case, Event, Outcome};
 
 /// All memory of so many records is compared after each entry.
 const SMALL: usize = 100;
@@ -14,7 +15,7 @@ const SMALL: usize = 100;
 const OLD: u8 = 77;
 
 /// A stamp as it is ordered.
-type Stamp = (u32, u8);
+pub(super) type Stamp = (u32, u8);
 
 /// A laptop, in the engine's memory and in the model's.
 pub struct Member {
@@ -31,6 +32,8 @@ pub struct Member {
     /// By record in replay: the stamp of this laptop's own save that the replay
     /// gave up, if the record was in invalid-write.
     pub(super) given_up: Vec<Option<Stamp>>,
+    /// By record: what the engine has handed out.
+    pub opened: Vec<Opened>,
 }
 
 impl Member {
@@ -64,7 +67,40 @@ impl Member {
             store,
             floor: vec![(0, 0); run.records],
             given_up: vec![None; run.records],
+            opened: vec![Opened::default(); run.records],
         })
+    }
+
+    /// What record `i` holds in the engine's memory, for what was handed out of it.
+    pub(super) fn look(&mut self, i: usize) {
+        let held = (self.memory.record(i), self.memory.slot(i));
+        let (Some(record), Some(slot), Some(opened)) = (held.0, held.1, self.opened.get_mut(i))
+        else {
+            return;
+        };
+        let value = slot.get(..usize::from(record.len)).unwrap_or_default();
+        opened.is_now(Timestamp::new(record.version, record.tie), value);
+    }
+
+    /// 02, Wish 5, after an accepted event of the engine's: see `model::opened`.
+    pub(super) fn opens(&mut self, case: &Case, outcome: &Outcome) -> Result<(), String> {
+        let Some(opened) = self.opened.get_mut(case.i) else {
+            return Ok(());
+        };
+        let stamp = match case.event {
+            Event::Commit {
+                opened: (version, tie),
+                ..
+            } => return opened.commits(Timestamp::new(version, tie)),
+            Event::Ask => outcome.opened,
+            // A read hands out no stamp: it is the record's.
+            Event::Read => self.memory.record(case.i).map_or((0, 0), |r| r.stamp()),
+            _ => return Ok(()),
+        };
+        let (at, len) = outcome.part;
+        let value = self.memory.store()[at..][..len].to_vec();
+        let held = (Timestamp::new(stamp.0, stamp.1), value);
+        opened.hands_out(held, case.event == Event::Ask)
     }
 
     /// The engine's memory as the model's table and store would have it.

@@ -1,9 +1,9 @@
 use std::collections::BTreeMap;
 
 use cetskobi::raw::{self, Accepted, Answer, Message, Replica};
-use model::engine::{bit, has, Record, State};
+use model::engine::{bit, has, Record, State, Timestamp};
 
-use super::member::Member;
+use super::member::{Member, Stamp};
 use super::{Entry, Run, Tally, What};
 use crate::bytes::Bytes;
 use crate::packet::EntryWords;
@@ -99,6 +99,8 @@ pub struct Group {
     since: usize,
     /// The packet that the last entry took a message of.
     arrived: Option<Arrived>,
+    /// By record and stamp: the laptops that have committed on it, a set.
+    committed: BTreeMap<(usize, Stamp), u16>,
 }
 
 impl Group {
@@ -112,6 +114,7 @@ impl Group {
             other,
             since: 0,
             arrived: None,
+            committed: BTreeMap::new(),
         })
     }
 
@@ -127,6 +130,10 @@ impl Group {
             return Ok(());
         };
         let member = &mut self.members[entry.at];
+        if outcome.number == 0 {
+            member.opens(&case, &outcome).map_err(at)?;
+        }
+        member.look(case.i);
         let before = member.table.get(case.i).copied();
         let expected = (self.other)(&case, &mut member.table, &mut member.store);
         if outcome != expected {
@@ -135,8 +142,9 @@ impl Group {
         member.me = outcome.me;
         member.same(case.i).map_err(at)?;
         let more = before.and_then(|before| given_up(member, &case, before, &outcome));
-        let label = label(member, &case, before.map(|record| record.state), &outcome);
+        let label = label(member, &case, before, &outcome);
         let mut labels = Vec::from_iter(more);
+        labels.extend(self.committed(entry.at, &case, before, &outcome));
         if let What::Packet { of, k } = &entry.what {
             labels.push(format!("one pass: {label}"));
             if *k == 0 {
@@ -162,6 +170,49 @@ impl Group {
         Ok(())
     }
 
+    /// 02, Wish 5: what a commit comes to besides. `before` is its record.
+    fn committed(
+        &mut self,
+        at: usize,
+        case: &Case,
+        before: Option<Record>,
+        outcome: &Outcome,
+    ) -> Vec<String> {
+        let (Event::Commit { opened, .. }, Some(before)) = (&case.event, before) else {
+            return Vec::new();
+        };
+        let member = &self.members[at];
+        let (stamp, held) = (Timestamp::new(opened.0, opened.1), before.timestamp);
+        let asked = member.opened[case.i].stamps().any(|asked| asked == stamp);
+        let valid = before.state == State::Valid;
+        let mut labels = Vec::new();
+        let mut is = |name: &str, so: bool| {
+            if so {
+                labels.push(format!("Commit: {name}"));
+            }
+        };
+        match outcome.number {
+            0 => {
+                let by = self.committed.entry((case.i, *opened)).or_default();
+                is("on what was handed out", asked);
+                is("another did on this stamp", *by & !bit(case.me.number) != 0);
+                *by |= bit(case.me.number);
+            }
+            26 => {
+                let alike = (stamp.version == held.version, stamp.tie == held.tie);
+                is("a newer save is under way", !valid && asked && stamp < held);
+                is("a newer save came between", valid && asked && stamp < held);
+                is("its stamp, not valid", !valid && stamp == held);
+                is("another version", valid && alike == (false, true));
+                let tie = valid && alike == (true, false);
+                is("another tie-breaker", tie && stamp.tie <= 15);
+                is("a tie-breaker above 15", tie && stamp.tie > 15);
+            }
+            _ => {}
+        }
+        labels
+    }
+
     /// The entry's event, and what the engine did. None for a delivery of
     /// nothing.
     fn by_engine(&mut self, entry: &Entry) -> Result<Option<(Case, Outcome)>, String> {
@@ -170,6 +221,8 @@ impl Group {
         };
         let of = match &entry.what {
             What::Own { i, event } => {
+                // As a commit finds it.
+                member.look(*i);
                 let case = Case::on(member.me, *i, event.clone());
                 let outcome = by_engine(&case, &mut member.memory);
                 return Ok(Some((case, outcome)));
@@ -316,8 +369,9 @@ impl Group {
 
 /// What an entry comes to: its kind with the state that it was accepted at, or
 /// with its answer.
-fn label(member: &Member, case: &Case, before: Option<State>, outcome: &Outcome) -> String {
+fn label(member: &Member, case: &Case, before: Option<Record>, outcome: &Outcome) -> String {
     let kind = case.kind();
+    let before = before.map(|record| record.state);
     let others = member.me.view & !bit(member.me.number);
     let all = member.table.get(case.i).map(|r| others & !r.acks == 0);
     match (outcome.number, before) {
@@ -330,6 +384,7 @@ fn label(member: &Member, case: &Case, before: Option<State>, outcome: &Outcome)
         (16, Some(state @ (State::Invalid | State::InvalidWrite))) => {
             format!("{kind:?} at {state:?} answers 16")
         }
+        (26, Some(state)) => format!("{kind:?} at {state:?} answers 26"),
         (number, _) => format!("{kind:?} answers {number}"),
     }
 }

@@ -1,5 +1,4 @@
 use super::{Carry, Group, OnTable, Tally};
-use crate::bytes::Bytes;
 use crate::shrink::{drops, Smaller};
 use crate::single::Event;
 
@@ -77,12 +76,9 @@ impl Smaller for Run {
         });
         let alike = Some(alike).filter(|run| run != self);
         let plain = (0..self.entries.len()).filter_map(|k| match &self.entries[k].what {
-            What::Own {
-                i,
-                event: Event::Write { value },
-            } if !value.is_empty() => {
-                let (i, value) = (*i, Bytes::default());
-                let event = Event::Write { value };
+            What::Own { i, event } if event.value().is_some_and(|v| !v.is_empty()) => {
+                let (i, mut event) = (*i, event.clone());
+                event.value_mut()?.clear();
                 Some(self.with(|run| run.entries[k].what = What::Own { i, event }))
             }
             _ => None,

@@ -3,13 +3,14 @@
 
 use std::collections::VecDeque;
 
-use model::engine::{bit, has};
+use model::engine::{bit, has, Timestamp};
 use model::packet::{COUNT_LIMIT, PACKET_LIMIT};
 use model::rng::Rng;
 
 use super::{Group, Member, Post, Run, What};
+use crate::bytes::Bytes;
 use crate::crossing::Fields;
-use crate::single::{some_bytes, Event};
+use crate::single::{some_bytes, some_number, some_word, Event};
 
 /// Posts under way are at most so many; older ones are lost.
 const UNDER_WAY: usize = 60;
@@ -113,13 +114,15 @@ impl Schedule {
             0 => anyone,
             _ => some_member(rng, group, i, |record| record.state == state),
         };
-        let (at, event) = match rng.below(100) {
+        let (at, event) = match rng.below(110) {
             0..4 => (anyone, Event::Read),
             4..10 => {
-                let len = [4, 8, 192, 193, rng.below(193)][rng.below(5)];
-                let value = some_bytes(rng, len);
+                let value = some_value(rng);
                 (anyone, Event::Write { value })
             }
+            // 02, Wish 5.
+            100..105 => (at(rng, 0), Event::Ask),
+            105..110 => return self.commit(rng, group, (anyone, i)),
             10..18 => return self.replay(rng, group, (anyone, i)),
             18..24 => {
                 let state = 3 + rng.below(2) as u8;
@@ -160,6 +163,51 @@ impl Schedule {
         }
         let (at, i) = rng.pick(&fit).unwrap_or(any);
         let event = Event::Replay;
+        (at, What::Own { i, event })
+    }
+
+    /// A commit by a laptop that has asked, mostly on the last stamp that it was
+    /// handed out, which may be stale; else on an earlier one, one beside it, that of
+    /// the record, or any.
+    fn commit(&self, rng: &mut Rng, group: &Group, any: (usize, usize)) -> (usize, What) {
+        let last = |at: usize, i: usize| {
+            let opened = group.members[at].opened.get(i);
+            opened.and_then(|opened| opened.stamps().next_back())
+        };
+        let (mut fresh, mut asked) = (Vec::new(), vec![any]);
+        for (at, member) in group.members.iter().enumerate() {
+            for &i in &self.hot {
+                let held = member.memory.record(i).filter(|record| record.state == 0);
+                let held = held.map(|record| Timestamp::new(record.version, record.tie));
+                match last(at, i) {
+                    Some(stamp) if held == Some(stamp) => fresh.push((at, i)),
+                    Some(_) => asked.push((at, i)),
+                    None => {}
+                }
+            }
+        }
+        let fit = if rng.chance(1, 2) { fresh } else { asked };
+        let (at, i) = rng.pick(&fit).unwrap_or(any);
+        let member = &group.members[at];
+        let held = member.memory.record(i).map_or((0, 0), |r| r.stamp());
+        let (version, tie) = last(at, i).map_or(held, |last| (last.version, last.tie));
+        let opened = match rng.below(16) {
+            0 => {
+                let all = member.opened.get(i).map(|opened| opened.stamps());
+                let all: Vec<Timestamp> = all.into_iter().flatten().collect();
+                let one = rng.pick(&all);
+                one.map_or(held, |one| (one.version, one.tie))
+            }
+            1 => (version, rng.below(16) as u8),
+            2 => (version, 16 + rng.below(240) as u8),
+            3 => (version.wrapping_add(1), tie),
+            4 => (version.wrapping_sub(1), tie),
+            5 => held,
+            6 => (some_word(rng), some_number(rng)),
+            _ => (version, tie),
+        };
+        let value = some_value(rng);
+        let event = Event::Commit { opened, value };
         (at, What::Own { i, event })
     }
 
@@ -322,6 +370,12 @@ impl Schedule {
         }
         (at, What::Packet { of, k: 0 })
     }
+}
+
+/// A text to save, now and then one that is too long.
+fn some_value(rng: &mut Rng) -> Bytes {
+    let len = [4, 8, 192, 193, rng.below(193)][rng.below(5)];
+    some_bytes(rng, len)
 }
 
 /// Different laptop numbers, in any order.

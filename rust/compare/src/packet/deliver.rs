@@ -41,6 +41,7 @@ pub fn by_model(case: &Case, memory: &mut Memory) -> Outcome {
             number: number(&answer),
             sent: sent_of(answer.unwrap_or_default()),
             part: (0, 0),
+            opened: (0, 0),
             me,
         }
     })

@@ -4,13 +4,15 @@ use model::engine::Record;
 use crate::bytes::Bytes;
 use crate::crossing::Fields;
 
-/// An event of document 01, with what it takes along.
+/// An event of document 01 or of document 02's Wish 5, with what it takes along.
 #[derive(Clone, Debug, PartialEq)]
 pub enum Event {
     Start,
     View { epoch: u32, set: u16 },
     Read,
     Write { value: Bytes },
+    Ask,
+    Commit { opened: (u32, u8), value: Bytes },
     Replay,
     Deliver { message: Message, value: Bytes },
     Validate,
@@ -24,6 +26,8 @@ pub enum Kind {
     View,
     Read,
     Write,
+    Ask,
+    Commit,
     Replay,
     Inv,
     Ack,
@@ -34,12 +38,33 @@ pub enum Kind {
     Resend,
 }
 
+impl Event {
+    /// The value that comes with the event.
+    pub fn value(&self) -> Option<&Bytes> {
+        match self {
+            Event::Write { value } | Event::Commit { value, .. } => Some(value),
+            Event::Deliver { value, .. } => Some(value),
+            _ => None,
+        }
+    }
+
+    pub fn value_mut(&mut self) -> Option<&mut Bytes> {
+        match self {
+            Event::Write { value } | Event::Commit { value, .. } => Some(value),
+            Event::Deliver { value, .. } => Some(value),
+            _ => None,
+        }
+    }
+}
+
 impl Kind {
-    pub const ALL: [Kind; 11] = [
+    pub const ALL: [Kind; 13] = [
         Kind::Start,
         Kind::View,
         Kind::Read,
         Kind::Write,
+        Kind::Ask,
+        Kind::Commit,
         Kind::Replay,
         Kind::Inv,
         Kind::Ack,
@@ -49,13 +74,16 @@ impl Kind {
         Kind::Resend,
     ];
 
-    /// The numbers that this event can answer (01, "The questions, in order").
+    /// The numbers that this event can answer (01, "The questions, in order", and
+    /// 02, Wish 5).
     pub fn answers(self) -> &'static [usize] {
         match self {
             Kind::Start => &[0, 1, 2, 3],
             Kind::View => &[0, 1, 3, 18, 19],
             Kind::Read => &[0, 1, 2, 3, 4, 5, 6],
             Kind::Write => &[0, 1, 2, 3, 4, 5, 7, 8, 9],
+            Kind::Ask => &[0, 1, 2, 3, 4, 5, 6],
+            Kind::Commit => &[0, 1, 2, 3, 4, 5, 26, 8, 9],
             Kind::Replay => &[0, 1, 2, 3, 4, 5, 16],
             Kind::Inv => &[0, 1, 2, 3, 4, 5, 10, 11, 12],
             Kind::Ack => &[0, 1, 2, 3, 4, 5, 10, 11, 12, 13],
@@ -104,6 +132,8 @@ impl Case {
             Event::View { .. } => Kind::View,
             Event::Read => Kind::Read,
             Event::Write { .. } => Kind::Write,
+            Event::Ask => Kind::Ask,
+            Event::Commit { .. } => Kind::Commit,
             Event::Replay => Kind::Replay,
             Event::Deliver { message, .. } => match message.kind {
                 1 => Kind::Inv,
@@ -120,13 +150,5 @@ impl Case {
     pub fn lend(&mut self, records: usize) {
         self.table = RECORD_BYTES * records;
         self.store = Record::VALUE_LIMIT * records;
-    }
-
-    /// The value that comes with the event.
-    pub fn value(&mut self) -> Option<&mut Bytes> {
-        match &mut self.event {
-            Event::Write { value } | Event::Deliver { value, .. } => Some(value),
-            _ => None,
-        }
     }
 }

@@ -15,7 +15,7 @@ use crate::settings::Settings;
 use crate::shrink::{shrink, Found};
 
 /// Random events of the usual count.
-const EVENTS: usize = 1_200_000;
+const EVENTS: usize = 1_500_000;
 
 /// Plays random events by the engine and by `other`, which is the model. Gives
 /// how often each answer came.

@@ -1,7 +1,7 @@
 use std::fmt::Debug;
 
-use cetskobi::raw::{self, Admission, Answer, Replica};
-use model::engine::{number, Envelope, Record};
+use cetskobi::raw::{self, Admission, Answer, Asked, Reading, Replica};
+use model::engine::{number, Envelope, Record, Timestamp};
 use model::rng::Rng;
 
 use super::{Case, Event};
@@ -15,8 +15,10 @@ pub struct Outcome {
     pub number: u8,
     /// Kind, tie-breaker and version of the message that leaves, or zeros.
     pub sent: (u8, u8, u32),
-    /// Of a read: where the part begins in the store, and its length.
+    /// Of a read or an ask: where the part begins in the store, and its length.
     pub part: (usize, usize),
+    /// Version and tie-breaker of the timestamp that an ask hands out, or zeros.
+    pub opened: (u32, u8),
     /// The identity from then on.
     pub me: Replica,
 }
@@ -28,24 +30,15 @@ pub fn by_engine(case: &Case, memory: &mut Memory) -> Outcome {
     let (me, i) = (case.me, case.i);
     let (table, store) = memory.lend();
     match &case.event {
-        Event::Start => admitted(raw::start(me.number, me.view, table, store)),
-        Event::View { epoch, set } => admitted(raw::view(me, *epoch, *set)),
-        Event::Read => {
-            let read = raw::read(me, table, store, i);
-            // A refused read gives the empty part, wherever that is.
-            let at = if read.number == 0 {
-                Record::VALUE_LIMIT * i
-            } else {
-                0
-            };
-            Outcome {
-                number: read.number,
-                sent: (0, 0, 0),
-                part: (at, read.len),
-                me,
-            }
-        }
+        Event::Start => Outcome::admitted(raw::start(me.number, me.view, table, store)),
+        Event::View { epoch, set } => Outcome::admitted(raw::view(me, *epoch, *set)),
+        Event::Read => Outcome::of_read(me, i, raw::read(me, table, store, i)),
         Event::Write { value } => Outcome::of(me, raw::write(me, table, store, i, value)),
+        Event::Ask => Outcome::of_ask(me, i, raw::ask(me, table, store, i)),
+        Event::Commit { opened, value } => {
+            let (version, tie) = *opened;
+            Outcome::of(me, raw::commit(me, table, store, i, version, tie, value))
+        }
         Event::Replay => Outcome::of(me, raw::replay(me, table, store, i)),
         Event::Deliver { message, value } => {
             Outcome::of(me, raw::deliver(me, table, store, i, *message, value))
@@ -62,17 +55,50 @@ impl Outcome {
             number: answer.number,
             sent: (answer.kind, answer.tie, answer.version),
             part: (0, 0),
+            opened: (0, 0),
             me,
         }
     }
-}
 
-fn admitted(admission: Admission) -> Outcome {
-    Outcome {
-        number: admission.number,
-        sent: (0, 0, 0),
-        part: (0, 0),
-        me: admission.replica,
+    /// Of a start or a view.
+    pub fn admitted(admission: Admission) -> Outcome {
+        Outcome {
+            number: admission.number,
+            sent: (0, 0, 0),
+            part: (0, 0),
+            opened: (0, 0),
+            me: admission.replica,
+        }
+    }
+
+    /// Of a read of record `i`. A refused one gives the empty part, wherever that is.
+    pub fn of_read(me: Replica, i: usize, read: Reading) -> Outcome {
+        let at = if read.number == 0 {
+            Record::VALUE_LIMIT * i
+        } else {
+            0
+        };
+        Outcome {
+            number: read.number,
+            sent: (0, 0, 0),
+            part: (at, read.len),
+            opened: (0, 0),
+            me,
+        }
+    }
+
+    /// Of an ask: as of a read, and the timestamp.
+    pub fn of_ask(me: Replica, i: usize, asked: Asked) -> Outcome {
+        let Asked {
+            number,
+            tie,
+            version,
+            len,
+        } = asked;
+        Outcome {
+            opened: (version, tie),
+            ..Outcome::of_read(me, i, Reading { number, len })
+        }
     }
 }
 
@@ -101,6 +127,9 @@ pub fn on_table(case: &Case, table: &mut [Record], store: &mut [u8]) -> Outcome 
     } = case.me;
     let mut replica = replica_of(case.me);
     let mut part = (0, 0);
+    let mut handed_out = (0, 0);
+    let begin = store.as_ptr() as usize;
+    let part_of = |value: &[u8]| (value.as_ptr() as usize - begin, value.len());
     let i = case.i;
     let answer = match &case.event {
         Event::Start => {
@@ -115,15 +144,22 @@ pub fn on_table(case: &Case, table: &mut [Record], store: &mut [u8]) -> Outcome 
         Event::View { epoch, set } => replica.change_view(*epoch, *set),
         Event::Read => {
             let read = replica.read(table, store, i);
-            if let Ok(value) = read {
-                part = (
-                    value.as_ptr() as usize - store.as_ptr() as usize,
-                    value.len(),
-                );
-            }
+            part = read.map_or((0, 0), part_of);
             read.map(|_| None)
         }
         Event::Write { value } => replica.write(table, store, i, value),
+        Event::Ask => {
+            let ask = replica.ask(table, store, i);
+            if let Ok((value, Timestamp { version, tie })) = ask {
+                part = part_of(value);
+                handed_out = (version, tie);
+            }
+            ask.map(|_| None)
+        }
+        Event::Commit { opened, value } => {
+            let opened = Timestamp::new(opened.0, opened.1);
+            replica.commit(table, store, i, opened, value)
+        }
         Event::Replay => replica.replay(table, store, i),
         Event::Deliver { message, value } => {
             let envelope = Envelope {
@@ -141,6 +177,7 @@ pub fn on_table(case: &Case, table: &mut [Record], store: &mut [u8]) -> Outcome 
         number: number(&answer),
         sent: sent_of(answer.unwrap_or_default()),
         part,
+        opened: handed_out,
         me: identity(&replica),
     }
 }

@@ -74,15 +74,12 @@ impl Case {
     }
 
     fn lesser_value(&self) -> impl Iterator<Item = Case> + '_ {
-        let value = match &self.event {
-            Event::Write { value } | Event::Deliver { value, .. } => &value[..],
-            _ => &[],
-        };
+        let value = self.event.value().map_or(&[][..], |value| &value[..]);
         let values = drops(value).chain(plainer(value));
         let values = values.filter(move |other| other != value);
         values.map(|other| {
             self.with(|case| {
-                if let Some(value) = case.value() {
+                if let Some(value) = case.event.value_mut() {
                     value.0 = other;
                 }
             })
@@ -124,6 +121,9 @@ impl Case {
         ]);
         match &mut self.event {
             Event::View { epoch, set } => all.extend([Number::Word(epoch), Number::Short(set)]),
+            Event::Commit { opened, .. } => {
+                all.extend([Number::Word(&mut opened.0), Number::Byte(&mut opened.1)])
+            }
             Event::Deliver { message, .. } => all.extend([
                 Number::Byte(&mut message.kind),
                 Number::Byte(&mut message.sender),

@@ -156,6 +156,18 @@ fn event(rng: &mut Rng, kind: Kind, me: &Replica, record: &mut Fields) -> Event 
                 value: some_bytes(rng, len),
             }
         }
+        Kind::Ask => {
+            record.state = 0;
+            Event::Ask
+        }
+        Kind::Commit => {
+            record.state = 0;
+            let len = some_len(rng);
+            Event::Commit {
+                opened: record.stamp(),
+                value: some_bytes(rng, len),
+            }
+        }
         Kind::Replay => {
             record.state = 1 + rng.below(2) as u8;
             if let Some(gone) = one_of(rng, !me.view) {
@@ -330,6 +342,20 @@ fn spoil_event(rng: &mut Rng, case: &mut Case) {
             1 => case.record.version = u32::MAX - rng.below(2) as u32,
             _ => *value = some_bytes(rng, len),
         },
+        Event::Commit { opened, value } => match rng.below(12) {
+            0..2 => case.record.state = rng.below(5) as u8,
+            2 => opened.1 = (opened.1 + 1 + rng.below(15) as u8) % 16,
+            3 => opened.1 = [16, 17, 255, opened.1 | 16, some_number(rng)][rng.below(5)],
+            4 => opened.0 = opened.0.wrapping_sub(1),
+            5 => opened.0 = opened.0.wrapping_add(1),
+            6 => *opened = (some_word(rng), some_number(rng)),
+            7 => *opened = case.record.written(),
+            8 => {
+                opened.0 = u32::MAX - rng.below(2) as u32;
+                case.record.version = opened.0;
+            }
+            _ => *value = some_bytes(rng, len),
+        },
         Event::Deliver { message, value } => match rng.below(12) {
             0 => message.epoch = some_word(rng),
             1 => message.epoch = message.epoch.wrapping_add(1),
@@ -348,9 +374,11 @@ fn spoil_event(rng: &mut Rng, case: &mut Case) {
             0 => case.record.state = rng.below(5) as u8,
             _ => case.record.acks &= some_set(rng),
         },
-        Event::Start | Event::Read | Event::Replay | Event::Resend => match rng.below(2) {
-            0 => case.record.state = rng.below(5) as u8,
-            _ => case.record.writer = rng.below(16) as u8,
-        },
+        Event::Start | Event::Read | Event::Ask | Event::Replay | Event::Resend => {
+            match rng.below(2) {
+                0 => case.record.state = rng.below(5) as u8,
+                _ => case.record.writer = rng.below(16) as u8,
+            }
+        }
     }
 }

@@ -9,7 +9,7 @@ use crate::crossing::Fields;
 /// How often each kind of event gave each answer.
 #[derive(Clone, Debug, Default)]
 pub struct Tally {
-    answers: [[u64; 20]; Kind::ALL.len()],
+    answers: [[u64; 27]; Kind::ALL.len()],
     /// Accepted, by the state before: also what was not a move of each state.
     accepted: [[u64; 5]; Kind::ALL.len()],
     /// Accepted INVs that were not greater, by the state.
@@ -22,6 +22,8 @@ pub struct Tally {
     /// Replays refused by question 16, by the state: with the last writer gone,
     /// and with it in the view.
     unreplayed: [[u64; 5]; 2],
+    /// Commits refused by question 26, by what is so there.
+    uncommitted: [u64; NOT_AS_OPENED.len()],
     /// Refused by question 2, by what is wrong with the memory.
     sizes: [u64; SIZES.len()],
     /// Refused by question 5, by what alone is wrong with the record.
@@ -59,6 +61,56 @@ const UNSOUND: [(&str, Test); 6] = [
     }),
 ];
 
+/// What a commit can find that question 26 refuses (02, Wish 5), and the test of it.
+const NOT_AS_OPENED: [(&str, Test); 12] = [
+    ("its timestamp, at I", |case| brings(case, 1)),
+    ("its timestamp, at X", |case| brings(case, 2)),
+    ("its timestamp, at W", |case| brings(case, 3)),
+    ("its timestamp, at R", |case| brings(case, 4)),
+    ("another version alone, at V", |case| {
+        differs(case, |(version, tie), held| {
+            version != held.0 && tie == held.1
+        })
+    }),
+    ("another tie-breaker alone, at V", |case| {
+        differs(case, |(version, tie), held| {
+            version == held.0 && tie != held.1 && tie <= 15
+        })
+    }),
+    ("a tie-breaker above 15 alone, at V", |case| {
+        differs(case, |(version, tie), held| version == held.0 && tie > 15)
+    }),
+    ("an older timestamp, at V", |case| {
+        differs(case, |opened, held| opened < held)
+    }),
+    ("a newer timestamp, at V", |case| {
+        differs(case, |opened, held| opened > held)
+    }),
+    ("the last-write timestamp, at V", |case| {
+        differs(case, |opened, _| opened == case.record.written())
+    }),
+    ("a value too long as well", |case| {
+        case.event.value().is_some_and(|value| value.len() > 192)
+    }),
+    ("the last version as well", |case| {
+        case.record.version == u32::MAX
+    }),
+];
+
+/// A commit on the timestamp that the record has in this state.
+fn brings(case: &Case, state: u8) -> bool {
+    let stamp = case.record.stamp();
+    case.record.state == state
+        && matches!(case.event, Event::Commit { opened, .. } if opened == stamp)
+}
+
+/// A commit on a timestamp that differs so from that of a valid record.
+fn differs(case: &Case, so: impl Fn((u32, u8), (u32, u8)) -> bool) -> bool {
+    let stamp = case.record.stamp();
+    case.record.state == 0
+        && matches!(case.event, Event::Commit { opened, .. } if so(opened, stamp))
+}
+
 impl Tally {
     pub fn count(&mut self, case: &Case, outcome: &Outcome) {
         let kind = case.kind();
@@ -67,6 +119,11 @@ impl Tally {
             2 => {
                 for (count, (_, wrong)) in self.sizes.iter_mut().zip(SIZES) {
                     *count += u64::from(wrong(case));
+                }
+            }
+            26 => {
+                for (count, (_, so)) in self.uncommitted.iter_mut().zip(NOT_AS_OPENED) {
+                    *count += u64::from(so(case));
                 }
             }
             5 => {
@@ -122,6 +179,7 @@ impl Tally {
             states(kind).iter().map(|&state| counts[state])
         });
         let wrong = self.sizes.into_iter().chain(self.unsound);
+        let wrong = wrong.chain(self.uncommitted);
         let acks = self.last.into_iter().chain(self.many);
         let [gone, present] = &self.unreplayed;
         let unreplayed = UNREPLAYED.iter().map(|&state| gone[state]);
@@ -136,6 +194,20 @@ impl Tally {
     pub fn replays(&self) -> [[u64; 2]; 2] {
         let accepted = &self.accepted[Kind::Replay as usize];
         [1, 2].map(|state| [accepted[state], self.unreplayed[1][state]])
+    }
+
+    /// 02, Wish 5: asks and commits came often, with every answer of their own; and 26
+    /// in each of its cases.
+    pub fn opened_often(&self) {
+        let [ask, commit] = [Kind::Ask, Kind::Commit].map(|kind| &self.answers[kind as usize]);
+        let counts = [ask[0], ask[6], commit[0], commit[26], commit[8], commit[9]];
+        let floors = [45_000, 9_000, 35_000, 15_000, 3_000, 2_800];
+        let often = counts
+            .iter()
+            .zip(floors)
+            .all(|(&times, floor)| times >= floor);
+        assert!(often, "{counts:?} of {floors:?}\n{self}");
+        assert!(self.uncommitted.iter().all(|&times| times >= 700), "{self}");
     }
 
     /// Answers that no event of this kind can give.
@@ -175,7 +247,7 @@ const UNREPLAYED: [usize; 3] = [0, 3, 4];
 fn states(kind: Kind) -> &'static [usize] {
     match kind {
         Kind::Start | Kind::View | Kind::Unknown => &[],
-        Kind::Read => &[0],
+        Kind::Read | Kind::Ask | Kind::Commit => &[0],
         Kind::Write => &[0, 1],
         Kind::Replay => &[1, 2],
         Kind::Inv => &[0, 1, 2, 3, 4],
@@ -233,6 +305,9 @@ impl fmt::Display for Tally {
             write!(f, " {}:{count}", letter(state))?;
         }
         writeln!(f)?;
+        for (count, (name, _)) in self.uncommitted.iter().zip(NOT_AS_OPENED) {
+            writeln!(f, "          {count} commits refused by 26: {name}")?;
+        }
         let sizes = self.sizes.iter().zip(SIZES);
         for (count, (name, _)) in sizes.chain(self.unsound.iter().zip(UNSOUND)) {
             writeln!(f, "          {count} with {name}")?;

@@ -3,7 +3,7 @@
 //! the whole memory do, since an event looks at no other record (01, after the
 //! questions).
 
-use super::{Answer, Envelope, Record, Refusal, Replica, Slot};
+use super::{Answer, Envelope, Record, Refusal, Replica, Slot, Timestamp};
 
 /// How much memory is lent: the count of records, and the store's bytes.
 #[derive(Clone, Copy, Debug, PartialEq, Eq)]
@@ -56,6 +56,30 @@ impl Replica {
     ) -> Answer {
         self.ask_record(sizes, number)?;
         self.write_step(record, slot, value)
+    }
+
+    pub fn ask_one<'a>(
+        &self,
+        sizes: Sizes,
+        number: usize,
+        record: &Record,
+        slot: &'a Slot,
+    ) -> Result<(&'a [u8], Timestamp), Refusal> {
+        self.ask_record(sizes, number)?;
+        self.ask_step(record, slot)
+    }
+
+    pub fn commit_one(
+        &self,
+        sizes: Sizes,
+        number: usize,
+        record: &mut Record,
+        slot: &mut Slot,
+        opened: Timestamp,
+        value: &[u8],
+    ) -> Answer {
+        self.ask_record(sizes, number)?;
+        self.commit_step(record, slot, opened, value)
     }
 
     pub fn replay_one(&self, sizes: Sizes, number: usize, record: &mut Record) -> Answer {

@@ -53,7 +53,7 @@ impl Record {
     // The moves, each on the record's own value. Their questions are asked in
     // `steps`.
 
-    /// 01, "Write", for a value of this length. The version is not the last.
+    /// 01, "Write", also that of a commit, for a value of this length. The version is not the last.
     pub(super) fn written(self, number: u8, len: u8) -> Record {
         let timestamp = Timestamp::new(self.timestamp.version + 1, number);
         Record {

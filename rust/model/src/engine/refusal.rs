@@ -1,11 +1,11 @@
-//! Refusals: the questions of document 01 by number.
+//! Refusals: the questions of document 01, and of document 02's Wishes, by number.
 
 use std::fmt;
 
 use super::Message;
 
 /// The question that an event or a packet fails. The discriminant is its
-/// number in document 01.
+/// number in the documents.
 #[derive(Clone, Copy, Debug, PartialEq, Eq, Hash)]
 #[repr(u8)]
 pub enum Refusal {
@@ -60,10 +60,13 @@ pub enum Refusal {
     PacketMessages = 24,
     /// The packet to write is too long.
     PacketRoom = 25,
+    /// Commit on a record that is not valid, or not with the stamp that it was
+    /// opened with (02, Wish 5).
+    NotAsOpened = 26,
 }
 
 impl Refusal {
-    /// Its number in document 01.
+    /// Its number in the documents.
     pub const fn number(self) -> u8 {
         self as u8
     }

@@ -1,7 +1,9 @@
 //! The steps on one record: question 5, the event's own questions, the move.
 //! Questions 1 to 4 have been asked by the caller.
 
-use super::{ask, has, Answer, Envelope, Message, Record, Refusal, Replica, Slot, State};
+use super::{
+    ask, has, Answer, Envelope, Message, Record, Refusal, Replica, Slot, State, Timestamp,
+};
 
 impl Replica {
     pub(super) fn read_step<'a>(
@@ -20,6 +22,38 @@ impl Replica {
             matches!(record.state, State::Valid | State::Invalid),
             Refusal::NotWritable,
         )?;
+        self.save(record, slot, value)
+    }
+
+    /// 02, Wish 5: the value and the stamp, refused as a read is.
+    pub(super) fn ask_step<'a>(
+        &self,
+        record: &Record,
+        slot: &'a Slot,
+    ) -> Result<(&'a [u8], Timestamp), Refusal> {
+        let value = self.read_step(record, slot)?;
+        Ok((value, record.timestamp))
+    }
+
+    /// 02, Wish 5: 26 in the place of 7, then as a write. A tie-breaker above 15
+    /// is no sound record's, so it is refused as any other stamp.
+    pub(super) fn commit_step(
+        &self,
+        record: &mut Record,
+        slot: &mut Slot,
+        opened: Timestamp,
+        value: &[u8],
+    ) -> Answer {
+        self.ask_sound(record)?;
+        ask(
+            record.state == State::Valid && record.timestamp == opened,
+            Refusal::NotAsOpened,
+        )?;
+        self.save(record, slot, value)
+    }
+
+    /// What a write and a commit go on with: questions 8 and 9, and 01, "Write".
+    fn save(&self, record: &mut Record, slot: &mut Slot, value: &[u8]) -> Answer {
         ask(value.len() <= Record::VALUE_LIMIT, Refusal::ValueTooLong)?;
         ask(record.timestamp.version < u32::MAX, Refusal::LastVersion)?;
 

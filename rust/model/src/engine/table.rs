@@ -1,7 +1,7 @@
 //! The events over lent memory: a table of records and a store of 192 bytes
 //! for each.
 
-use super::{Answer, Envelope, Message, Record, Refusal, Replica, Sizes, Slot};
+use super::{Answer, Envelope, Message, Record, Refusal, Replica, Sizes, Slot, Timestamp};
 
 impl Replica {
     /// A fresh start (01, "Laptop and record").
@@ -39,6 +39,33 @@ impl Replica {
     ) -> Answer {
         self.ask_record(Sizes::of(table, store), record)?;
         self.write_step(&mut table[record], slot_mut(store, record)?, value)
+    }
+
+    /// An ask: the value as a read gives it, and the stamp, which a commit brings
+    /// back (02, Wish 5). A refused ask gives neither.
+    pub fn ask<'a>(
+        &self,
+        table: &[Record],
+        store: &'a [u8],
+        record: usize,
+    ) -> Result<(&'a [u8], Timestamp), Refusal> {
+        self.ask_record(Sizes::of(table, store), record)?;
+        self.ask_step(&table[record], slot(store, record)?)
+    }
+
+    /// A commit: a write of this value, if the record is still valid with the
+    /// stamp that it was opened with (02, Wish 5).
+    pub fn commit(
+        &self,
+        table: &mut [Record],
+        store: &mut [u8],
+        record: usize,
+        opened: Timestamp,
+        value: &[u8],
+    ) -> Answer {
+        self.ask_record(Sizes::of(table, store), record)?;
+        let slot = slot_mut(store, record)?;
+        self.commit_step(&mut table[record], slot, opened, value)
     }
 
     /// A replay of a record, invalid or invalid-write, whose last writer is gone

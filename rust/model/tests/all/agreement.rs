@@ -1,14 +1,14 @@
 //! Random runs of small groups, with loss, repetition, reordering and changes
-//! of view. Demand 3 is checked after every event.
+//! of view. Demand 3 is checked after every event, and so is what Wish 5 promises.
 
 use std::collections::{BTreeMap, BTreeSet};
 
-use model::engine::{bit, Answer, Message, Record, Refusal, State};
+use model::engine::{bit, Answer, Message, Record, Refusal, State, Timestamp};
 use model::rng::Rng;
 
-use crate::group::{Event, Group};
+use crate::group::{Commit, Event, Group};
 use crate::schedule::Schedule;
-use crate::support::{ack, inv, rng, set, val};
+use crate::support::{ack, inv, rng, set, val, Member};
 
 const RUNS: usize = 8000;
 const EVENTS: usize = 160;
@@ -28,6 +28,8 @@ fn name(
     match *event {
         Event::Read { .. } => "read",
         Event::Write { .. } => "write",
+        Event::Ask { .. } => "ask",
+        Event::Commit { .. } => "commit",
         Event::Replay { record } => match before[record].state {
             State::InvalidWrite => "replay from invalid-write",
             _ => "replay",
@@ -80,6 +82,40 @@ fn end(name: &str) -> &'static str {
     }
 }
 
+/// The names under which a commit on this stamp is tallied besides, given the
+/// record before; whether another has committed on it; and whether this replica
+/// was handed it out.
+fn of_commit(
+    answer: &Answer,
+    before: &Record,
+    opened: Timestamp,
+    saved: bool,
+    was_asked: bool,
+) -> Vec<&'static str> {
+    let held = before.timestamp;
+    let names = [
+        ("commit on a stamp of two", answer.is_ok() && saved),
+        ("commit, 8", *answer == Err(Refusal::ValueTooLong)),
+    ];
+    let refused = *answer == Err(Refusal::NotAsOpened);
+    let valid = before.state == State::Valid;
+    let one_version = held.version == opened.version && held.tie != opened.tie;
+    let one_tie = held.tie == opened.tie && held.version != opened.version;
+    let of_26 = [
+        ("26, not valid", !valid),
+        (
+            "26, a newer save between",
+            valid && was_asked && opened < held,
+        ),
+        ("26, the tie-breaker alone", valid && one_version),
+        ("26, the version alone", valid && one_tie),
+        ("26, a tie-breaker above 15", opened.tie > 15),
+    ];
+    let of_26 = of_26.map(|(name, so)| (name, refused && so));
+    let all = names.into_iter().chain(of_26);
+    all.filter(|(_, so)| *so).map(|(name, _)| name).collect()
+}
+
 /// Do all others in this member's view sit in invalid-write?
 fn all_overtaken(group: &Group, at: usize, record: usize) -> bool {
     let members = group.members.iter();
@@ -95,13 +131,37 @@ type Besides = fn(&Record, &mut Record);
 fn nothing(_: &Record, _: &mut Record) {}
 
 fn run(rng: &mut Rng, together: bool, tally: &mut Tally, besides: Besides) -> Result<(), String> {
+    run_with(rng, together, tally, besides, Member::commit)
+}
+
+fn run_with(
+    rng: &mut Rng,
+    together: bool,
+    tally: &mut Tally,
+    besides: Besides,
+    commit: Commit,
+) -> Result<(), String> {
     let (mut group, mut schedule) = Schedule::start(rng, together);
+    group.commit = commit;
+    // The commits: by record and stamp, who.
+    let mut saved: BTreeMap<(usize, Timestamp), BTreeSet<usize>> = BTreeMap::new();
     // The records that were replayed from invalid-write and still are in replay.
     let mut given_up = BTreeSet::new();
     for _ in 0..EVENTS {
         let (at, event) = schedule.next(rng, &group);
         let before = group.members[at].table.clone();
         let answer = group.play(at, &event);
+        if let Event::Commit { record, opened, .. } = event {
+            let by = saved.entry((record, opened)).or_default();
+            let others = by.iter().any(|other| *other != at);
+            let was_asked = group.opened[at][record].stamps().any(|s| s == opened);
+            for name in of_commit(&answer, &before[record], opened, others, was_asked) {
+                *tally.entry(name).or_default() += 1;
+            }
+            if answer.is_ok() {
+                by.insert(at);
+            }
+        }
         if answer.is_ok() {
             let name = name(&group, &before, at, &event, &answer);
             *tally.entry(name).or_default() += 1;
@@ -121,6 +181,7 @@ fn run(rng: &mut Rng, together: bool, tally: &mut Tally, besides: Besides) -> Re
         }
         let pairs = group.agreement()?;
         group.durability()?;
+        group.opening()?;
         *tally.entry("valid pairs").or_default() += pairs;
     }
     Ok(())
@@ -167,6 +228,19 @@ fn random_groups() {
         ("given up, VAL", 120),
         ("given up, INV", 20),
     ];
+    // 02, Wish 5.
+    let saves = [
+        ("ask", 15_000),
+        ("commit", 8000),
+        ("commit on a stamp of two", 1200),
+        ("commit, 8", 5),
+        ("26, not valid", 15_000),
+        ("26, a newer save between", 3000),
+        ("26, the tie-breaker alone", 700),
+        ("26, the version alone", 1800),
+        ("26, a tie-breaker above 15", 250),
+    ];
+    let many = many.into_iter().chain(saves);
     for (name, least) in names.map(|name| (name, 5)).into_iter().chain(many) {
         let times = tally.get(name).copied().unwrap_or(0);
         assert!(times >= least, "{name}: only {times} times");
@@ -190,6 +264,55 @@ fn kept_acknowledgements() {
     }
     println!("broken {broken}");
     assert!(broken >= 3, "only {broken} runs broken");
+}
+
+/// Engines that commit on a stamp other than the record's break what Wish 5
+/// promises, and the random runs see it: one that saves over whatever is valid,
+/// as a plain write does, and one that compares the version alone.
+#[test]
+fn commits_on_another_stamp() {
+    let any: Commit = |member, record, _, value| match member.ask(record) {
+        Ok(_) => member.write(record, value),
+        Err(_) => Err(Refusal::NotAsOpened),
+    };
+    let version_alone: Commit = |member, record, opened, value| match member.ask(record) {
+        Ok((_, held)) if held.version == opened.version => member.write(record, value),
+        _ => Err(Refusal::NotAsOpened),
+    };
+    for (wrong, least) in [(any, 1000), (version_alone, 5)] {
+        let mut rng = rng();
+        let mut broken = 0;
+        for _ in 0..RUNS {
+            let done = run_with(&mut rng, true, &mut Tally::new(), nothing, wrong);
+            broken += u32::from(done.is_err_and(|what| what.contains("saved over")));
+        }
+        println!("broken {broken}");
+        assert!(broken >= least, "only {broken} runs broken");
+    }
+}
+
+/// A laptop that is set back, against the premises, shows an earlier stamp: the
+/// check sees it, by a read and by an ask.
+#[test]
+fn the_check_of_what_is_shown_can_fail() {
+    for event in [Event::Read { record: 0 }, Event::Ask { record: 0 }] {
+        let mut group = station();
+        let now = group.members[0].clone();
+        group.members[0] = Group::start(&[0], set(&[0, 1, 2]), 1).members.remove(0);
+        assert_eq!(group.play(0, &event), Ok(None));
+        group.members[0] = now.clone();
+        assert_eq!(group.play(0, &event), Ok(None));
+        assert_eq!(group.opening(), Ok(()));
+
+        let mut other = group.clone();
+        other.members[0].store[0] ^= 1;
+        assert_eq!(other.play(0, &event), Ok(None));
+        assert!(other.opening().is_err(), "another text of one stamp");
+
+        group.members[0].table[0].timestamp.version = 0;
+        assert_eq!(group.play(0, &event), Ok(None));
+        assert!(group.opening().is_err(), "an earlier stamp");
+    }
 }
 
 /// Replica 0 has written; 1 has acknowledged, 2 has heard nothing. The view

@@ -1,7 +1,8 @@
 //! A group at work: its members, every message that ever left, the views that
-//! the warden issues, and demand 3 in both halves.
+//! the warden issues, demand 3 in both halves, and what Wish 5 promises.
 
 use model::engine::{body, has, number, Answer, Envelope, Message, State, Timestamp};
+use model::opened::{Held, Opened};
 
 use crate::support::Member;
 
@@ -26,20 +27,53 @@ pub struct Validation {
 /// One entry of the list. The member is named by its place in the group.
 #[derive(Clone, Debug)]
 pub enum Event {
-    Read { record: usize },
-    Write { record: usize, value: Vec<u8> },
-    Replay { record: usize },
-    Deliver { post: usize },
-    Validate { record: usize },
-    Resend { record: usize },
-    View { epoch: u32, view: u16 },
+    Read {
+        record: usize,
+    },
+    Write {
+        record: usize,
+        value: Vec<u8>,
+    },
+    Ask {
+        record: usize,
+    },
+    Commit {
+        record: usize,
+        opened: Timestamp,
+        value: Vec<u8>,
+    },
+    Replay {
+        record: usize,
+    },
+    Deliver {
+        post: usize,
+    },
+    Validate {
+        record: usize,
+    },
+    Resend {
+        record: usize,
+    },
+    View {
+        epoch: u32,
+        view: u16,
+    },
 }
+
+/// A commit of this value to this record, on this stamp.
+pub type Commit = fn(&mut Member, usize, Timestamp, &[u8]) -> Answer;
 
 #[derive(Clone)]
 pub struct Group {
     pub members: Vec<Member>,
     pub posts: Vec<Post>,
     pub validations: Vec<Validation>,
+    /// By member and record.
+    pub opened: Vec<Vec<Opened>>,
+    /// The first that was against Wish 5's promises.
+    against: Option<String>,
+    /// The model's, unless a test puts a wrong one in its place.
+    pub commit: Commit,
 }
 
 impl Group {
@@ -50,6 +84,9 @@ impl Group {
             members: numbers.iter().map(start).collect(),
             posts: Vec::new(),
             validations: Vec::new(),
+            opened: vec![vec![Opened::default(); records]; numbers.len()],
+            against: None,
+            commit: Member::commit,
         }
     }
 
@@ -58,9 +95,27 @@ impl Group {
         let member = &mut self.members[at];
         let before = member.clone();
         let mut inv_sender = u8::MAX;
+        // What a read or an ask hands out.
+        let mut handed: Option<Held> = None;
         let (record, answer) = match *event {
-            Event::Read { record } => (record, member.read(record).map(|_| None)),
+            Event::Read { record } => {
+                let read = member.read(record);
+                handed = read
+                    .ok()
+                    .map(|value| (member.table[record].timestamp, value.to_vec()));
+                (record, read.map(|_| None))
+            }
             Event::Write { record, ref value } => (record, member.write(record, value)),
+            Event::Ask { record } => {
+                let ask = member.ask(record);
+                handed = ask.ok().map(|(value, stamp)| (stamp, value.to_vec()));
+                (record, ask.map(|_| None))
+            }
+            Event::Commit {
+                record,
+                opened,
+                ref value,
+            } => (record, (self.commit)(member, record, opened, value)),
             Event::Replay { record } => (record, member.replay(record)),
             Event::Validate { record } => (record, member.validate(record)),
             Event::Resend { record } => (record, member.resend(record)),
@@ -72,6 +127,10 @@ impl Group {
             }
         };
         changes_only(&before, member, record, &answer);
+        if let (Ok(_), Some(opened)) = (answer, self.opened[at].get_mut(record)) {
+            let done = follow(opened, member, record, event, handed);
+            self.against = self.against.take().or(done.err());
+        }
         if let Ok(Some(message)) = answer {
             self.posts.push(Post {
                 envelope: member.replica.envelope(record, message),
@@ -88,6 +147,29 @@ impl Group {
             }
         }
         answer
+    }
+
+    /// Plays one entry, after which demand 3 holds, and what Wish 5 promises.
+    pub fn checked(&mut self, at: usize, event: &Event) -> Answer {
+        let answer = self.play(at, event);
+        assert!(self.agreement().is_ok(), "{:?}", self.agreement());
+        assert_eq!(self.durability(), Ok(()));
+        assert_eq!(self.opening(), Ok(()));
+        answer
+    }
+
+    /// From this post on, all that leaves comes to those left whom it is for, in
+    /// this order. Members' places are their numbers.
+    pub fn everything_arrives(&mut self, mut post: usize, left: &[usize]) {
+        while post < self.posts.len() {
+            for &at in left {
+                if self.posts[post].to >> at & 1 == 1 {
+                    // Some are answered already: a second VAL, say.
+                    let _ = self.checked(at, &Event::Deliver { post });
+                }
+            }
+            post += 1;
+        }
     }
 
     /// Demand 3, first half: any two members that stand in each other's view
@@ -118,6 +200,11 @@ impl Group {
         Ok(pairs)
     }
 
+    /// 02, Wish 5: see `model::opened`.
+    pub fn opening(&self) -> Result<(), String> {
+        self.against.clone().map_or(Ok(()), Err)
+    }
+
     /// Demand 3, second half: each member in the finisher's view of a
     /// validation, if it shows the record valid, shows that stamp or a later.
     pub fn durability(&self) -> Result<(), String> {
@@ -135,6 +222,27 @@ impl Group {
         }
         Ok(())
     }
+}
+
+/// After an accepted event of this member on this record, which handed this out.
+fn follow(
+    opened: &mut Opened,
+    member: &Member,
+    record: usize,
+    event: &Event,
+    handed: Option<Held>,
+) -> Result<(), String> {
+    let done = match (event, handed) {
+        (Event::Commit { opened: stamp, .. }, _) => opened.commits(*stamp),
+        (_, Some(held)) => opened.hands_out(held, matches!(event, Event::Ask { .. })),
+        _ => Ok(()),
+    };
+    // The value, also of a record that is not valid.
+    let found = &member.table[record];
+    let value = &member.slot(record)[..usize::from(found.len)];
+    opened.is_now(found.timestamp, value);
+    let replica = member.replica;
+    done.map_err(|what| format!("record {record} of {replica:?}: {what}"))
 }
 
 /// Demand 1: a refused event changes nothing; an accepted one only the named

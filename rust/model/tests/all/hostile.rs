@@ -10,7 +10,7 @@ use model::rng::Rng;
 
 use crate::support::{rng, set, Member};
 
-const ROUNDS: usize = 60_000;
+const ROUNDS: usize = 150_000;
 
 /// Mostly a number up to 15.
 fn some_number(rng: &mut Rng) -> u8 {
@@ -113,6 +113,22 @@ fn some_message(rng: &mut Rng, member: &Member, index: usize) -> Message {
     kinds[rng.below(3)](timestamp)
 }
 
+/// Mostly the stamp that the record holds, or one beside it.
+fn some_opened(rng: &mut Rng, member: &Member, index: usize) -> Timestamp {
+    let Some(record) = member.table.get(index) else {
+        return some_timestamp(rng);
+    };
+    let Timestamp { version, tie } = record.timestamp;
+    match rng.below(8) {
+        0 => Timestamp::new(version, some_number(rng)),
+        1 => Timestamp::new(version.wrapping_sub(1), tie),
+        2 => Timestamp::new(version.wrapping_add(1), tie),
+        3 => record.last_write,
+        4 => some_timestamp(rng),
+        _ => record.timestamp,
+    }
+}
+
 /// The record and its slot apart from the rest; any at all where there is none.
 fn taken_out(member: &Member, index: usize) -> (Record, Slot) {
     let record = member.table.get(index).copied();
@@ -185,16 +201,34 @@ fn is_the_replay(done: &Done) {
     }
 }
 
+/// 02, Wish 5: where the record is valid with the stamp that is brought back, a
+/// commit is the write; elsewhere 26 refuses it, unless one of 1 to 5 does.
+fn is_the_commit(done: &Done, opened: Timestamp, value: &[u8]) {
+    let mut written = done.before.clone();
+    let write = written.write(done.index, value);
+    let (held, _) = taken_out(&done.before, done.index);
+    match write {
+        Err(refusal) if refusal.number() <= 5 => assert_eq!(done.answer, write),
+        _ if held.state == State::Valid && held.timestamp == opened => {
+            assert_eq!((done.answer, &done.after), (write, &written));
+        }
+        _ => assert_eq!(done.answer, Err(Refusal::NotAsOpened)),
+    }
+}
+
 #[test]
 fn events() {
     let mut rng = rng();
-    let mut accepted = [0; 8];
+    let mut accepted = [0; 10];
     // Accepted ACKs that validate, by what the record was: write, replay.
     let mut last = [0; 2];
     // Those of an overtaken write by all others, which do not.
     let mut overtaken = 0;
     // Replays of invalid-write: accepted, refused by 16.
     let mut given_up = [0; 2];
+    // Commits refused by 26: not valid; of a valid record by the version alone,
+    // by the tie-breaker alone; then by 8, by 9.
+    let mut uncommitted = [0; 5];
     for _ in 0..ROUNDS {
         let before = some_member(&mut rng);
         let index = some_index(&mut rng);
@@ -203,9 +237,10 @@ fn events() {
         let mut after = before.clone();
         let (mut record, mut slot) = taken_out(&before, index);
         let mut bytes = some_bytes(&mut rng);
-        let event = rng.below(8);
+        let event = rng.below(10);
         let mut kind = event;
         let mut sender = u8::MAX;
+        let opened = some_opened(&mut rng, &before, index);
         let (answer, one) = match event {
             0 => {
                 let table = before.read(index);
@@ -229,6 +264,17 @@ fn events() {
             4 => (
                 after.resend(index),
                 replica.resend_one(sizes, index, &record),
+            ),
+            8 => {
+                let table = before.ask(index);
+                assert_eq!(table, replica.ask_one(sizes, index, &record, &slot));
+                let read = before.read(index);
+                assert_eq!(table, read.map(|value| (value, record.timestamp)));
+                (table.map(|_| None), table.map(|_| None))
+            }
+            9 => (
+                after.commit(index, opened, &bytes),
+                replica.commit_one(sizes, index, &mut record, &mut slot, opened, &bytes),
             ),
             _ => {
                 let message = some_message(&mut rng, &before, index);
@@ -270,6 +316,23 @@ fn events() {
                 given_up[1] += u32::from(done.answer == Err(Refusal::NotReplayable));
             }
         }
+        if kind == 9 {
+            is_the_commit(&done, opened, &bytes);
+            let (held, _) = taken_out(&done.before, index);
+            let same = (
+                held.timestamp.version == opened.version,
+                held.timestamp.tie == opened.tie,
+            );
+            let at = match (done.answer, same) {
+                (Err(Refusal::NotAsOpened), _) if held.state != State::Valid => Some(0),
+                (Err(Refusal::NotAsOpened), (false, true)) => Some(1),
+                (Err(Refusal::NotAsOpened), (true, false)) => Some(2),
+                (Err(Refusal::ValueTooLong), _) => Some(3),
+                (Err(Refusal::LastVersion), _) => Some(4),
+                _ => None,
+            };
+            at.into_iter().for_each(|at| uncommitted[at] += 1);
+        }
         if kind == 6 && done.answer.is_ok() {
             let followed = counts_then_validates(&done, sender);
             let all = replica.others() & !done.after.table[index].acks == 0;
@@ -286,6 +349,11 @@ fn events() {
     assert!(last.iter().all(|&times| times > 5), "{last:?}");
     assert!(overtaken > 5, "{overtaken}");
     assert!(given_up.iter().all(|&times| times > 50), "{given_up:?}");
+    println!("uncommitted {uncommitted:?}");
+    assert!(
+        uncommitted.iter().all(|&times| times > 50),
+        "{uncommitted:?}"
+    );
 }
 
 #[test]

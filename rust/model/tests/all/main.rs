@@ -2,6 +2,7 @@
 //! environment variable MODEL_SEED gives another; a failure shows the seed.
 
 mod agreement;
+mod ask_then_save;
 mod every_order;
 mod group;
 mod hostile;

@@ -65,6 +65,29 @@ fn write() {
     }
 }
 
+/// A commit is the write of a valid record (02, Wish 5).
+#[test]
+fn commit() {
+    let after = Record {
+        state: State::Write,
+        timestamp: ts(10, 2),
+        last_writer: 2,
+        last_write: ts(10, 2),
+        acks: 0,
+        len: 6,
+    };
+    let full = [b'f'; 192];
+    for (value, len) in [(&b"weight"[..], 6), (b"", 0), (&full, 192)] {
+        let after = Record { len, ..after };
+        let event = |m: &mut Member| m.commit(0, ts(9, 5), value);
+        let sent = Some(inv(10, 2));
+        moves(held(State::Valid), event, after, sent, Some(value));
+        // As the write is.
+        let event = |m: &mut Member| m.write(0, value);
+        moves(held(State::Valid), event, after, sent, Some(value));
+    }
+}
+
 /// From invalid-write too: the own save of (8,2) is given up (02, Wish 2),
 /// whoever had acknowledged it.
 #[test]
@@ -235,6 +258,14 @@ fn read() {
     moves(valid, |m| m.read(0).map(|_| None), valid, None, None);
 }
 
+/// An ask hands out the value and the stamp, and moves nothing (02, Wish 5).
+#[test]
+fn ask() {
+    let valid = held(State::Valid);
+    assert_eq!(holding(valid).ask(0), Ok((&b"wing"[..], ts(9, 5))));
+    moves(valid, |m| m.ask(0).map(|_| None), valid, None, None);
+}
+
 #[test]
 fn view() {
     let record = held(State::Replay);
@@ -259,6 +290,12 @@ fn the_second_record() {
     let part = member.read(1).expect("accepted");
     assert_eq!(part, b"ring");
     assert!(std::ptr::eq(part, &member.store[192..196]));
+    let (asked, opened) = member.ask(1).expect("accepted");
+    assert!(std::ptr::eq(asked, part));
+    assert_eq!(opened, ts(1, 2));
+    assert_eq!(member.commit(1, ts(1, 2), b"tail"), Ok(Some(inv(2, 2))));
+    assert_eq!(&member.store[190..197], b"~~tail\0");
+    assert_eq!(&member.store[382..386], b"\0\0~~");
     assert_eq!(member.table[0], Record::fresh(1));
     assert_eq!(member.table[2], Record::fresh(1));
 }

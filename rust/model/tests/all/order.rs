@@ -4,7 +4,7 @@
 use model::engine::{number, Envelope, Message, Record, Replica, State};
 use model::packet::{self, Entry};
 
-use crate::support::{ack, from, inv, packet_of, set, val, Member};
+use crate::support::{ack, from, inv, packet_of, set, ts, val, Member};
 
 /// Runs the event with every subset of faults. The questions are in the paper's
 /// order.
@@ -117,6 +117,48 @@ fn write() {
         record.timestamp.version = faults.choose(9, 0, u32::MAX);
         let value = &[b'v'; 193][..faults.choose(8, 192, 193)];
         faults.answer(faults.member(record), |m| m.write(faults.record(), value))
+    });
+}
+
+/// 02, Wish 5: as a read.
+#[test]
+fn ask() {
+    every_subset(&[1, 2, 3, 4, 5, 6], |faults| {
+        let mut record = Record::fresh(1);
+        record.state = faults.choose(6, State::Valid, State::Write);
+        faults.answer(faults.member(record), |m| {
+            m.ask(faults.record()).map(|_| ())
+        })
+    });
+}
+
+/// 02, Wish 5: 26 after 5, in the place of 7. It fails by the state, or by the
+/// stamp: its version, its tie-breaker, one above 15.
+#[test]
+fn commit() {
+    use State::{Invalid, InvalidWrite, Replay, Valid, Write};
+    for other in [Invalid, InvalidWrite, Write, Replay] {
+        commit_at(other, (0, 0));
+    }
+    for other in [(1, 0), (u32::MAX, 0), (0, 1), (0, 14), (0, 16), (1, 1)] {
+        commit_at(Valid, other);
+    }
+    commit_at(Write, (1, 1));
+}
+
+/// The record's state, and what is added to its stamp, if there is fault 26.
+fn commit_at(other: State, (version, tie): (u32, u8)) {
+    every_subset(&[1, 2, 3, 4, 5, 26, 8, 9], |faults| {
+        let mut record = Record::fresh(1);
+        record.timestamp.version = faults.choose(9, 7, u32::MAX);
+        record.state = faults.choose(26, State::Valid, other);
+        let (more, tie) = faults.choose(26, (0, 0), (version, tie));
+        let held = record.timestamp;
+        let opened = ts(held.version.wrapping_add(more), held.tie + tie);
+        let value = &[b'v'; 193][..faults.choose(8, 192, 193)];
+        faults.answer(faults.member(record), |m| {
+            m.commit(faults.record(), opened, value)
+        })
     });
 }
 

@@ -116,6 +116,12 @@ fn unknown_lines() {
         "view 0 4294967296 3",
         "view 0 1 65536",
         "view 2 1 3",
+        // 02, Wish 5, gave it no new line.
+        "ask 0",
+        "ask 0 ",
+        "commit 0",
+        "commit 0 text",
+        "commit 0 0 0 text",
     ];
     for line in unknown {
         let printed = lines(&["group 2", line, "resend 0"]);

@@ -1,9 +1,11 @@
-//! The events' questions, 1 to 19: each clause of them answered "no" once, with
-//! the number, and with nothing moved. Those of packets stand in `packets`.
+//! The events' questions, 1 to 19 and 26: each clause of them answered "no" once,
+//! with the number, and with nothing moved. Those of packets stand in `packets`.
 
 use std::collections::BTreeSet;
 
-use model::engine::{bit, has, number, Answer, Envelope, Record, Refusal, Replica, State};
+use model::engine::{
+    bit, has, number, Answer, Envelope, Record, Refusal, Replica, State, Timestamp,
+};
 
 use crate::support::{ack, from, inv, set, ts, val, Member};
 
@@ -23,6 +25,19 @@ fn read(member: &mut Member) -> Answer {
 
 fn write(member: &mut Member) -> Answer {
     member.write(0, b"text")
+}
+
+fn ask(member: &mut Member) -> Answer {
+    member.ask(0).map(|_| None)
+}
+
+/// On the stamp of a fresh start.
+fn commit(member: &mut Member) -> Answer {
+    member.commit(0, ts(0, 1), b"text")
+}
+
+fn commit_on(opened: Timestamp) -> impl Fn(&mut Member) -> Answer {
+    move |member| member.commit(0, opened, b"text")
 }
 
 fn replay(member: &mut Member) -> Answer {
@@ -60,8 +75,9 @@ fn writing(member: &mut Member) {
 #[test]
 fn one_to_five_for_every_event_on_a_record() {
     let inv15 = deliver(from(5, inv(1, 5)), b"B");
-    let events: [&dyn Fn(&mut Member) -> Answer; 6] =
-        [&read, &write, &replay, &validate, &resend, &inv15];
+    let events: [&dyn Fn(&mut Member) -> Answer; 8] = [
+        &read, &write, &ask, &commit, &replay, &validate, &resend, &inv15,
+    ];
     for event in events {
         let is = |no: u8, change: &dyn Fn(&mut Member)| {
             assert_eq!(after(change, event), no);
@@ -142,6 +158,8 @@ fn stray_records() {
         };
         is_stray(&|m| m.read(record).map(|_| None));
         is_stray(&|m| m.write(record, b"text"));
+        is_stray(&|m| m.ask(record).map(|_| None));
+        is_stray(&|m| m.commit(record, ts(0, 1), b"text"));
         is_stray(&|m| m.replay(record));
         is_stray(&|m| m.validate(record));
         is_stray(&|m| m.resend(record));
@@ -166,6 +184,73 @@ fn read_and_write() {
     assert_eq!(after(as_is, |m| m.write(0, &[0; 193])), 8);
     let last = |m: &mut Member| m.table[0].timestamp.version = u32::MAX;
     assert_eq!(after(last, write), 9);
+}
+
+/// 02, Wish 5: an ask is refused by the same questions as a read.
+#[test]
+fn asks() {
+    for held in State::ALL {
+        let expected = if held == State::Valid { 0 } else { 6 };
+        assert_eq!(after(state(held), ask), expected);
+    }
+}
+
+/// 02, Wish 5: valid, with that very stamp.
+#[test]
+fn commits() {
+    for held in State::ALL {
+        let expected = if held == State::Valid { 0 } else { 26 };
+        assert_eq!(after(state(held), commit), expected);
+    }
+    for held in State::ALL {
+        let change = |m: &mut Member| {
+            m.table[0].state = held;
+            m.table[0].timestamp = ts(3, 5);
+            // Another stamp of the record's does not count.
+            m.table[0].last_write = ts(1, 2);
+        };
+        let expected = if held == State::Valid { 0 } else { 26 };
+        assert_eq!(after(change, commit_on(ts(3, 5))), expected);
+        let equal_version = [(3, 4), (3, 6), (3, 0), (3, 15)];
+        let equal_tie = [(2, 5), (4, 5), (0, 5), (u32::MAX, 5)];
+        let older = [(2, 15), (0, 1), (1, 2)];
+        let newer = [(4, 0), (u32::MAX, 15)];
+        // 3 and 5 in the low bits.
+        let great = [(3, 16), (3, 21), (3, 37), (3, 255), (259, 5), (3 << 16, 5)];
+        let others = [&equal_version[..], &equal_tie, &older, &newer, &great].concat();
+        for (version, tie) in others {
+            assert_eq!(after(change, commit_on(ts(version, tie))), 26);
+        }
+    }
+    // A tie-breaker above 15 is never the record's: such a record is unsound.
+    let unsound = |m: &mut Member| m.table[0].timestamp.tie = 16;
+    assert_eq!(after(unsound, commit_on(ts(0, 16))), 5);
+}
+
+/// 8 and 9 follow 26, which stands in the place of 7.
+#[test]
+fn commits_go_on_as_writes() {
+    let long = |opened, len| move |m: &mut Member| m.commit(0, opened, &vec![0; len]);
+    assert_eq!(after(as_is, long(ts(0, 1), 192)), 0);
+    for len in [193, 194, 255, 256, 4096] {
+        assert_eq!(after(as_is, long(ts(0, 1), len)), 8);
+        assert_eq!(after(as_is, long(ts(0, 2), len)), 26);
+        assert_eq!(after(state(State::Write), long(ts(0, 1), len)), 26);
+    }
+    let at = |version| move |m: &mut Member| m.table[0].timestamp.version = version;
+    let last = u32::MAX;
+    assert_eq!(after(at(last - 1), commit_on(ts(last - 1, 1))), 0);
+    assert_eq!(after(at(last), commit_on(ts(last, 1))), 9);
+    assert_eq!(after(at(last), commit_on(ts(last, 2))), 26);
+    assert_eq!(after(at(last), commit_on(ts(last - 1, 1))), 26);
+    assert_eq!(after(at(last), commit_on(ts(0, 1))), 26);
+    let writing = |m: &mut Member| {
+        m.table[0].timestamp.version = last;
+        m.table[0].state = State::Write;
+    };
+    assert_eq!(after(writing, commit_on(ts(last, 1))), 26);
+    assert_eq!(after(at(last), long(ts(last, 1), 193)), 8);
+    assert_eq!(after(at(last), long(ts(last, 2), 193)), 26);
 }
 
 #[test]
@@ -354,9 +439,11 @@ fn the_numbers_are_the_papers() {
         PacketIndex,
         PacketMessages,
         PacketRoom,
+        NotAsOpened,
     ];
     let numbers: BTreeSet<u8> = all.iter().map(|refusal| refusal.number()).collect();
-    assert_eq!(numbers, (1..=25).collect());
+    assert_eq!(numbers, (1..=26).collect());
+    assert_eq!(NotAsOpened.number(), 26);
 }
 
 #[test]

@@ -2,7 +2,7 @@
 //! loses, repeats and holds back, with views that reach each member when they
 //! will.
 
-use model::engine::{bit, has, State};
+use model::engine::{bit, has, State, Timestamp};
 use model::rng::Rng;
 
 use crate::group::{Event, Group};
@@ -17,7 +17,8 @@ pub struct Schedule {
     taken: usize,
     /// The place of a member that does no more.
     dead: Option<usize>,
-    /// Writes to begin with, and how many deliveries alone come after them.
+    /// Saves to begin with, the last first, and how many deliveries alone come
+    /// after them.
     opening: Vec<(usize, Event)>,
     deliveries: usize,
 }
@@ -25,7 +26,8 @@ pub struct Schedule {
 impl Schedule {
     /// A group that has just started, and its schedule. With `together`, most
     /// members begin by saving the same record, some messages arrive, and the
-    /// one that wins a tie dies and is struck off first (02, Wish 2).
+    /// one that wins a tie dies and is struck off first (02, Wish 2). Some of
+    /// these saves are commits on the one stamp that all were handed out (Wish 5).
     pub fn start(rng: &mut Rng, together: bool) -> (Group, Schedule) {
         let numbers = some_numbers(rng);
         let mut first = set(&numbers);
@@ -44,12 +46,26 @@ impl Schedule {
             deliveries: 0,
         };
         if together {
+            let asked = rng.chance(1, 2);
+            let opened = Timestamp::new(0, first.trailing_zeros() as u8);
             for at in 0..numbers.len() {
                 let value = some_value(rng);
                 if rng.chance(4, 5) {
-                    let write = Event::Write { record: 0, value };
-                    schedule.opening.push((at, write));
+                    let save = if asked && rng.chance(4, 5) {
+                        Event::Commit {
+                            record: 0,
+                            opened,
+                            value,
+                        }
+                    } else {
+                        Event::Write { record: 0, value }
+                    };
+                    schedule.opening.push((at, save));
                 }
+            }
+            if asked {
+                let asks = (0..numbers.len()).map(|at| (at, Event::Ask { record: 0 }));
+                schedule.opening.extend(asks);
             }
             schedule.deliveries = rng.below(13);
         }
@@ -62,8 +78,8 @@ impl Schedule {
     /// then spreads in the place of its own events.
     pub fn next(&mut self, rng: &mut Rng, group: &Group) -> (usize, Event) {
         self.take_up(group);
-        if let Some(write) = self.opening.pop() {
-            return write;
+        if let Some(save) = self.opening.pop() {
+            return save;
         }
         if self.deliveries > 0 && !group.posts.is_empty() {
             self.deliveries -= 1;
@@ -78,7 +94,7 @@ impl Schedule {
                 let other = (at + 1 + rng.below(group.members.len() - 1)) % group.members.len();
                 (other, Event::View { epoch, view })
             }
-            (None, Some(_)) if matches!(event, Event::Write { .. }) && rng.chance(1, 3) => {
+            (None, Some(_)) if saves(&event) && rng.chance(1, 3) => {
                 self.dead = Some(at);
                 (at, event)
             }
@@ -89,8 +105,8 @@ impl Schedule {
     fn choose(&mut self, rng: &mut Rng, group: &Group) -> (usize, Event) {
         let record = rng.below(group.members[0].table.len());
         let anyone = rng.below(group.members.len());
-        // Deliveries come from 34 on, once there are messages.
-        let kinds = if group.posts.is_empty() { 34 } else { 100 };
+        // Deliveries come from 44 on, once there are messages.
+        let kinds = if group.posts.is_empty() { 44 } else { 112 };
         match rng.below(kinds) {
             0..2 => {
                 // Sometimes a stray record.
@@ -129,6 +145,13 @@ impl Schedule {
                 };
                 (anyone, Event::View { epoch, view })
             }
+            34..39 => {
+                let at = some_member(rng, group, |m| m.table[record].state == State::Valid);
+                // Sometimes a stray record.
+                let record = record + usize::from(rng.chance(1, 8));
+                (at, Event::Ask { record })
+            }
+            39..44 => some_commit(rng, group, record),
             _ => self.delivery(rng, group),
         }
     }
@@ -239,6 +262,40 @@ fn some_member(rng: &mut Rng, group: &Group, wanted: impl Fn(&Member) -> bool) -
         Some(at) if rng.chance(7, 8) => at,
         _ => rng.below(count),
     }
+}
+
+/// A save of this member's own.
+fn saves(event: &Event) -> bool {
+    matches!(event, Event::Write { .. } | Event::Commit { .. })
+}
+
+/// A commit by one that has asked, mostly on the last stamp that it was given;
+/// else on an earlier one, on one beside it, or on one made up.
+fn some_commit(rng: &mut Rng, group: &Group, record: usize) -> (usize, Event) {
+    let stamps = |at: usize| group.opened[at][record].stamps();
+    let asked = (0..group.members.len()).filter(|&at| stamps(at).next().is_some());
+    let asked: Vec<usize> = asked.collect();
+    let at = rng.pick(&asked).unwrap_or(rng.below(group.members.len()));
+    let held = group.members[at].table[record].timestamp;
+    let last = stamps(at).next_back().unwrap_or(held);
+    let opened = match rng.below(10) {
+        0 => {
+            let all: Vec<Timestamp> = stamps(at).collect();
+            rng.pick(&all).unwrap_or(held)
+        }
+        1 => Timestamp::new(last.version, rng.below(18) as u8),
+        2 => Timestamp::new(last.version.wrapping_sub(1 + rng.below(2) as u32), last.tie),
+        // That of a record which may be under way.
+        3 => held,
+        _ => last,
+    };
+    let value = some_value(rng);
+    let commit = Event::Commit {
+        record,
+        opened,
+        value,
+    };
+    (at, commit)
 }
 
 /// A text of its own, so that two writes are told apart. Sometimes too long.

@@ -84,6 +84,15 @@ impl Member {
             .write(&mut self.table, &mut self.store, record, value)
     }
 
+    pub fn ask(&self, record: usize) -> Result<(&[u8], Timestamp), Refusal> {
+        self.replica.ask(&self.table, &self.store, record)
+    }
+
+    pub fn commit(&mut self, record: usize, opened: Timestamp, value: &[u8]) -> Answer {
+        self.replica
+            .commit(&mut self.table, &mut self.store, record, opened, value)
+    }
+
     pub fn replay(&mut self, record: usize) -> Answer {
         self.replica.replay(&mut self.table, &self.store, record)
     }

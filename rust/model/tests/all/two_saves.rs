@@ -250,16 +250,8 @@ fn text(number: u8) -> Vec<u8> {
     format!("saved by {number}").into_bytes()
 }
 
-/// The entry is played, and demand 3 holds after it.
-fn play(group: &mut Group, at: usize, event: &Event) -> Answer {
-    let answer = group.play(at, event);
-    assert!(group.agreement().is_ok(), "{:?}", group.agreement());
-    assert_eq!(group.durability(), Ok(()));
-    answer
-}
-
 fn deliver(group: &mut Group, at: usize, post: usize) {
-    let answer = play(group, at, &Event::Deliver { post });
+    let answer = group.checked(at, &Event::Deliver { post });
     assert!(answer.is_ok(), "{answer:?}");
 }
 
@@ -268,26 +260,12 @@ fn strike_off_the_rest(group: &mut Group, left: &[usize]) {
     let view = left.iter().fold(0, |view, at| view | 1 << at);
     for &at in left {
         let event = Event::View { epoch: 1, view };
-        assert_eq!(play(group, at, &event), Ok(None));
+        assert_eq!(group.checked(at, &event), Ok(None));
     }
 }
 
 fn replay(group: &mut Group, at: usize) -> Answer {
-    play(group, at, &Event::Replay { record: 0 })
-}
-
-/// From this post on, all that leaves comes to those left whom it is for, in
-/// this order.
-fn everything_arrives(group: &mut Group, mut post: usize, left: &[usize]) {
-    while post < group.posts.len() {
-        for &at in left {
-            if group.posts[post].to >> at & 1 == 1 {
-                // Some are answered already: a second VAL, say.
-                let _ = play(group, at, &Event::Deliver { post });
-            }
-        }
-        post += 1;
-    }
+    group.checked(at, &Event::Replay { record: 0 })
 }
 
 /// These members show what this one saved.
@@ -319,7 +297,7 @@ fn the_winners_text_stands() {
 
     let post = group.posts.len();
     assert_eq!(replay(&mut group, 0), Ok(Some(inv(1, 2))));
-    everything_arrives(&mut group, post, &[0, 1]);
+    group.everything_arrives(post, &[0, 1]);
     all_show(&group, &[0, 1], 2);
     assert_eq!(group.validations.len(), 1);
     assert_eq!(group.validations[0].timestamp, ts(1, 2));
@@ -343,9 +321,9 @@ fn one_laptop_holds_the_winners_text() {
         let post = group.posts.len();
         assert_eq!(replay(&mut group, 0), Ok(Some(inv(1, 2))));
         // An acknowledgement of the save given up does not validate.
-        let validate = play(&mut group, 0, &Event::Validate { record: 0 });
+        let validate = group.checked(0, &Event::Validate { record: 0 });
         assert_eq!(validate, Err(Refusal::NotFinished));
-        everything_arrives(&mut group, post, &[0, 1]);
+        group.everything_arrives(post, &[0, 1]);
         all_show(&group, &[0, 1], 2);
         assert_eq!(group.validations.len(), 1);
     }
@@ -373,7 +351,7 @@ fn all_in_invalid_write() {
                 let sent = inv(1, winner as u8);
                 assert_eq!(replay(&mut group, at), Ok(Some(sent)));
             }
-            everything_arrives(&mut group, post, left);
+            group.everything_arrives(post, left);
             all_show(&group, left, winner as u8);
         }
     }
@@ -393,7 +371,7 @@ fn two_winners() {
         for at in order {
             assert!(replay(&mut group, at).is_ok());
         }
-        everything_arrives(&mut group, post, &[0, 1]);
+        group.everything_arrives(post, &[0, 1]);
         all_show(&group, &[0, 1], 3);
     }
 }
@@ -412,7 +390,7 @@ fn replaying() -> Group {
     assert_eq!(group.members[0].table[0].acks, set(&[1]));
     assert_eq!(replay(&mut group, 0), Ok(Some(inv(1, 2))));
     // 2, which has not acknowledged 1's save, is struck off.
-    let validate = play(&mut group, 1, &Event::Validate { record: 0 });
+    let validate = group.checked(1, &Event::Validate { record: 0 });
     assert_eq!(validate, Ok(Some(val(1, 1))));
     group
 }
@@ -422,11 +400,11 @@ fn replaying() -> Group {
 fn a_lesser_save_is_validated_meanwhile() {
     let mut group = replaying();
     all_show(&group, &[1], 1);
-    let validate = play(&mut group, 0, &Event::Validate { record: 0 });
+    let validate = group.checked(0, &Event::Validate { record: 0 });
     assert_eq!(validate, Err(Refusal::NotFinished));
     let post = group.posts.len() - 2;
     assert_eq!(group.posts[post].envelope.message, inv(1, 2));
-    everything_arrives(&mut group, post, &[0, 1]);
+    group.everything_arrives(post, &[0, 1]);
     all_show(&group, &[0, 1], 2);
 }
 

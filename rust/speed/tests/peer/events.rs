@@ -1,7 +1,6 @@
 //! Single events on memory of any kind: sound and unsound records, bytes that
 //! are no record, tables and stores of any length.
 
-use cetskobi::sys::Admission;
 use compare::memory::Memory;
 use compare::settings::Settings;
 use compare::single::{compare, Case, Event, Outcome};
@@ -11,34 +10,18 @@ pub fn by_peer(case: &Case, memory: &mut Memory) -> Outcome {
     let (me, i) = (case.me, case.i);
     let (table, store) = memory.lend();
     let answer = match &case.event {
-        Event::Start => return admitted(peer::start(me.number, me.view, table, store)),
-        Event::View { epoch, set } => return admitted(peer::view(me, *epoch, *set)),
-        Event::Read => {
-            let read = peer::read(me, table, store, i);
-            let at = if read.number == 0 { 192 * i } else { 0 };
-            return Outcome {
-                number: read.number,
-                sent: (0, 0, 0),
-                part: (at, read.len),
-                me,
-            };
-        }
+        Event::Start => return Outcome::admitted(peer::start(me.number, me.view, table, store)),
+        Event::View { epoch, set } => return Outcome::admitted(peer::view(me, *epoch, *set)),
+        Event::Read => return Outcome::of_read(me, i, peer::read(me, table, store, i)),
         Event::Write { value } => peer::write(me, table, store, i, value),
+        Event::Ask => return Outcome::of_ask(me, i, peer::ask(me, table, store, i)),
+        Event::Commit { opened, value } => peer::commit(me, table, store, i, *opened, value),
         Event::Replay => peer::replay(me, table, store, i),
         Event::Deliver { message, value } => peer::deliver(me, table, store, i, *message, value),
         Event::Validate => peer::validate(me, table, store, i),
         Event::Resend => peer::resend(me, table, store, i),
     };
     Outcome::of(me, answer)
-}
-
-fn admitted(admission: Admission) -> Outcome {
-    Outcome {
-        number: admission.number,
-        sent: (0, 0, 0),
-        part: (0, 0),
-        me: admission.replica,
-    }
 }
 
 /// Every answer of every event, and every acceptance at every state.
@@ -56,6 +39,8 @@ fn random_events() {
             for [accepted, refused] in tally.replays() {
                 assert!(accepted >= 20_000 && refused >= 3_000, "{tally}");
             }
+            // 02, Wish 5: as in compare's own test.
+            tally.opened_often();
         }
         Err(found) => panic!("{settings}\n{found}"),
     }
@@ -95,6 +80,48 @@ fn a_peer_that_does_not_replay_is_found() {
     let found = compare(&Settings::USUAL, wrong).expect_err("a difference");
     println!("{found}");
     assert_eq!(found.shrunk.record.state, 2);
+}
+
+/// 02, Wish 5: a peer that commits on the version alone, or on a record that may be
+/// written, and one whose ask hands out the last-write timestamp, are found.
+#[test]
+fn a_peer_that_saves_over_what_was_not_seen_is_found() {
+    // Where question 26 refuses, but for the version and, if `valid`, the state.
+    fn instead(case: &Case, memory: &mut Memory, valid: bool) -> Outcome {
+        let outcome = by_peer(case, memory);
+        let Event::Commit { opened, value } = &case.event else {
+            return outcome;
+        };
+        let good = !valid || case.record.state == 0 && opened.0 == case.record.version;
+        let (me, i) = (case.me, case.i);
+        let (table, store) = memory.lend();
+        match outcome.number {
+            26 if good => Outcome::of(me, peer::write(me, table, store, i, value)),
+            _ => outcome,
+        }
+    }
+    let found = compare(&Settings::USUAL, |case, memory| instead(case, memory, true));
+    let shrunk = found.expect_err("a difference").shrunk;
+    let Event::Commit { opened, .. } = shrunk.event else {
+        panic!("{shrunk:?}");
+    };
+    assert_eq!(opened.0, shrunk.record.version);
+    assert_ne!(opened.1, shrunk.record.tie);
+    let found = compare(&Settings::USUAL, |case, memory| {
+        instead(case, memory, false)
+    });
+    println!("{}", found.expect_err("a difference"));
+
+    let found = compare(&Settings::USUAL, |case, memory| {
+        let mut outcome = by_peer(case, memory);
+        if (&case.event, outcome.number) == (&Event::Ask, 0) {
+            outcome.opened = case.record.written();
+        }
+        outcome
+    });
+    let shrunk = found.expect_err("a difference").shrunk;
+    assert_eq!(shrunk.event, Event::Ask);
+    assert_ne!(shrunk.record.stamp(), shrunk.record.written());
 }
 
 /// A wrong peer is found.

@@ -21,7 +21,7 @@ const STEPS: usize = 1000;
 const RECORDS: usize = 2;
 
 /// How often each kind of event gave each answer.
-type Tally = BTreeMap<Kind, [u64; 26]>;
+type Tally = BTreeMap<Kind, [u64; 27]>;
 
 /// The last ACKs, as `last_ack` has them: at invalid-write, write and replay.
 type Last = [u64; 3];
@@ -34,6 +34,8 @@ struct Member {
     me: Replica,
     engine: Memory,
     peer: Memory,
+    /// By record: what the last accepted ask handed out.
+    opened: [Option<(u32, u8)>; RECORDS],
 }
 
 /// A message that left, about record `i`, with its bytes.
@@ -78,6 +80,12 @@ fn packed(posts: &[Post]) -> Vec<u8> {
     x[..written.len].to_vec()
 }
 
+/// A text to save, now and then one that is too long.
+fn some_value(rng: &mut Rng) -> Bytes {
+    let len = [0, 1, 192, 193, rng.below(193)][rng.below(5)];
+    some_bytes(rng, len)
+}
+
 struct Group {
     members: Vec<Member>,
     posts: Vec<Post>,
@@ -119,7 +127,13 @@ impl Group {
                 view,
                 epoch: 0,
             };
-            group.members.push(Member { me, engine, peer });
+            let opened = [None; RECORDS];
+            group.members.push(Member {
+                me,
+                engine,
+                peer,
+                opened,
+            });
             assert_eq!(group.play(at, 0, Event::Start), 0);
         }
         group
@@ -132,7 +146,7 @@ impl Group {
             0 => RECORDS,
             _ => rng.below(RECORDS),
         };
-        let event = match rng.below(60) {
+        let event = match rng.below(68) {
             0 => return self.strike(rng),
             1..4 => {
                 let epoch = rng.below(self.views.len());
@@ -144,17 +158,38 @@ impl Group {
                 }
             }
             4..8 => {
-                let len = [0, 1, 192, 193, rng.below(193)][rng.below(5)];
-                let value = some_bytes(rng, len);
+                let value = some_value(rng);
                 Event::Write { value }
             }
             8..12 => Event::Read,
             12..18 => Event::Validate,
             18..22 => Event::Replay,
             22..26 => Event::Resend,
+            // 02, Wish 5.
+            60..64 => Event::Ask,
+            64..68 => {
+                let opened = self.some_opened(rng, at, i);
+                let value = some_value(rng);
+                Event::Commit { opened, value }
+            }
             _ => return self.deliver(rng, at),
         };
         self.play(at, i, event);
+    }
+
+    /// Mostly what this member was handed out, which may be stale; else the record's
+    /// timestamp, or one beside it.
+    fn some_opened(&self, rng: &mut Rng, at: usize, i: usize) -> (u32, u8) {
+        let member = &self.members[at];
+        let held = member.engine.record(i).map_or((0, 0), |r| r.stamp());
+        let opened = member.opened.get(i).copied().flatten().unwrap_or(held);
+        match rng.below(8) {
+            0 => held,
+            1 => (opened.0, rng.below(16) as u8),
+            2 => (opened.0.wrapping_sub(1), opened.1),
+            3 => (held.0, held.1 | 16),
+            _ => opened,
+        }
     }
 
     /// A further view, within the last, of at least two. The member that is
@@ -277,6 +312,9 @@ impl Group {
             }
         }
         member.me = a.me;
+        if (&case.event, a.number) == (&Event::Ask, 0) {
+            member.opened[case.i] = Some(a.opened);
+        }
         let (kind, tie, version) = a.sent;
         if kind == 0 {
             return;
@@ -321,11 +359,13 @@ fn random_groups() {
     }
     println!("{passed} messages in one pass");
     assert!(passed >= 100_000);
-    let reached: [(Kind, &[usize]); 10] = [
+    let reached: [(Kind, &[usize]); 12] = [
         (Kind::Start, &[0]),
         (Kind::View, &[0, 3, 18, 19]),
         (Kind::Read, &[0, 3, 4, 6]),
         (Kind::Write, &[0, 3, 4, 7, 8]),
+        (Kind::Ask, &[0, 3, 4, 6]),
+        (Kind::Commit, &[0, 3, 4, 8, 26]),
         (Kind::Replay, &[0, 3, 4, 16]),
         (Kind::Validate, &[0, 3, 4, 15]),
         (Kind::Resend, &[0, 3, 4, 17]),

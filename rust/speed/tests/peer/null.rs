@@ -45,6 +45,8 @@ fn no_memory() {
         start(0, 3, t, 0, s, 0);
         read(ME, t, 0, s, 0, 0);
         write(ME, t, 0, s, 0, 0, null(), 0);
+        ask(ME, t, 0, s, 0, 0);
+        commit(ME, t, 0, s, 0, 0, 0, 0, null(), 0);
         replay(ME, t, 0, s, 0, 0);
         validate(ME, t, 0, s, 0, 0);
         resend(ME, t, 0, s, 0, 0);
@@ -94,4 +96,17 @@ fn no_bytes() {
     }
     assert_eq!((a, x), (b, y));
     assert_eq!(b.0, [2, 1, 1, 0, 1, 0, 0, 0, 1, 0, 0, 0, 0, 0, 0, 0]);
+}
+
+/// A commit of no bytes.
+#[test]
+fn nothing_to_commit() {
+    let [by_engine, by_peer] = [engine::commit, peer::commit].map(|commit| {
+        let (mut table, mut store) = ([0u8; 16], [7u8; 192]);
+        let (t, s) = (table.as_mut_ptr(), store.as_mut_ptr());
+        let answer = unsafe { commit(ME, t, 16, s, 192, 0, 0, 0, null(), 0) };
+        (answer, table, store)
+    });
+    assert_eq!(by_engine, by_peer);
+    assert_eq!((by_engine.0.number, by_engine.2), (0, [0; 192]));
 }
