@@ -21,7 +21,7 @@ use Rattle.hermes.specs.Run as run
 use Rattle.hermes.specs.Run.{Entry, Group, result, run}
 use Rattle.hermes.specs.Agreement.{Started, Entries, Shows, Alike, IsAccepted, after}
 use Rattle.hermes.specs.Reads.{Sound}
-use Rattle.hermes.specs.Asking.{AskGives, RefusedBy, Still, HandsOut, reads, asks, Apart, Opened, AskingAny, Asking}
+use Rattle.hermes.specs.Asking.{EveryAskGives, RefusedBy, Still, HandsOut, reads, asks, Apart, Opened, AskingAny, Asking}
 use Rattle.hermes_record.proofs.Order.{higher-order, equal-same, greater-later, later-apart, notAfter-trans, notAfter-antisym}
 use Rattle.hermes_record.proofs.Tests.{and-both}
 use Rattle.hermes.proofs.Store.{value-slot}
@@ -45,7 +45,7 @@ pub moves-as-read : (wins : ℕ → ℕ → Bool) (me : Replica) (count bytes i 
 unfolding moved refusal
 moves-as-read wins me count bytes i r = refl
 
-pub ask-gives : (wins : ℕ → ℕ → Bool) (n : Node) (i : ℕ) → AskGives wins n i
+pub ask-gives : EveryAskGives
 unfolding askHands askStamp readPart refusal
 ask-gives wins n i = record { asRead = as-read wins n i; part = refl; accepted = gives (apply wins n i Ask []) (applied wins n i Ask []); refused = empty (apply wins n i Ask []) (applied wins n i Ask []) }
   where

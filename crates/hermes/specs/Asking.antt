@@ -16,7 +16,7 @@ use Rattle.hermes.specs.Agreement.{Started, Entries, Shows, Alike, IsAcc
 
 -- ---- one ask
 
--- an ask of record i of n; `proofs/Asking` proves it of every laptop and number
+-- an ask of record i of n
 pub record AskGives (wins : ℕ → ℕ → Bool) (n : Node) (i : ℕ) : Type 0 where
   -- "refused as a read is", and nothing moves: it comes to what a read comes to, and hands out the same part
   pub asRead : apply wins n i Ask [] ≡ apply wins n i Read []
@@ -25,6 +25,10 @@ pub record AskGives (wins : ℕ → ℕ → Bool) (n : Node) (i : ℕ) : Type 0 
   pub accepted : numberOf (apply wins n i Ask [] .answer) ≡ 0 → asked n i ≡ record { part = valueOf i n; timestamp = recordOf i n .timestamp }
   -- where it is refused the empty part, and (0, 0) for no stamp
   pub refused : numberOf (apply wins n i Ask [] .answer) ≢ 0 → asked n i ≡ record { part = []; timestamp = record { version = 0; tie = 0 } }
+
+-- every ask, on every laptop; `proofs/Asking` proves it
+abbrev pub EveryAskGives : Type 0
+EveryAskGives = (wins : ℕ → ℕ → Bool) (n : Node) (i : ℕ) → AskGives wins n i
 
 -- ---- lists of entries
 
