@@ -136,7 +136,7 @@ static void a_worked_morning(void) {
     CHECK(is(&five, CETSKOBI_VALID, 1, 2, 0));
     /* 1's ringer would save over what she saw. Her text is kept, and once the other's is shown, it says more than hers. */
     CHECK(saves_over(&one, &seen_at_one, "robin", &none) == 26);
-    CHECK(reopen(&one, 26, &seen_at_one) == 6 && has(&seen_at_one, "", 0, 1));
+    CHECK(open_ring(&one, seen_at_one.ring, &seen_at_one) == 6 && has(&seen_at_one, "", 0, 1));
     ticks(&two, 8);
     val = sent(SET_1 | SET_5);
     came(&one, val);
@@ -333,16 +333,16 @@ static void a_save_since_the_ring_was_opened(void) {
     came(&one, inv);
     came(&two, sent(SET_2));
     /* The other's save is not finished here: hers stays on the screen until it is. */
-    CHECK(saves_over(&one, &seen, "weight 18", &saved) == 26 && reopen(&one, 26, &seen) == 6 && has(&seen, "", 0, 1));
+    CHECK(saves_over(&one, &seen, "weight 18", &saved) == 26 && open_ring(&one, seen.ring, &seen) == 6 && has(&seen, "", 0, 1));
     came(&five, inv);
     came(&two, sent(SET_2));
     came(&one, sent(SET_1 | SET_5));
-    CHECK(saves_over(&one, &seen, "weight 18", &saved) == 26 && reopen(&one, 26, &seen) == 0 && has(&seen, "wing 73", 1, 2));
+    CHECK(saves_over(&one, &seen, "weight 18", &saved) == 26 && open_ring(&one, seen.ring, &seen) == 0 && has(&seen, "wing 73", 1, 2));
     silent();
     CHECK(shows(&one, "wing 73") && saved.version == 0);
     /* She sees both, and makes one of them. It is too long; then it is not. */
     static const uint8_t full[CETSKOBI_VALUE_MAX + 1] = {0};
-    CHECK(save(&one, &seen, full, sizeof full, &saved) == 8 && reopen(&one, 8, &seen) == 0 && has(&seen, "wing 73", 1, 2));
+    CHECK(save(&one, &seen, full, sizeof full, &saved) == 8 && open_ring(&one, seen.ring, &seen) == 0 && has(&seen, "wing 73", 1, 2));
     silent();
     CHECK(saves_over(&one, &seen, "wing 73, weight 18", &saved) == 0 && saved.version == 2 && saved.tie == 1);
     CHECK(carries(sent(SET_2 | SET_5), CETSKOBI_INV, 2, 1));
@@ -351,6 +351,10 @@ static void a_save_since_the_ring_was_opened(void) {
     seen.ring = COUNT;
     CHECK(saves_over(&one, &seen, "wren", &saved) == 4 && saved.version == 2);
     silent();
+    /* A laptop that is struck off says so before it looks at what was opened. */
+    CHECK(open_ring(&five, RING, &seen) == 6 && view_came(&five, 1, SET_1 | SET_2) == 0);
+    seen.ring = RING;
+    CHECK(saves_over(&five, &seen, "wren", &saved) == 3 && open_ring(&five, RING, &seen) == 3);
 }
 
 /* 2's save waits for 5 alone when 5 is struck off: no ACK comes that would finish it, so the view does. */

@@ -73,7 +73,8 @@ impl<T: AsMut<[u8]>, S: AsMut<[u8]>> Laptop<T, S> {
     /// Saves a value over what [`ask`](Laptop::ask) opened, if the record here is
     /// still valid with the timestamp that it had then: this laptop took no newer
     /// save between. It goes on as a [`write`](Laptop::write): an INV leaves, with
-    /// the value.
+    /// the value. An ask right before the commit is no opening: nobody has seen that
+    /// text.
     ///
     /// ```
     /// use cetskobi::{Laptop, Refusal};

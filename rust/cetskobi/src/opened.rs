@@ -13,6 +13,7 @@ use crate::{Refusal, Timestamp};
 /// does it hold the record: others may save it meanwhile, and then the commit is
 /// refused. It knows its record and timestamp, and no laptop: of a group in one
 /// memory another laptop may commit it, if it shows that record with that timestamp.
+/// Nor does it know its group: drop it at a fresh start, where timestamps begin anew.
 ///
 /// ```
 /// use cetskobi::{Laptop, Refusal};
@@ -28,7 +29,8 @@ use crate::{Refusal, Timestamp};
 /// # }
 /// ```
 ///
-/// A save that was not opened cannot be written by mistake. Nobody else makes one:
+/// A commit of what was not opened cannot be written by mistake. Only an ask makes
+/// an `Opened`:
 ///
 /// ```compile_fail,E0451
 /// # use cetskobi::{Opened, Timestamp};
@@ -93,7 +95,8 @@ impl Opened {
 ///
 /// [`NotAsOpened`](Refusal::NotAsOpened) says that another save has come since, and
 /// what was opened is out of date: keep the ringer's text, ask again, and show her
-/// both. After any other refusal what was opened still counts, for another try:
+/// both. After 8 or 9 what was opened still stands, for another try; questions 1 to
+/// 5 are asked before, and tell nothing of it:
 ///
 /// ```
 /// use cetskobi::{Laptop, Refusal};
@@ -122,7 +125,12 @@ impl NotCommitted {
         self.refusal
     }
 
-    /// What had been opened.
+    /// What had been opened, to look at.
+    pub fn opened(&self) -> &Opened {
+        &self.opened
+    }
+
+    /// What had been opened, for another try.
     pub fn into_opened(self) -> Opened {
         self.opened
     }
@@ -134,7 +142,11 @@ impl fmt::Display for NotCommitted {
     }
 }
 
-impl Error for NotCommitted {}
+impl Error for NotCommitted {
+    fn source(&self) -> Option<&(dyn Error + 'static)> {
+        Some(&self.refusal)
+    }
+}
 
 impl From<NotCommitted> for Refusal {
     fn from(no: NotCommitted) -> Refusal {

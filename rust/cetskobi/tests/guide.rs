@@ -198,7 +198,7 @@ fn a_worked_morning() {
     // is shown, it says more than hers.
     let no = one.save(seen_at_one, b"robin").unwrap_err();
     assert_eq!(no.refusal(), Refusal::NotAsOpened);
-    assert_eq!(one.reopen(no), Err(Refusal::NotReadable));
+    assert_eq!(one.open(no.opened().record()), Err(Refusal::NotReadable));
     two.ticks(8);
     one.came(&two.sent([1, 5]));
     one.is(State::Valid, first, 0);
@@ -442,7 +442,7 @@ fn a_save_is_refused_if_another_came_since_the_ring_was_opened() {
     one.came(&inv);
     let no = one.save(seen, hers).unwrap_err();
     assert_eq!(no.refusal(), Refusal::NotAsOpened);
-    assert_eq!(one.reopen(no), Err(Refusal::NotReadable));
+    assert_eq!(one.open(no.opened().record()), Err(Refusal::NotReadable));
     for hut in [&mut one, &mut five] {
         hut.came(&inv);
         two.came(&hut.all_sent()[0].0);
@@ -457,13 +457,13 @@ fn a_save_is_refused_if_another_came_since_the_ring_was_opened() {
     let no = one.save(now, &long).unwrap_err();
     assert_eq!(no.refusal(), Refusal::ValueTooLong);
     assert!(one.all_sent().is_empty());
-    let now = one.reopen(no).expect("it still stands");
+    let now = one.open(no.opened().record()).expect("it still stands");
     assert_eq!((now.timestamp(), now.text()), (first, &b"wing 73"[..]));
     assert_eq!(one.save(now, &both), Ok(stamp(2, 1)));
     assert_eq!(messages(&one.sent([2, 5])), [Message::Inv(stamp(2, 1))]);
 }
 
-/// The other's save is finished before hers: reopening shows it at once. A plain
+/// The other's save is finished before hers: opening again shows it at once. A plain
 /// write would have gone over it unseen.
 #[test]
 fn a_save_over_a_text_unseen_is_refused() {
@@ -478,11 +478,23 @@ fn a_save_over_a_text_unseen_is_refused() {
     one.came(&two.sent([1, 5]));
     let no = one.save(seen, b"late").unwrap_err();
     assert_eq!(no.refusal(), Refusal::NotAsOpened);
-    let now = one.reopen(no).expect("shown");
+    let now = one.open(no.opened().record()).expect("shown");
     assert_eq!((now.timestamp(), now.text()), (stamp(1, 2), &b"two's"[..]));
     one.shows(b"two's");
     assert!(one.all_sent().is_empty());
     assert!(one.laptop.write(RING, b"late").is_ok());
+}
+
+/// A laptop that is struck off says so before it looks at what was opened: nothing
+/// is shown there that may be out of date.
+#[test]
+fn a_struck_off_laptop_neither_saves_nor_opens() {
+    let [_, _, mut five] = three();
+    let seen = five.open(RING).expect("shown");
+    five.view_came(1, 6).expect("accepted");
+    let no = five.save(seen, b"late").unwrap_err();
+    assert_eq!(no.refusal(), Refusal::StruckOff);
+    assert_eq!(five.open(no.opened().record()), Err(Refusal::StruckOff));
 }
 
 #[test]

@@ -67,22 +67,14 @@ impl Hut {
     }
 
     /// A ringer saves over the text that she saw. Ok has the save's timestamp: keep it with her text, and ask for its fate. Err: nothing
-    /// was saved. Keep her text on the screen, and reopen.
+    /// was saved. Keep her text on the screen, open the ring again, and show her both: after 26 the text as it stands now, after 8 or 9 the
+    /// one that she saw. 6: a newer save is not finished here; open it in a while.
     fn save(&mut self, opened: Opened, text: &[u8]) -> Result<Timestamp, NotCommitted> {
         let inv = self.laptop.commit(opened, text)?.into_owned();
         let saved = inv.envelope().message.timestamp();
         self.put_again(inv, WAIT_FIRST);
         self.send();
         Ok(saved)
-    }
-
-    /// After a refused save: what to show her beside her own text, and what her next save brings back. Err(6): a newer save is not
-    /// finished here; open the ring in a while.
-    fn reopen(&self, no: NotCommitted) -> Result<Opened, Refusal> {
-        match no.refusal() {
-            Refusal::NotAsOpened => self.open(no.into_opened().record()), // saved since: the text as it stands now
-            _ => Ok(no.into_opened()), // what she saw still stands: after 8 she shortens her text
-        }
     }
 
     /// Asked after every packet and every change of view: while it is Waiting, and better to the end of the day.
