@@ -346,8 +346,12 @@ module _ (issued : ℕ → ℕ) (log : List Logged) (i : ℕ) where
   is-accepted l l′ number z c e = subst (λ (x : Call). Returns x l number l′ → IsAccepted (perform higher (run.validate i) log (node l))) (sym e)
       (λ r. sym (ap (λ (x : CetskobiAnswer). x .number) (r .1 .answer) ∙ number-out (apply higher (node l) i Validate [] .answer)) ∙ r .2 ∙ z)
 
--- the entry of an ask is that ask, and of a commit that commit
+-- the entry of a read is that read, and so of an ask and a commit
 module _ (issued : ℕ → ℕ) (log : List Logged) (i : ℕ) where
+  pub is-read : (c : Call) → c ≡ read i → (f : Fair issued log c) → action issued log c f ≡ run.read i
+  unfolding action
+  is-read c e = subst (λ (x : Call). (f : Fair issued log x) → action issued log x f ≡ run.read i) (sym e) (λ f. refl)
+
   pub is-ask : (c : Call) → c ≡ ask i → (f : Fair issued log c) → action issued log c f ≡ run.ask i
   unfolding action
   is-ask c e = subst (λ (x : Call). (f : Fair issued log x) → action issued log x f ≡ run.ask i) (sym e) (λ f. refl)

@@ -12,7 +12,7 @@ use Rattle.hermes_record.specs.Order.{higher, later, sameTimestamp}
 use Rattle.hermes_record.proofs.Tests as tests
 use Rattle.hermes.specs.Store.{padded, place}
 use Rattle.hermes.specs.Event.{refusal, effect, askStamp, askHands}
-use Rattle.hermes.specs.Node.{start, apply, view, viewed}
+use Rattle.hermes.specs.Node.{start, apply, view, viewed, recordOf}
 use Rattle.packet_format.specs.Entry.{good, entryBytes}
 use Rattle.packet_format.specs.Reading.{walk, fetchRefusal, fetched}
 use Rattle.packet_format.specs.Accepting.{acceptRefusal, accepted, takeRefusal, taken}
@@ -26,17 +26,19 @@ use Rattle.hermes.specs.declared.event.Event.{Event}
 use Rattle.hermes.specs.declared.event.Event.the-variants.{Write, Deliver, Validate}
 use Rattle.hermes.specs.Node.{newcomer}
 use Rattle.hermes.specs.Run.{Logged, received}
+use Rattle.hermes.specs.Agreement.{Shows, Alike}
 use Rattle.export_numbers.specs.declared.numbers.CetskobiAdmission.{CetskobiAdmission}
 use Rattle.export_reading.specs.Reading.{AskDone}
 use Rattle.export_numbers.specs.Crossing.{identityOf, answerOut}
 use Rattle.export_outgoing.specs.Leaving.{Along, along, alongOf, AlongAt}
 use Rattle.export_packets.specs.Calls.{acceptAnswer, packAnswer}
 use Rattle.check_air.specs.Air.{Sending, wordsSent, bodiesSent, Leaves, Called, Packed}
-use Rattle.check_air.specs.Callers.{Laptop, node, Broken, Untaken, AsNumbers, Begun, AllBegun, Hut, Fair, Follows, FromAir, next, after, validates, acknowledges}
+use Rattle.check_air.specs.Callers.{Laptop, node, laptop, Broken, Untaken, AsNumbers, Begun, AllBegun, Hut, Fair, Follows, FromAir, next, after, validates, acknowledges}
 use Rattle.check_air.specs.Callers as callers
-use Rattle.check_air.specs.Morning.{val, valNumbers, inv2, ack2, val2, three, issued, lentTable, lentStore, fresh, hut, inv, ack, packetOf, Plan, turn, plans, turnsOf, morning, a1, by, Morning}
+use Rattle.check_air.specs.Morning.{val, valNumbers, inv2, ack2, val2, three, issued, lentTable, lentStore, fresh, hut, inv, ack, packetOf, Plan, turn, plans, turnsOf, morning, a1, asking, committing, by, Morning}
 use Rattle.check_air.specs.Answered.{askAnswer, afterEvent, afterCall}
-use Rattle.check_air.specs.Opened.{AskedThenCommitted}
+use Rattle.check_air.specs.Opened as callers-opened
+use Rattle.check_air.specs.Opened.{Hands, CallsApart, CallsOpened}
 use Rattle.check_air.proofs.Callers.{called-demand3}
 use Rattle.check_air.proofs.Opened.{called-asking}
 use Rattle.check_air.proofs.Answered.{after-table, asks, every-call-answers}
@@ -199,7 +201,7 @@ follow h (t ∷ rest) m (fair, f) =
 fair : AllFair hut plans
 unfolding has size lowest within othersIn with later sameTimestamp padded place refusal effect start apply view viewed good entryBytes walk fetchRefusal fetched acceptRefusal accepted takeRefusal taken summed contents packetBytes allGood writeRefusal packetWritten outputOf entryIn wordMessages receipt decode tableOf
 fair =
-    (tt, (tt, (tt, (tt, (inl inv-came, (inr broken, (inr untaken, (tt, (inl ack-came, (tt, (refl, (tt, (tt, (tt, (refl, (refl, (inl val-came, (inl val-numbers, (inr refl, (tt, (tt, (tt, (tt, (inl inv2-numbers, (inl ack2-numbers, (inl val2-numbers, (tt, tt)))))))))))))))))))))))))))
+    (tt, (tt, (tt, (tt, (inl inv-came, (inr broken, (inr untaken, (tt, (inl ack-came, (tt, (refl, (tt, (tt, (tt, (refl, (refl, (inl val-came, (inl val-numbers, (inr refl, (tt, (tt, (tt, (tt, (tt, (tt, (inl inv2-numbers, (inl ack2-numbers, (inl val2-numbers, (tt, tt)))))))))))))))))))))))))))))
 
 followed : Follows three issued hut morning
 unfolding members
@@ -209,25 +211,44 @@ begun : AllBegun three 1 issued hut
 begun = record { fresh = begins; silent = refl }
 
 -- 1 as its ask finds it, and what that answers
-abbrev asking : Laptop
-asking = after hut (take 19 morning) .at 1
+abbrev asker : Laptop
+asker = after hut (take 19 morning) .at 1
 
-ask-answers : askAnswer asking 0 ≡ a1
+answered : askAnswer asker 0 ≡ record { number = 0; tie = 0; version = 1; len = 2 }
 unfolding has size lowest within othersIn with later sameTimestamp padded place refusal effect askStamp askHands start apply view viewed good entryBytes walk fetchRefusal fetched acceptRefusal accepted takeRefusal taken summed contents packetBytes allGood writeRefusal packetWritten outputOf entryIn wordMessages receipt decode tableOf
-ask-answers = refl
+answered = refl
 
-asked : AskedThenCommitted hut morning (take 19 morning) (take 1 (drop 20 morning)) 0 (turn (after hut (take 19 morning)) (by 1 (callers.ask 0)))
-    (turn (after hut (take 21 morning)) (by 1 (callers.commit 0 1 0 (66 ∷ [])))) a1 (66 ∷ [])
+asked : Hands (node asker) (callers.ask 0) 0 a1 (65 ∷ 49 ∷ [])
 unfolding has size lowest within othersIn with later sameTimestamp padded place refusal effect askStamp askHands start apply view viewed good entryBytes walk fetchRefusal fetched acceptRefusal accepted takeRefusal taken summed contents packetBytes allGood writeRefusal packetWritten outputOf entryIn wordMessages receipt decode tableOf
-asked = record {
-  rest = drop 22 morning;
-  split = refl;
-  one = refl;
-  asks = refl;
-  answers = subst (AskDone (node asking) 0) ask-answers (asks asking 0);
-  accepted = refl;
-  commits = refl;
-}
+asked = callers-opened.asks (record { number = 0; tie = 0; version = 1; len = 2 }) refl (subst (AskDone (node asker) 0) answered (asks asker 0)) refl refl refl
+
+-- its commits
+saves : CallsApart morning (take 19 morning) (take 2 (drop 20 morning)) asking (committing 22)
+unfolding has size lowest within othersIn with later sameTimestamp padded place refusal effect askStamp askHands start apply view viewed good entryBytes walk fetchRefusal fetched acceptRefusal accepted takeRefusal taken summed contents packetBytes allGood writeRefusal packetWritten outputOf entryIn wordMessages receipt decode tableOf
+saves = record { rest = drop 23 morning; split = refl; one = refl }
+
+late : CallsApart morning (take 19 morning) (take 4 (drop 20 morning)) asking (committing 24)
+unfolding has size lowest within othersIn with later sameTimestamp padded place refusal effect askStamp askHands start apply view viewed good entryBytes walk fetchRefusal fetched acceptRefusal accepted takeRefusal taken summed contents packetBytes allGood writeRefusal packetWritten outputOf entryIn wordMessages receipt decode tableOf
+late = record { rest = drop 25 morning; split = refl; one = refl }
+
+rereads : CallsApart morning (take 19 morning) [] asking (turn (after hut (take 20 morning)) (by 1 (callers.read 0)))
+unfolding has size lowest within othersIn with later sameTimestamp padded place refusal effect askStamp askHands start apply view viewed good entryBytes walk fetchRefusal fetched acceptRefusal accepted takeRefusal taken summed contents packetBytes allGood writeRefusal packetWritten outputOf entryIn wordMessages receipt decode tableOf
+rereads = record { rest = drop 21 morning; split = refl; one = refl }
+
+opened : CallsOpened hut morning
+opened = called-asking three 1 issued hut begun morning followed
+
+kept : (recordOf 0 (laptop hut (take 22 morning) 1) .timestamp ≡ a1) × Shows (laptop hut (take 22 morning) 1) 0 × Alike 0 (laptop hut (take 22 morning) 1) (laptop hut (take 19 morning) 1)
+unfolding has size lowest within othersIn with later sameTimestamp padded place refusal effect askStamp askHands start apply view viewed good entryBytes walk fetchRefusal fetched acceptRefusal accepted takeRefusal taken summed contents packetBytes allGood writeRefusal packetWritten outputOf entryIn wordMessages receipt decode tableOf
+kept = opened .kept 0 (take 19 morning) (take 2 (drop 20 morning)) asking (committing 22) saves a1 (65 ∷ 49 ∷ []) (66 ∷ []) asked refl refl (take 2 (drop 20 morning)) [] refl
+
+newer : later higher (recordOf 0 (laptop hut (take 24 morning) 1) .timestamp) a1 ≡ true
+unfolding has size lowest within othersIn with later sameTimestamp padded place refusal effect askStamp askHands start apply view viewed good entryBytes walk fetchRefusal fetched acceptRefusal accepted takeRefusal taken summed contents packetBytes allGood writeRefusal packetWritten outputOf entryIn wordMessages receipt decode tableOf
+newer = opened .newer 0 (take 19 morning) (take 4 (drop 20 morning)) asking (committing 24) late a1 (65 ∷ 49 ∷ []) (66 ∷ []) asked refl refl
+
+one-text : (text : List ℕ) → Hands (laptop hut (take 20 morning) 1) (callers.read 0) 0 a1 text → text ≡ 65 ∷ 49 ∷ []
+unfolding has size lowest within othersIn with later sameTimestamp padded place refusal effect askStamp askHands start apply view viewed good entryBytes walk fetchRefusal fetched acceptRefusal accepted takeRefusal taken summed contents packetBytes allGood writeRefusal packetWritten outputOf entryIn wordMessages receipt decode tableOf
+one-text text x = sym (opened .forward 0 (take 19 morning) [] asking (turn (after hut (take 20 morning)) (by 1 (callers.read 0))) rereads a1 a1 (65 ∷ 49 ∷ []) text asked x .1 refl)
 
 pub morning-holds : Morning
 unfolding has size lowest within othersIn with later sameTimestamp padded place refusal effect start apply view viewed good entryBytes walk fetchRefusal fetched acceptRefusal accepted takeRefusal taken summed contents packetBytes allGood writeRefusal packetWritten outputOf entryIn wordMessages receipt decode tableOf
@@ -242,6 +263,12 @@ morning-holds = record {
   shown = refl;
   byValidate = record { split = refl; finishes = validates refl; number = refl; then = refl; shown = refl };
   byAck = record { split = refl; finishes = acknowledges tt (record { version = 2; tie = 1 }) refl; number = refl; then = refl; shown = refl };
-  opened = called-asking three 1 issued hut begun morning followed;
-  saves = asked;
+  asked = asked;
+  saves = saves;
+  stampKept = kept .0;
+  shownStill = kept .1;
+  bytesKept = kept .2;
+  late = late;
+  newer = newer;
+  oneText = one-text;
 }

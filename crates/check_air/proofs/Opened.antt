@@ -4,30 +4,27 @@ use mathlib.Core.Path.{_≡_, refl, sym, ap, subst, _∙_}
 use mathlib.Core.Bool.{Bool, true}
 use mathlib.Core.List.{List, [], _∷_, _++_}
 use Rattle.hermes_record.specs.declared.timestamp.Timestamp.{Timestamp}
-use Rattle.hermes.specs.declared.event.Event.the-variants.{Ask, Commit}
-use Rattle.hermes_record.specs.Order.{higher, later}
+use Rattle.hermes.specs.declared.event.Event.the-variants.{Read, Ask, Commit}
+use Rattle.hermes_record.specs.Order.{higher, later, NotAfter}
 use Rattle.hermes.specs.Event.{numberOf}
+use Rattle.hermes.specs.Node as hermes
 use Rattle.hermes.specs.Node.{Node, apply, asked, recordOf}
 use Rattle.hermes.specs.Run as run
-use Rattle.hermes.specs.Run.{Entry, Result, perform, result}
-use Rattle.hermes.specs.Agreement.{IsAccepted}
+use Rattle.hermes.specs.Run.{Action, Entry, Group, Result, perform, result}
+use Rattle.hermes.specs.Agreement.{Shows, Alike, IsAccepted}
 use Rattle.hermes.specs.Asking as asking-of
 use Rattle.hermes.specs.Asking.{Still, HandsOut, Apart, Opened}
 use Rattle.hermes.proofs.Agreement.{run-append}
 use Rattle.hermes.proofs.Asking.{asking}
 use Rattle.export_numbers.specs.declared.numbers.CetskobiAnswer.{CetskobiAnswer}
-use Rattle.export_numbers.specs.declared.numbers.CetskobiAsked.{CetskobiAsked}
-use Rattle.export_reading.specs.Reading.{AskDone}
-use Rattle.check_air.specs.Callers.{Laptop, node, Call, ask, commit, Returns, Hut, Turn, next, after, Follows, AllBegun, laptop}
-use Rattle.check_air.specs.Opened.{askedTimestamp, AskedThenCommitted, CallsOpened, CalledAsking}
-use Rattle.check_air.proofs.Callers.{Match, number-out, is-ask, is-commit, entry, turn-matches, entries, first-entry, are-entries, matches, first-part, second-part, both-parts, groupOf, started, match}
+use Rattle.check_air.specs.Callers.{Laptop, node, Call, commit, Returns, Hut, Turn, next, after, Follows, AllBegun, laptop}
+use Rattle.check_air.specs.Opened.{Hands, asks, reads, CallsApart, CalledAsking}
+use Rattle.check_air.proofs.Callers.{action, Match, number-out, is-read, is-ask, is-commit, entry, turn-matches, entries, first-entry, are-entries, matches, first-part, second-part, both-parts, groupOf, started, match}
 
 -- calls cut in two
 after-append : (h : Hut) (before rest : List Turn) → after h (before ++ rest) ≡ after (after h before) rest
 after-append h [] rest = refl
 after-append h (s ∷ before) rest = after-append (next h s) before rest
-
--- ---- one call
 
 -- the number that `cetskobi_commit` answers
 commit-number : (i version tie : ℕ) (v : List ℕ) (l l′ : Laptop) (number : ℕ) (c : Call) → c ≡ commit i version tie v → Returns c l number l′
@@ -41,13 +38,40 @@ accepted-of : (r : Result) → asking-of.RefusedBy 0 r → IsAccepted r
 accepted-of run.nothing q = q
 accepted-of (run.event o) q = q
 
--- ---- an ask, calls, and its commit
+-- ---- a call that hands out is such an entry
 
-module _ (member : ℕ → Bool) (count : ℕ) (issued : ℕ → ℕ) (h : Hut) (begun : AllBegun member count issued h)
-    (before upto beyond rest : List Turn) (i : ℕ) (s c : Turn) (p : CetskobiAsked) (v : List ℕ)
-    (f : Follows member issued h (before ++ s ∷ ((upto ++ beyond) ++ c ∷ rest)))
-    (one : s .who ≡ c .who) (asks : s .call ≡ ask i) (answers : AskDone (laptop h before (s .who)) i p) (zero-said : p .number ≡ 0) (commits : c .call ≡ commit i (p .version) (p .tie) v) where
-  -- the group at the ask, after it, and at the commit
+module _ (member : ℕ → Bool) (issued : ℕ → ℕ) (g : Group) (h : Hut) (m : Match g h) (s : Turn) (f : Follows member issued h (s ∷ [])) where
+  abbrev a : Entry
+  a = entry member issued h s (f .1)
+
+  abbrev n : Node
+  n = node (h .at (s .who))
+
+  entry-does : (x : Action) → a .what ≡ x → result higher g a ≡ perform higher x (h .log) n
+  unfolding result
+  entry-does x is = λ j. perform higher (is j) (m .logs j) (m .nodes (s .who) j)
+
+  hands : (i : ℕ) (t : Timestamp) (text : List ℕ) → Hands n (s .call) i t text → HandsOut higher g a i t text
+  hands i t text (asks p c d z e b) = asking-of.asks is (subst IsAccepted (sym (entry-does (run.ask i) is)) (sym (d .number) ∙ z)) out
+    where
+      is : a .what ≡ run.ask i
+      is = is-ask issued (h .log) i (s .call) c (f .1)
+
+      out : asked (g .at (s .who)) i ≡ record { part = text; timestamp = t }
+      out = ap (λ (x : Node). asked x i) (m .nodes (s .who)) ∙ λ j. record { part = (sym (d .part .part) ∙ b) j; timestamp = ((λ k. record { version = sym (d .version) k; tie = sym (d .tie) k }) ∙ e) j }
+  hands i t text (reads p c d z e b) = asking-of.reads is (subst IsAccepted (sym (entry-does (run.read i) is)) (sym (d .number) ∙ z)) out (ap (λ (x : Node). recordOf i x .timestamp) (m .nodes (s .who)) ∙ e)
+    where
+      is : a .what ≡ run.read i
+      is = is-read issued (h .log) i (s .call) c (f .1)
+
+      out : hermes.read (g .at (s .who)) i ≡ text
+      out = ap (λ (x : Node). hermes.read x i) (m .nodes (s .who)) ∙ sym (d .part .part) ∙ b
+
+-- ---- two calls of one laptop, and those between
+
+module _ (member : ℕ → Bool) (count : ℕ) (issued : ℕ → ℕ) (h : Hut) (begun : AllBegun member count issued h) (before upto beyond rest : List Turn) (s c : Turn)
+    (f : Follows member issued h (before ++ s ∷ ((upto ++ beyond) ++ c ∷ rest))) (one : s .who ≡ c .who) where
+  -- the group at the first, after it, and at the second
   abbrev h1 : Hut
   h1 = after h before
 
@@ -73,94 +97,94 @@ module _ (member : ℕ → Bool) (count : ℕ) (issued : ℕ → ℕ) (h : Hut) 
   abbrev e1 : List Entry
   e1 = entries member issued h before f1
 
-  abbrev a : Entry
-  a = entry member issued h1 s (f2 .1)
+  abbrev first : Entry
+  first = entry member issued h1 s (f2 .1)
 
-  abbrev b : Entry
-  b = entry member issued h3 c (f3 .1)
+  abbrev second : Entry
+  second = entry member issued h3 c (f3 .1)
 
   abbrev entries-after : (turns : List Turn) → Follows member issued h2 turns → List Entry
   entries-after turns g = entries member issued h2 turns g
 
+  -- the run at the first, and after further calls
+  abbrev atFirst : Group
+  atFirst = run.run higher (groupOf h) e1
+
+  abbrev atSecond : Group
+  atSecond = run.run higher (groupOf h) (e1 ++ first ∷ entries-after (upto ++ beyond) between)
+
   claim : Opened higher (groupOf h) (entries member issued h (before ++ s ∷ ((upto ++ beyond) ++ c ∷ rest)) f)
   claim = asking member count issued (groupOf h) (started member count issued h begun) _ (are-entries member issued h (before ++ s ∷ ((upto ++ beyond) ++ c ∷ rest)) f)
 
-  apart : Apart (entries member issued h (before ++ s ∷ ((upto ++ beyond) ++ c ∷ rest)) f) e1 (entries-after (upto ++ beyond) between) a b
+  apart : Apart (entries member issued h (before ++ s ∷ ((upto ++ beyond) ++ c ∷ rest)) f) e1 (entries-after (upto ++ beyond) between) first second
   unfolding f1 f2 f3 between
   apart = record {
     rest = entries member issued (next h3 c) rest (f3 .3);
     split =
         both-parts member issued h before (s ∷ ((upto ++ beyond) ++ c ∷ rest)) f
         ∙ ap (λ (es : List Entry). e1 ++ es) (first-entry member issued h1 s ((upto ++ beyond) ++ c ∷ rest) f2)
-        ∙ ap (λ (es : List Entry). e1 ++ a ∷ es) (both-parts member issued h2 (upto ++ beyond) (c ∷ rest) (f2 .3))
-        ∙ ap (λ (es : List Entry). e1 ++ a ∷ (entries-after (upto ++ beyond) between ++ es)) (first-entry member issued h3 c rest f3);
+        ∙ ap (λ (es : List Entry). e1 ++ first ∷ es) (both-parts member issued h2 (upto ++ beyond) (c ∷ rest) (f2 .3))
+        ∙ ap (λ (es : List Entry). e1 ++ first ∷ (entries-after (upto ++ beyond) between ++ es)) (first-entry member issued h3 c rest f3);
     one = one;
   }
 
-  -- the run at the ask, and after further calls
-  here : Match (run.run higher (groupOf h) e1) h1
+  here : Match atFirst h1
   here = match member count issued h begun before f1
 
-  there : (turns : List Turn) (g : Follows member issued h2 turns) → Match (run.run higher (groupOf h) (e1 ++ a ∷ entries-after turns g)) (after h2 turns)
-  there turns g = subst (λ x. Match x (after h2 turns)) (sym (run-append higher (groupOf h) e1 (a ∷ entries-after turns g)))
-      (matches member issued (run.advance higher (run.run higher (groupOf h) e1) a) h2 turns g (turn-matches member issued (run.run higher (groupOf h) e1) h1 s (f2 .1) (f2 .2) here))
+  there : (turns : List Turn) (g : Follows member issued h2 turns) → Match (run.run higher (groupOf h) (e1 ++ first ∷ entries-after turns g)) (after h2 turns)
+  there turns g = subst (λ x. Match x (after h2 turns)) (sym (run-append higher (groupOf h) e1 (first ∷ entries-after turns g)))
+      (matches member issued (run.advance higher atFirst first) h2 turns g (turn-matches member issued atFirst h1 s (f2 .1) (f2 .2) here))
 
   later-laptop : (turns : List Turn) (k : ℕ) → node (after h2 turns .at k) ≡ laptop h (before ++ s ∷ turns) k
   later-laptop turns k = ap (λ (x : Hut). node (x .at k)) (sym (after-append h before (s ∷ turns)))
 
-  abbrev n : Node
-  n = laptop h before (s .who)
+  -- what the two hand out
+  hands-first : (i : ℕ) (t : Timestamp) (text : List ℕ) → Hands (laptop h before (s .who)) (s .call) i t text → HandsOut higher atFirst first i t text
+  hands-first i t text x = hands member issued atFirst h1 here s (f2 .0, f2 .1, f2 .2, tt) i t text x
 
-  hands : HandsOut higher (run.run higher (groupOf h) e1) a i (askedTimestamp p) (asked n i .part)
-  unfolding result
-  hands = asking-of.asks is accepted out
-    where
-      is : a .what ≡ run.ask i
-      is = is-ask issued (h1 .log) i (s .call) asks (f2 .1)
+  hands-second : (i : ℕ) (t : Timestamp) (text : List ℕ) → Hands (laptop h (before ++ s ∷ (upto ++ beyond)) (c .who)) (c .call) i t text → HandsOut higher atSecond second i t text
+  hands-second i t text x =
+      hands member issued atSecond h3 (there (upto ++ beyond) between) c (f3 .0, f3 .1, f3 .2, tt) i t text
+      (subst (λ (n : Node). Hands n (c .call) i t text) (sym (later-laptop (upto ++ beyond) (c .who))) x)
 
-      does : result higher (run.run higher (groupOf h) e1) a ≡ run.event (apply higher n i Ask [])
-      does = λ j. perform higher (is j) (here .logs j) (here .nodes (s .who) j)
+  forward-here : (i : ℕ) (t u : Timestamp) (one′ other : List ℕ) → Hands (laptop h before (s .who)) (s .call) i t one′ → Hands (laptop h (before ++ s ∷ (upto ++ beyond)) (c .who)) (c .call) i u other
+      → NotAfter higher t u × (t ≡ u → one′ ≡ other)
+  forward-here i t u one′ other x y = claim .forward i e1 (entries-after (upto ++ beyond) between) first second apart t u one′ other (hands-first i t one′ x) (hands-second i u other y)
 
-      accepted : IsAccepted (result higher (run.run higher (groupOf h) e1) a)
-      accepted = subst IsAccepted (sym does) (sym (answers .number) ∙ zero-said)
+  -- a commit of what the first handed out
+  module _ (i : ℕ) (t : Timestamp) (text v : List ℕ) (x : Hands (laptop h before (s .who)) (s .call) i t text) (commits : c .call ≡ commit i (t .version) (t .tie) v) where
+    is : second .what ≡ run.commit i t v
+    is = is-commit issued (h3 .log) i (t .version) (t .tie) v (c .call) commits (f3 .1)
 
-      out : asked (run.run higher (groupOf h) e1 .at (s .who)) i ≡ record { part = asked n i .part; timestamp = askedTimestamp p }
-      out = ap (λ (x : Node). asked x i) (here .nodes (s .who)) ∙ λ j. record { part = asked n i .part; timestamp = record { version = sym (answers .version) j; tie = sym (answers .tie) j } }
+    -- its entry answers what the call did
+    committed : (number : ℕ) → c .number ≡ number → asking-of.RefusedBy number (result higher atSecond second)
+    committed number e =
+        subst (asking-of.RefusedBy number) (sym (entry-does member issued atSecond h3 (there (upto ++ beyond) between) c (f3 .0, f3 .1, f3 .2, tt) (run.commit i t v) is))
+        (commit-number i (t .version) (t .tie) v (h3 .at (c .who)) (c .left) (c .number) (c .call) commits (f3 .2) ∙ e)
 
-  is : b .what ≡ run.commit i (askedTimestamp p) v
-  is = is-commit issued (h3 .log) i (p .version) (p .tie) v (c .call) commits (f3 .1)
+    still : c .number ≡ 0 → Still i t (laptop h (before ++ s ∷ upto) (s .who)) (laptop h before (s .who))
+    still e =
+        let g = first-part member issued h2 upto beyond between in
+        subst (λ (y : Node). Still i t y (laptop h before (s .who))) (there upto g .nodes (s .who) ∙ later-laptop upto (s .who))
+        (subst (λ (y : Node). Still i t (run.run higher (groupOf h) (e1 ++ first ∷ entries-after upto g) .at (s .who)) y) (here .nodes (s .who))
+        (claim .kept i e1 (entries-after (upto ++ beyond) between) first second apart t text v (hands-first i t text x) is (accepted-of (result higher atSecond second) (committed 0 e))
+        (entries-after upto g) (entries member issued (after h2 upto) beyond (second-part member issued h2 upto beyond between)) (both-parts member issued h2 upto beyond between)))
 
-  -- the entry of the commit answers what the call did
-  committed : (number : ℕ) → c .number ≡ number → asking-of.RefusedBy number (result higher (run.run higher (groupOf h) (e1 ++ a ∷ entries-after (upto ++ beyond) between)) b)
-  unfolding result
-  committed number e = subst (asking-of.RefusedBy number) (sym does) (commit-number i (p .version) (p .tie) v (h3 .at (c .who)) (c .left) (c .number) (c .call) commits (f3 .2) ∙ e)
-    where
-      m : Match (run.run higher (groupOf h) (e1 ++ a ∷ entries-after (upto ++ beyond) between)) h3
-      m = there (upto ++ beyond) between
-
-      does : result higher (run.run higher (groupOf h) (e1 ++ a ∷ entries-after (upto ++ beyond) between)) b ≡ run.event (apply higher (node (h3 .at (c .who))) i (Commit (askedTimestamp p)) v)
-      does = λ j. perform higher (is j) (m .logs j) (m .nodes (c .who) j)
-
-  kept-here : c .number ≡ 0 → Still i (askedTimestamp p) (laptop h (before ++ s ∷ upto) (s .who)) (laptop h before (s .who))
-  kept-here e =
-      let g = first-part member issued h2 upto beyond between in
-      subst (λ (x : Node). Still i (askedTimestamp p) x (laptop h before (s .who))) (there upto g .nodes (s .who) ∙ later-laptop upto (s .who))
-      (subst (λ (y : Node). Still i (askedTimestamp p) (run.run higher (groupOf h) (e1 ++ a ∷ entries-after upto g) .at (s .who)) y) (here .nodes (s .who))
-      (claim .kept i e1 (entries-after (upto ++ beyond) between) a b apart (askedTimestamp p) (asked n i .part) v hands is (accepted-of (result higher (run.run higher (groupOf h) (e1 ++ a ∷ entries-after (upto ++ beyond) between)) b) (committed 0 e))
-      (entries-after upto g) (entries member issued (after h2 upto) beyond (second-part member issued h2 upto beyond between)) (both-parts member issued h2 upto beyond between)))
-
-  newer-here : c .number ≡ 26 → later higher (recordOf i (laptop h (before ++ s ∷ (upto ++ beyond)) (s .who)) .timestamp) (askedTimestamp p) ≡ true
-  newer-here e =
-      subst (λ (x : Node). later higher (recordOf i x .timestamp) (askedTimestamp p) ≡ true) (there (upto ++ beyond) between .nodes (s .who) ∙ later-laptop (upto ++ beyond) (s .who))
-      (claim .newer i e1 (entries-after (upto ++ beyond) between) a b apart (askedTimestamp p) (asked n i .part) v hands is (committed 26 e))
+    newer-here : c .number ≡ 26 → later higher (recordOf i (laptop h (before ++ s ∷ (upto ++ beyond)) (s .who)) .timestamp) t ≡ true
+    newer-here e =
+        subst (λ (y : Node). later higher (recordOf i y .timestamp) t ≡ true) (there (upto ++ beyond) between .nodes (s .who) ∙ later-laptop (upto ++ beyond) (s .who))
+        (claim .newer i e1 (entries-after (upto ++ beyond) between) first second apart t text v (hands-first i t text x) is (committed 26 e))
 
 -- ---- the theorem
 
 pub called-asking : CalledAsking
 called-asking member count issued h begun turns f = record {
-  kept = λ before between i s c p v w e upto beyond cut.
-      let split : turns ≡ before ++ s ∷ ((upto ++ beyond) ++ c ∷ w .rest) = w .split ∙ ap (λ (x : List Turn). before ++ s ∷ (x ++ c ∷ w .rest)) cut in
-      kept-here member count issued h begun before upto beyond (w .rest) i s c p v (subst (Follows member issued h) split f) (w .one) (w .asks) (w .answers) (w .accepted) (w .commits) e;
-  newer = λ before between i s c p v w e.
-      newer-here member count issued h begun before [] between (w .rest) i s c p v (subst (Follows member issued h) (w .split) f) (w .one) (w .asks) (w .answers) (w .accepted) (w .commits) e;
+  forward = λ i before between s c w t u first second x y.
+      forward-here member count issued h begun before [] between (w .rest) s c (subst (Follows member issued h) (w .split) f) (w .one) i t u first second x y;
+  kept = λ i before between s c w t text v x k e upto beyond cut.
+      let split : turns ≡ before ++ s ∷ ((upto ++ beyond) ++ c ∷ w .rest) = w .split ∙ ap (λ (y : List Turn). before ++ s ∷ (y ++ c ∷ w .rest)) cut in
+      let kept = still member count issued h begun before upto beyond (w .rest) s c (subst (Follows member issued h) split f) (w .one) i t text v x k e in
+      (kept .timestamp, kept .shows, kept .alike);
+  newer = λ i before between s c w t text v x k e.
+      newer-here member count issued h begun before [] between (w .rest) s c (subst (Follows member issued h) (w .split) f) (w .one) i t text v x k e;
 }

@@ -2,12 +2,14 @@
 -- of `CalledDemand3`.
 use Prim.Native.Nat.{ℕ, zero, suc}
 use mathlib.Core.Path.{_≡_}
-use mathlib.Core.Bool.{Bool}
+use mathlib.Core.Bool.{Bool, true}
 use mathlib.Core.List.{List, [], _∷_, _++_}
 use lib.Dec.{ltb}
 use lib.ListN.{take, drop, replicate}
-use Rattle.hermes.specs.Node.{newcomer, start}
-use Rattle.hermes.specs.Agreement.{Sees, Shows}
+use Rattle.hermes_record.specs.declared.timestamp.Timestamp.{Timestamp}
+use Rattle.hermes_record.specs.Order.{higher, later}
+use Rattle.hermes.specs.Node.{newcomer, start, recordOf}
+use Rattle.hermes.specs.Agreement.{Sees, Shows, Alike}
 use Rattle.export_records.specs.Layout.{tableOf}
 use Rattle.export_numbers.specs.declared.numbers.CetskobiMessage.{CetskobiMessage}
 use Rattle.export_numbers.specs.declared.numbers.CetskobiAsked.{CetskobiAsked}
@@ -16,7 +18,7 @@ use Rattle.export_membership.specs.Admission.{filledBy}
 use Rattle.export_packets.specs.Calls.{acceptAnswer, packAnswer, packOutput}
 use Rattle.check_air.specs.Air.{Sending, wordsSent, bodiesSent}
 use Rattle.check_air.specs.Answered.{callNumber, afterCall}
-use Rattle.check_air.specs.Opened.{AskedThenCommitted, CallsOpened}
+use Rattle.check_air.specs.Opened.{Hands, CallsApart}
 use Rattle.check_air.specs.Callers.{
   Laptop,
   Call,
@@ -158,9 +160,11 @@ plans =
     ∷ by 1 (deliver 0 valNumbers [])  -- 14: it has come already
     ∷ by 1 (deliver 0 unknown [])  -- 12: a kind that there is not
     ∷ by 1 (ask 0)  -- A1, of (1,0)
+    ∷ by 1 (read 0)  -- the same text
     ∷ by 1 (commit 0 0 0 (66 ∷ []))  -- 26: over the fresh record
     ∷ by 1 (commit 0 1 0 (66 ∷ []))  -- B, over A1: the INV leaves
     ∷ by 1 (ask 0)  -- 6: a write is under way
+    ∷ by 1 (commit 0 1 0 (66 ∷ []))  -- 26: its own save stands there, and not A1
     ∷ by 0 (deliver 0 inv2 (66 ∷ []))  -- the ACK leaves
     ∷ by 1 (deliver 0 ack2 [])  -- it was the last: the VAL leaves
     ∷ by 0 (deliver 0 val2 [])
@@ -179,9 +183,16 @@ pub record FinishedCall (j k : ℕ) (c : Call) (m : ℕ) : Type 0 where
   pub then : Sees (laptop hut (take j morning) k) m
   pub shown : Shows (laptop hut morning m) 0
 
--- what 1's ask answers: A1, of (1,0)
-abbrev pub a1 : CetskobiAsked
-a1 = record { number = 0; tie = 0; version = 1; len = 2 }
+-- A1's timestamp
+abbrev pub a1 : Timestamp
+a1 = record { version = 1; tie = 0 }
+
+-- 1's ask, and call j, a commit on A1's timestamp
+abbrev pub asking : Turn
+asking = turn (after hut (take 19 morning)) (by 1 (ask 0))
+
+abbrev pub committing : ℕ → Turn
+committing j = turn (after hut (take j morning)) (by 1 (commit 0 1 0 (66 ∷ [])))
 
 -- what it shows; `proofs/Morning` computes it
 pub record Morning : Type 0 where
@@ -189,7 +200,7 @@ pub record Morning : Type 0 where
   pub follows : Follows three issued hut morning
   pub agrees : CallsAgree three 1 hut morning
   pub numbers : numbersOf morning
-      ≡ 0 ∷ 0 ∷ 7 ∷ 6 ∷ 0 ∷ 20 ∷ 21 ∷ 17 ∷ 0 ∷ 15 ∷ 0 ∷ 0 ∷ 0 ∷ 16 ∷ 18 ∷ 0 ∷ 0 ∷ 14 ∷ 12 ∷ 0 ∷ 26 ∷ 0 ∷ 6 ∷ 0 ∷ 0 ∷ 0 ∷ 0 ∷ []
+      ≡ 0 ∷ 0 ∷ 7 ∷ 6 ∷ 0 ∷ 20 ∷ 21 ∷ 17 ∷ 0 ∷ 15 ∷ 0 ∷ 0 ∷ 0 ∷ 16 ∷ 18 ∷ 0 ∷ 0 ∷ 14 ∷ 12 ∷ 0 ∷ 0 ∷ 26 ∷ 0 ∷ 6 ∷ 26 ∷ 0 ∷ 0 ∷ 0 ∷ 0 ∷ []
   -- the premises of `alike`
   pub sees : Sees (laptop hut morning 0) 1
   pub seen : Sees (laptop hut morning 1) 0
@@ -197,8 +208,16 @@ pub record Morning : Type 0 where
   pub shown : Shows (laptop hut morning 1) 0
   -- and those of `lasting`, of a Validate and of a last ACK
   pub byValidate : FinishedCall 11 0 (validate 0) 1
-  pub byAck : FinishedCall 24 1 (deliver 0 ack2 []) 0
-  -- Wish 5: 1 asks, by call 19, and commits over it, by call 21, with a refused commit between
-  pub opened : CallsOpened hut morning
-  pub saves : AskedThenCommitted hut morning (take 19 morning) (take 1 (drop 20 morning)) 0 (turn (after hut (take 19 morning)) (by 1 (ask 0)))
-      (turn (after hut (take 21 morning)) (by 1 (commit 0 1 0 (66 ∷ [])))) a1 (66 ∷ [])
+  pub byAck : FinishedCall 26 1 (deliver 0 ack2 []) 0
+  -- Wish 5: 1 asks, by call 19, and is handed A1
+  pub asked : Hands (laptop hut (take 19 morning) 1) (ask 0) 0 a1 (65 ∷ 49 ∷ [])
+  -- its commit over it, by call 22, is accepted: until then it showed A1, also after the refused commit between
+  pub saves : CallsApart morning (take 19 morning) (take 2 (drop 20 morning)) asking (committing 22)
+  pub stampKept : recordOf 0 (laptop hut (take 22 morning) 1) .timestamp ≡ a1
+  pub shownStill : Shows (laptop hut (take 22 morning) 1) 0
+  pub bytesKept : Alike 0 (laptop hut (take 22 morning) 1) (laptop hut (take 19 morning) 1)
+  -- the same once more, by call 24, is refused by 26: a later timestamp stands there
+  pub late : CallsApart morning (take 19 morning) (take 4 (drop 20 morning)) asking (committing 24)
+  pub newer : later higher (recordOf 0 (laptop hut (take 24 morning) 1) .timestamp) a1 ≡ true
+  -- whatever its read, by call 20, hands out under that timestamp is A1
+  pub oneText : (text : List ℕ) → Hands (laptop hut (take 20 morning) 1) (read 0) 0 a1 text → text ≡ 65 ∷ 49 ∷ []

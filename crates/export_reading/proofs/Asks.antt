@@ -11,7 +11,7 @@ use Rattle.hermes.specs.declared.event.Event.the-variants as event
 use Rattle.hermes.specs.declared.event.Moved.{Moved}
 use Rattle.hermes_record.specs.Order.{higher}
 use Rattle.hermes.specs.Event.{numberOf, moved, askStamp, askHands}
-use Rattle.hermes.specs.Node.{Node, Outcome, recordAt, apply, asked}
+use Rattle.hermes.specs.Node.{Node, Outcome, recordAt, asked}
 use Rattle.hermes.proofs.Asking.{as-read, moves-as-read, ask-gives}
 use Rattle.replica_outcome.proofs.Outcomes.{no-stamp}
 use Rattle.replica_asking.specs.declared.Asked.{Asked}

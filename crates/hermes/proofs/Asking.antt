@@ -1,6 +1,6 @@
 -- Wish 5. The idea: a laptop's timestamp of a record never goes back, while it stays the text stays, and a record that was valid with it is valid
 -- with it. So two moments of one timestamp have one timestamp and one text at every moment between, and 26 means a later one.
-use Prim.Native.Nat.{ℕ, zero, suc, _<_}
+use Prim.Native.Nat.{ℕ, _<_}
 use mathlib.Core.Path.{_≡_, refl, sym, ap, subst, _∙_}
 use mathlib.Core.Bool.{Bool, true}
 use mathlib.Core.Logic.{inl, inr, _≢_}
@@ -71,13 +71,13 @@ reads-find wins n i = go (apply wins n i Read []) (applied wins n i Read [])
     go o (accepted y c q) a = (is-state (recordOf i n .state) state.Valid (its-own n i Read [] y .0), first-five n i Read [] y .inside)
 
 -- what an entry that hands out t and a text finds at record i of its laptop
-record Found (n : Node) (i : ℕ) (t : Timestamp) (text : List ℕ) : Type 0 where
+record Finds (n : Node) (i : ℕ) (t : Timestamp) (text : List ℕ) : Type 0 where
   timestamp : recordOf i n .timestamp ≡ t
   value : valueOf i n ≡ text
   shows : Shows n i
   inside : i < length (n .table)
 
-hands : (wins : ℕ → ℕ → Bool) (g : Group) (a : Entry) (i : ℕ) (t : Timestamp) (text : List ℕ) → HandsOut wins g a i t text → Found (g .at (a .who)) i t text
+hands : (wins : ℕ → ℕ → Bool) (g : Group) (a : Entry) (i : ℕ) (t : Timestamp) (text : List ℕ) → HandsOut wins g a i t text → Finds (g .at (a .who)) i t text
 unfolding result
 hands wins g a i t text (reads e z p s) =
     let f = reads-find wins (g .at (a .who)) i (rw e at z) in
@@ -220,11 +220,11 @@ module _ (wins : ℕ → ℕ → Bool) (ord : TieOrder wins) (member : ℕ → B
           → NotAfter wins t u × (t ≡ u → first ≡ second)
       goes-forward t u first second x y = (rw (p .timestamp, q .timestamp) at (onwards before (a ∷ between) due i (a .who) mem), λ z. sym (p .value) ∙ sym (text z) ∙ q .value)
         where
-          p : Found (run wins g before .at (a .who)) i t first
+          p : Finds (run wins g before .at (a .who)) i t first
           p = hands wins (run wins g before) a i t first x
 
-          q : Found (run wins g (before ++ a ∷ between) .at (a .who)) i u second
-          q = by-first (λ n. Found n i u second) (hands wins (run wins g (before ++ a ∷ between)) b i u second y)
+          q : Finds (run wins g (before ++ a ∷ between) .at (a .who)) i u second
+          q = by-first (λ n. Finds n i u second) (hands wins (run wins g (before ++ a ∷ between)) b i u second y)
 
           early : Sound count (a .who) (run wins g before .at (a .who))
           early = sound-at before (entries-append member issued before (a ∷ between) due .0) (a .who) mem
@@ -234,7 +234,7 @@ module _ (wins : ℕ → ℕ → Bool) (ord : TieOrder wins) (member : ℕ → B
               (sound-at (before ++ a ∷ between) due (a .who) mem) early (unmoved before (a ∷ between) due i (a .who) mem (q .timestamp ∙ sym z ∙ sym (p .timestamp)))
 
       module _ (t : Timestamp) (text v : List ℕ) (x : HandsOut wins (run wins g before) a i t text) (f : b .what ≡ run.commit i t v) where
-        found : Found (run wins g before .at (a .who)) i t text
+        found : Finds (run wins g before .at (a .who)) i t text
         found = hands wins (run wins g before) a i t text x
 
         is-kept : IsAccepted (result wins (run wins g (before ++ a ∷ between)) b) → (upto beyond : List Entry) → between ≡ upto ++ beyond

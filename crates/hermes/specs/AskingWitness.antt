@@ -11,8 +11,9 @@ use Rattle.hermes_record.specs.declared.record.State.the-variants.{Valid}
 use Rattle.hermes_record.specs.Order.{higher, later, NotAfter}
 use Rattle.hermes.specs.Node.{Node, recordOf, valueOf}
 use Rattle.hermes.specs.Run.{read, ask, commit, deliver, Entry, by, result, run}
-use Rattle.hermes.specs.Agreement.{Entries, IsAccepted, after}
-use Rattle.hermes.specs.Asking.{RefusedBy, Still, HandsOut, Apart}
+use Rattle.hermes.specs.Agreement.{Entries, Shows, Alike, after}
+use Rattle.hermes.specs.LastAck.{NoView}
+use Rattle.hermes.specs.Asking.{RefusedBy, HandsOut, Apart}
 use Rattle.hermes.specs.Played.{three, issued, group, answers, Line, accepts, refuses, entriesOf, numbersOf, stamp}
 
 -- "Two laptops may both commit on one stamp, and then the greater new stamp stands as for plain writes": all three ask for the fresh record, 0 and 1
@@ -63,14 +64,22 @@ heldAfter j k = held (after higher group (take j together) k)
 abbrev pub b1 : Held
 b1 = record { state = Valid; timestamp = stamp 1 1; value = 66 ∷ 49 ∷ [] }
 
--- the premises of all three claims of `Opened`: entry j, counted from 0, is k's ask, which hands out t and text; after n further entries comes b, k's too
-pub record AsksThen (j n k : ℕ) (t : Timestamp) (text : List ℕ) (b : Entry) : Type 0 where
-  pub apart : Apart together (take j together) (take n (drop (suc j) together)) (by k (ask 0)) b
-  pub hands : HandsOut higher (run higher group (take j together)) (by k (ask 0)) 0 t text
+-- what comes before entry j, counted from 0; and the n entries behind it
+abbrev pub upTo : ℕ → List Entry
+upTo j = take j together
 
--- the group as b finds it
-abbrev Then : (j n k : ℕ) → ℕ → Node
-Then j n k m = after higher group (take j together ++ by k (ask 0) ∷ take n (drop (suc j) together)) m
+abbrev pub behind : ℕ → ℕ → List Entry
+behind j n = take n (drop (suc j) together)
+
+-- the premises of a claim of `Opened`: entry j is k's ask, which hands out t and text; after n further entries comes b, k's too, and answers this number
+pub record AsksThen (j n k : ℕ) (t : Timestamp) (text : List ℕ) (b : Entry) (number : ℕ) : Type 0 where
+  pub apart : Apart together (upTo j) (behind j n) (by k (ask 0)) b
+  pub hands : HandsOut higher (run higher group (upTo j)) (by k (ask 0)) 0 t text
+  pub answers : RefusedBy number (result higher (run higher group (upTo j ++ by k (ask 0) ∷ behind j n)) b)
+
+-- 0's ask at 18, and the first m of what it finds until its commit at 21
+abbrev pub point : ℕ → Node
+point m = after higher group (upTo 18 ++ by 0 (ask 0) ∷ take m (behind 18 2)) 0
 
 -- what the list shows; `proofs/AskingPremises` computes it
 pub record AskingWitness : Type 0 where
@@ -78,12 +87,18 @@ pub record AskingWitness : Type 0 where
   pub numbers : answers group together ≡ numbersOf onOneStamp
   -- the greater new timestamp stands, on all three
   pub stands : (heldAfter 15 0 ≡ b1) × (heldAfter 15 1 ≡ b1) × (heldAfter 15 2 ≡ b1)
-  -- 0 asks at 18 and commits at 21: at every point between it showed B1
-  pub saves : AsksThen 18 2 0 (stamp 1 1) (66 ∷ 49 ∷ []) (by 0 (commit 0 (stamp 1 1) (67 ∷ 50 ∷ [])))
-  pub still : (m : ℕ) → Still 0 (stamp 1 1) (after higher group (take 18 together ++ by 0 (ask 0) ∷ take m (take 2 (drop 19 together))) 0) (after higher group (take 18 together) 0)
-  -- 2 asks at 2, and its commit at 15 is refused: a newer save has come
-  pub late : AsksThen 2 12 2 (stamp 0 0) [] (by 2 (commit 0 (stamp 0 0) (67 ∷ [])))
-  pub newer : later higher (recordOf 0 (Then 2 12 2 2) .timestamp) (stamp 0 0) ≡ true
-  -- what 0 asks for at 0 and at 18 goes forward
-  pub again : AsksThen 0 17 0 (stamp 0 0) [] (by 0 (ask 0))
+  -- `kept`: 0 asks at 18 and commits at 21; at every point between it showed B1
+  pub saves : AsksThen 18 2 0 (stamp 1 1) (66 ∷ 49 ∷ []) (by 0 (commit 0 (stamp 1 1) (67 ∷ 50 ∷ []))) 0
+  pub stampKept : (m : ℕ) → recordOf 0 (point m) .timestamp ≡ stamp 1 1
+  pub shown : (m : ℕ) → Shows (point m) 0
+  pub bytesKept : (m : ℕ) → Alike 0 (point m) (after higher group (upTo 18) 0)
+  -- `newer`: 2 asks at 2, and its commit at 15 is refused by 26
+  pub late : AsksThen 2 12 2 (stamp 0 0) [] (by 2 (commit 0 (stamp 0 0) (67 ∷ []))) 26
+  pub newer : later higher (recordOf 0 (after higher group (upTo 2 ++ by 2 (ask 0) ∷ behind 2 12) 2) .timestamp) (stamp 0 0) ≡ true
+  -- `forward`: what 0 asks for at 0 and at 18 rises; and its read at 20, under the timestamp of 18, hands out that text and no other
+  pub again : AsksThen 0 17 0 (stamp 0 0) [] (by 0 (ask 0)) 0
   pub forward : NotAfter higher (stamp 0 0) (stamp 1 1)
+  pub rereads : HandsOut higher (run higher group (upTo 20)) (by 0 (read 0)) 0 (stamp 1 1) (66 ∷ 49 ∷ [])
+  pub oneText : (text : List ℕ) → HandsOut higher (run higher group (upTo 20)) (by 0 (read 0)) 0 (stamp 1 1) text → text ≡ 66 ∷ 49 ∷ []
+  -- and the premise of `NobodyWaits` of Wish 1: asks and commits are no views
+  pub quiet : (k : ℕ) → NoView k together

@@ -7,10 +7,10 @@ ghost use Rattle.hermes.specs.Node.{lent, asked, apply};
 use crate::reading::record_at;
 use hermes::Record;
 use hermes::Replica;
-use replica_reading::Opened;
+use replica_reading::Handed;
 
 // The answer to an ask of record i, and the timestamp that a commit brings back. The value is the part that `read` hands out.
-pub fn ask(me: Replica, table: &[Record], store: &[u8], i: usize) -> Opened
+pub fn ask(me: Replica, table: &[Record], store: &[u8], i: usize) -> Handed
     ensures { λ o. ⌜ (o .answer ≡ apply higher (lent me (now (table .entry)) (now (store .entry))) i Ask [] .answer)
         × (o .timestamp ≡ asked (lent me (now (table .entry)) (now (store .entry))) i .timestamp) ⌝ }
 {

@@ -7,4 +7,4 @@ pub use asking::ask;
 pub use leaving::body;
 pub use reading::read;
 pub use reading::read_number;
-pub use replica_reading::Opened;
+pub use replica_reading::Handed;

@@ -13,26 +13,26 @@ use hermes::Timestamp;
 use replica_asking::Asked;
 
 // The answer to an ask, and the record's timestamp; (0, 0), which stands for none, where it is refused.
-pub struct Opened {
+pub struct Handed {
     pub answer: Answer,
     pub timestamp: Timestamp,
 }
 
 // An ask of record i, r.
-pub fn ask(me: Replica, count: usize, bytes: usize, i: usize, r: Record) -> Opened
+pub fn ask(me: Replica, count: usize, bytes: usize, i: usize, r: Record) -> Handed
     ensures { λ o. ⌜ (o .answer ≡ moved higher me count bytes i r Ask [] .answer) × (o .timestamp ≡ askStamp me count bytes i r) ⌝ }
 {
     let a = asks(me, count, bytes, i, r);
     let Asked::Passed(r1) = a else {
         let m = replica_asking::stopped(a, r);
         let answer = m.answer;
-        return Opened {
+        return Handed {
             answer: answer,
             timestamp: Timestamp { version: 0, tie: 0 },
         };
     };
     let t = r1.timestamp;
-    Opened {
+    Handed {
         answer: Answer::Accepted(Outgoing::None),
         timestamp: t,
     }

@@ -2,7 +2,7 @@
 mod asking;
 mod reading;
 
-pub use asking::Opened;
+pub use asking::Handed;
 pub use asking::ask;
 pub use reading::read;
 pub use reading::read_event;

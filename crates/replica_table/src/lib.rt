@@ -4,7 +4,7 @@ mod events;
 pub use events::apply;
 pub use replica_membership::view;
 pub use replica_outgoing::recipients;
-pub use replica_parts::Opened;
+pub use replica_parts::Handed;
 pub use replica_parts::ask;
 pub use replica_parts::body;
 pub use replica_parts::read;

@@ -12,8 +12,8 @@ use contract.Monad.{Fun, factI}
 use contract.Running.{givenOf}
 use denote.Struct.Laws as SL
 use Rattle.hermes.specs.declared.event.Event.the-variants.{Ask}
-use Rattle.replica_reading.proofs.asking.Opened as Op
-use Rattle.replica_reading.proofs.asking.Opened.Laws as Op′
+use Rattle.replica_reading.proofs.asking.Handed as Op
+use Rattle.replica_reading.proofs.asking.Handed.Laws as Op′
 use Rattle.hermes_record.specs.Order.{higher}
 use Rattle.hermes.specs.Event.{Effect, moved, askStamp, askHands}
 use Rattle.hermes.specs.Node.{apply}
