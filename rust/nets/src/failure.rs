@@ -51,6 +51,20 @@ pub enum Cause {
         /// That of the text that it replaced.
         over: Timestamp,
     },
+    /// A bird was saved, and no text tells of it in the end.
+    Untold {
+        /// The record.
+        record: usize,
+        /// The timestamp of its last save.
+        saved: Timestamp,
+    },
+    /// A text tells of one capture twice.
+    Twice {
+        /// The record.
+        record: usize,
+        /// The timestamp of its last save.
+        saved: Timestamp,
+    },
 }
 
 impl From<Disagreement> for Cause {
@@ -76,7 +90,9 @@ impl Cause {
             | Cause::Restless { record }
             | Cause::OtherText { record }
             | Cause::Unsaved { record }
-            | Cause::Unseen { record, .. } => *record,
+            | Cause::Unseen { record, .. }
+            | Cause::Untold { record, .. }
+            | Cause::Twice { record, .. } => *record,
         }
     }
 }
@@ -113,6 +129,14 @@ impl fmt::Display for Cause {
             } => {
                 let laptop = saved.tie;
                 write!(f, "laptop {laptop} saved record {record} with {saved} over {over}, which its ringer had not seen")
+            }
+            Cause::Untold { record, saved } => {
+                let laptop = saved.tie;
+                write!(f, "laptop {laptop} saved a bird in record {record} with {saved}, and the text does not tell of it")
+            }
+            Cause::Twice { record, saved } => {
+                let laptop = saved.tie;
+                write!(f, "the text of record {record} tells twice of the bird that laptop {laptop} saved with {saved}")
             }
         }
     }

@@ -24,6 +24,9 @@ pub enum Fault {
     /// Hut software saves what was opened by a plain write, whatever stands there by
     /// then: the engine had nothing else before document 02's Wish 5.
     Blind,
+    /// Hut software does not ask for the fate of a save: who was replaced is not told,
+    /// and does not enter her bird again.
+    Forget,
 }
 
 impl Fault {
@@ -41,7 +44,8 @@ impl Fault {
             "replay" => Ok(Fault::Replay),
             "save" => Ok(Fault::Save),
             "blind" => Ok(Fault::Blind),
-            _ => Err("--fault: text, epoch, sender, val, replay, save or blind".to_owned()),
+            "forget" => Ok(Fault::Forget),
+            _ => Err("--fault: text, epoch, sender, val, replay, save, blind or forget".to_owned()),
         }
     }
 }

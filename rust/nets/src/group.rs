@@ -185,8 +185,13 @@ impl Group {
         let answer = self.act(number, i, event);
         if let (Ok(Some(inv)), Some(over)) = (&answer, over) {
             let stamp = inv.envelope().message.timestamp();
-            let text = text.to_vec();
-            self.saves.insert((i, stamp), Save { text, over });
+            let save = Save {
+                tick: self.now,
+                text: text.to_vec(),
+                over,
+                ..Save::default()
+            };
+            self.saves.insert((i, stamp), save);
         }
         answer
     }
@@ -256,6 +261,10 @@ impl Group {
         let state = |group: &Group| group.record(number, i).map(|r| r.state);
         let before = state(self);
         let answer = self.act(number, i, event);
+        if let (Ok(_), Message::Inv(saved)) = (&answer, came.message) {
+            let save = self.saves.get_mut(&(i, saved));
+            save.into_iter().for_each(|s| s.heard(number));
+        }
         let waited = matches!(before, Some(State::Write | State::Replay));
         let ended = waited && state(self) == Some(State::Valid);
         if ended && matches!(came.message, Message::Ack(_)) {
@@ -303,6 +312,10 @@ impl Group {
             self.times.moved(self.now, number, i, before, after);
             if (before.state, after.state) == (State::Write, State::InvalidWrite) {
                 self.counts.overtaken += 1;
+            }
+            if (before.state, after.state) == (State::Write, State::Valid) {
+                let save = self.saves.get_mut(&(i, after.timestamp));
+                save.into_iter().for_each(|s| s.finished = true);
             }
         }
         answer

@@ -7,6 +7,7 @@ use cetskobi::packet::{self, Messages};
 use cetskobi::{Arriving, Envelope, Leaving, Members, Message, Opened, Refusal, State, Timestamp};
 
 use crate::failure::Cause;
+use crate::fate::{self, Fate};
 use crate::fault::Fault;
 use crate::group::{Came, Group, Left, Watched};
 use crate::outbox::Outbox;
@@ -80,6 +81,14 @@ impl Hut {
         let saved = answer.as_ref().map(stamp).map_err(|refusal| *refusal);
         self.put_again(group, i, answer, WAIT_FIRST);
         Ok(saved.map(|stamp| stamp.expect("an INV leaves with a save")))
+    }
+
+    /// What became of a save.
+    pub fn fate(&self, group: &Group, i: usize, saved: Timestamp) -> Fate {
+        match self.fault {
+            Some(Fault::Forget) => Fate::Finished,
+            _ => fate::of(group.laptop(self.number), i, saved),
+        }
     }
 
     /// A packet comes: its messages one by one, in one pass.

@@ -49,6 +49,8 @@ fn many(settings: &Settings, seeds: u64) -> io::Result<ExitCode> {
     // refused, and those that a plain write would have done.
     let (mut given_up, mut mornings) = (0, 0);
     let (mut refused, mut unseen) = (0, 0);
+    // Saves whose bird was entered again: replaced, of these crossed, laptop gone.
+    let mut again = [0; 3];
     for n in 0..seeds {
         let seed = settings.seed.wrapping_add(n);
         let settings = Settings {
@@ -61,14 +63,18 @@ fn many(settings: &Settings, seeds: u64) -> io::Result<ExitCode> {
                 mornings += u64::from(report.given_up() > 0);
                 refused += report.commits()[1];
                 unseen += report.unseen();
+                for (all, n) in again.iter_mut().zip(report.entered_again()) {
+                    *all += n;
+                }
                 say(&format!("{}\n", report.line()))?;
             }
             Err(failure) => return failed(&failure),
         }
     }
     let seconds = begun.elapsed().as_secs_f64();
+    let [replaced, crossed, gone] = again;
     say(&format!(
-        "{seeds} mornings, agreement held throughout, every record settled; saves given up: {given_up}, in {mornings} mornings; commits refused by 26: {refused}, {unseen} of them over an unseen text; {seconds:.2} s\n"
+        "{seeds} mornings, agreement held throughout, every record settled, every bird in the records; saves given up: {given_up}, in {mornings} mornings; commits refused by 26: {refused}, {unseen} of them over an unseen text; entered again: {replaced} replaced, {crossed} of them finished before, and {gone} of laptops gone; {seconds:.2} s\n"
     ))?;
     Ok(ExitCode::SUCCESS)
 }

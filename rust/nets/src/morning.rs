@@ -3,7 +3,7 @@
 use cetskobi::{Laptop, Members};
 
 use crate::air::Air;
-use crate::chain;
+use crate::chain::{self, Told};
 use crate::failure::{Cause, Failure};
 use crate::group::Group;
 use crate::hut::{Done, Hut, WAIT_VAL};
@@ -17,7 +17,7 @@ use crate::unsettled::{self, Unsettled};
 use crate::Tick;
 
 /// So many calms after the link has healed, the last view is in and the last
-/// save is made, nothing may change any more.
+/// bird is saved, nothing may change any more.
 const CALMS: Tick = 10;
 
 /// Plays one morning; `progress` is told each tick.
@@ -46,8 +46,7 @@ pub fn run(settings: &Settings, mut progress: impl FnMut(u32)) -> Result<Report,
 #[derive(Clone, Copy, Debug, PartialEq, Eq)]
 struct End {
     settled: Settled,
-    /// Captures that the texts in the records tell of.
-    told: usize,
+    told: Told,
 }
 
 struct Morning {
@@ -187,10 +186,10 @@ impl Morning {
         let members: Vec<&Laptop> = members.map(|n| self.group.laptop(n)).collect();
         let settled = settled::look(&self.group, &members)?;
         if let Some(record) = self.ringers.waiting() {
-            // Its record is valid everywhere, so it can be saved.
+            // Its record is valid everywhere, so it can be saved, or entered again.
             return Err(Cause::Unsaved { record });
         }
-        let told = chain::look(&self.group, &self.ringers.slips, members[0])?;
+        let told = chain::look(&self.group, &self.ringers.slips(), members[0])?;
         Ok(Some(End { settled, told }))
     }
 
@@ -205,7 +204,7 @@ impl Morning {
             link: self.link.counts,
             to_the_dead: self.to_the_dead,
             checks: self.group.agreement.checks,
-            saved: self.ringers.slips.len(),
+            saved: self.ringers.saved(),
             unsettled: self.unsettled.expect("looked at when the link healed"),
             settled: end.settled,
             told: end.told,

@@ -9,8 +9,8 @@ use crate::settings::Settings;
 pub const HELP: &str = "\
 A morning at the nets: laptops on the proved engine over a poor radio link.
 Agreement is checked after every event, and at the end that every record has
-settled, and that every text was saved over one that its ringer saw; exit status
-1 if a check fails, 2 for wrong options.
+settled, that every text was saved over one that its ringer saw, and that every
+bird is told of; exit status 1 if a check fails, 2 for wrong options.
 
   --seed S         the beginning of all random numbers    (111, or CETSKOBI_SEED)
   --seeds N        N mornings, from the seed on, one line each
@@ -32,7 +32,8 @@ settled, and that every text was saved over one that its ringer saw; exit status
                    (huts take messages of other epochs), val (huts drop VALs),
                    replay (huts do not replay from invalid-write), save (huts
                    refuse some saves), blind (huts save by a plain write, over
-                   what the ringer has not seen)
+                   what the ringer has not seen), forget (huts do not tell that
+                   a save was replaced)
   --help           this page
 ";
 

@@ -5,6 +5,7 @@ use std::fmt;
 use cetskobi::Refusal;
 
 use crate::air::Air;
+use crate::chain::Told;
 use crate::counts::Counts;
 use crate::figures::Figures;
 use crate::group::EventCounts;
@@ -35,8 +36,7 @@ pub struct Report {
     pub(crate) saved: usize,
     pub(crate) unsettled: Unsettled,
     pub(crate) settled: Settled,
-    /// Captures that the texts in the records tell of.
-    pub(crate) told: usize,
+    pub(crate) told: Told,
     pub(crate) last_change: Tick,
     pub(crate) ticks: Tick,
     /// How long each view was missing after its laptop had heard of it.
@@ -80,6 +80,12 @@ impl Report {
         [commits, self.visits.refused, self.visits.mended]
     }
 
+    /// Commits that question 26 refused when a bird was to be entered again, and which
+    /// were not needed: what stood there told of it.
+    pub fn spared(&self) -> u64 {
+        self.visits.spared
+    }
+
     /// Commits refused by 26 where a plain write would have been accepted, over a
     /// newer text that the ringer had not seen.
     pub fn unseen(&self) -> u64 {
@@ -91,12 +97,36 @@ impl Report {
         self.events.events[Kind::Write as usize]
     }
 
-    /// Saved birds of which the record's text tells in the end; those that a save of
-    /// another laptop replaced, which had not heard of them; and those of which nobody
-    /// had heard when their laptop died.
-    pub fn birds(&self) -> [usize; 3] {
-        let (told, lost) = (self.told, self.settled.lost);
-        [told, self.saved - told - lost, lost]
+    /// Saves: one of each bird, and one for each time that it was entered again.
+    pub fn saves(&self) -> u64 {
+        self.events.accepted[Kind::Commit as usize]
+    }
+
+    /// Captures of which the texts tell in the end, and how many more they are than the
+    /// birds: told twice, as their ringers could not know.
+    pub fn told(&self) -> [usize; 2] {
+        let captures = self.told.captures;
+        [captures, captures.saturating_sub(self.saved)]
+    }
+
+    /// Captures that the texts have no room for in words: by their number and their
+    /// laptop alone.
+    pub fn left_out(&self) -> usize {
+        self.told.captures - self.told.in_words
+    }
+
+    /// Saves replaced by another that had not heard of them, and whose bird was entered
+    /// again; how many of these were finished before; and saves whose bird was entered
+    /// again at another laptop, as theirs died or was struck off.
+    pub fn entered_again(&self) -> [u64; 3] {
+        let visits = &self.visits;
+        [visits.replaced, visits.crossed, visits.taken]
+    }
+
+    /// Saves of laptops that died or were struck off, of which none that stayed had
+    /// heard.
+    pub fn lost(&self) -> usize {
+        self.settled.lost
     }
 
     /// Records that are valid on all laptops of the newest view, with one timestamp
@@ -183,7 +213,7 @@ impl Report {
     /// The whole in one line.
     pub fn line(&self) -> String {
         format!(
-            "seed {}: agreed after {} events; {} messages in {} packets of {} bytes; {} given up; {} refused by 26; {} ticks",
+            "seed {}: agreed after {} events; {} messages in {} packets of {} bytes; {} given up; {} refused by 26; {} entered again; {} ticks",
             self.settings.seed,
             grouped(self.events()),
             grouped(self.messages()),
@@ -191,6 +221,7 @@ impl Report {
             grouped(self.link.bytes),
             self.given_up(),
             self.visits.refused,
+            self.visits.replaced + self.visits.taken,
             grouped(self.ticks.into()),
         )
     }
@@ -274,7 +305,8 @@ impl Report {
             self.given_up(),
             "by a replay of the later one, whose laptop was struck off",
         )?;
-        self.saves(f)?;
+        self.commits_made(f)?;
+        self.birds(f)?;
         let (views, longest) = self.views_missed();
         let lead = match views {
             0 => String::new(),
@@ -299,27 +331,54 @@ impl Report {
 }
 
 impl Report {
-    /// What ringers committed, what was refused, and what is left of it.
-    fn saves(&self, f: &mut fmt::Formatter<'_>) -> fmt::Result {
+    /// What ringers committed, and what was refused.
+    fn commits_made(&self, f: &mut fmt::Formatter<'_>) -> fmt::Result {
         let [commits, refused, mended] = self.commits();
         let remark = "by ringers, over what they had opened";
         line(f, "commits", commits, remark)?;
         let (mended, birds) = (grouped(mended), grouped(self.visits.again));
-        let remark =
+        let mut remark =
             format!("no longer as opened; {mended} shown what stands, and saved: {birds} birds");
+        if self.spared() > 0 {
+            remark += &format!("; {} found there", grouped(self.spared()));
+        }
         line(f, "  refused by 26", refused, &remark)?;
         let remark = "newer texts that a plain write would have gone over instead";
-        line(f, "  unseen", self.unseen(), remark)?;
+        line(f, "  unseen", self.unseen(), remark)
+    }
+
+    /// What became of the birds.
+    fn birds(&self, f: &mut fmt::Formatter<'_>) -> fmt::Result {
+        let visits = &self.visits;
         line(f, "birds saved", self.saved as u64, "all that came")?;
         let remark = "opened at a laptop that died or was struck off, saved at another";
-        line(f, "  elsewhere", self.visits.moved, remark)?;
-        let [told, replaced, lost] = self.birds().map(|n| n as u64);
-        let remark = "of which the texts tell in the end";
-        line(f, "  in the records", told, remark)?;
+        line(f, "  elsewhere", visits.moved, remark)?;
+        let [replaced, crossed, taken] = self.entered_again();
+        let again = replaced + taken;
+        let birds = grouped(visits.birds);
+        let remark = format!("from the slip, as no text told of them: {birds} birds");
+        line(f, "  entered again", again, &remark)?;
         let remark = "by a save of another laptop that had not heard of them";
-        line(f, "  replaced", replaced, remark)?;
-        let remark = "nobody had heard of them when their laptop died";
-        line(f, "saves lost", lost, remark)
+        line(f, "    replaced", replaced, remark)?;
+        let remark = "of the replaced were finished before";
+        line(f, "    crossed", crossed, remark)?;
+        let remark = "their laptop died or was struck off: entered at another";
+        line(f, "    laptop gone", taken, remark)?;
+        let remark = "times a later save stood in their place, and told of them";
+        line(f, "  found", visits.found, remark)?;
+        let [told, twice] = self.told().map(|n| n as u64);
+        let remark = match twice {
+            0 => "all: the texts tell of each, once".to_owned(),
+            _ => format!(
+                "all; told twice, as the ringer could not know: {}",
+                grouped(twice)
+            ),
+        };
+        line(f, "  in the records", told - twice, &remark)?;
+        let remark = "of these by number and laptop alone: 192 bytes were full";
+        line(f, "    left out", self.left_out() as u64, remark)?;
+        let remark = "nobody had heard of them when their laptop died: entered again";
+        line(f, "saves lost", self.lost() as u64, remark)
     }
 
     /// What was open at one moment, and what would have settled it.

@@ -1,8 +1,8 @@
 //! What is left when the link has healed.
 
-use cetskobi::{Laptop, State};
+use cetskobi::{Laptop, State, Timestamp};
 
-use crate::chain::text_of;
+use crate::chain::{text_of, Save};
 use crate::failure::Cause;
 use crate::group::Group;
 
@@ -10,7 +10,7 @@ use crate::group::Group;
 #[derive(Clone, Copy, Debug, Default, PartialEq, Eq)]
 pub(crate) struct Settled {
     pub settled: usize,
-    /// Saves that nobody heard of before their laptop died.
+    /// Saves of laptops that died or were struck off, of which none of these had heard.
     pub lost: usize,
 }
 
@@ -43,21 +43,18 @@ pub(crate) fn same_text(group: &Group, members: &[&Laptop], i: usize) -> Result<
 }
 
 fn lost(group: &Group, members: &[&Laptop]) -> usize {
-    let later = |i: usize, t| {
-        members
-            .iter()
-            .filter_map(|l| l.record(i))
-            .all(|r| r.timestamp < t)
+    let lost = |((_, saved), save): &(&(usize, Timestamp), &Save)| {
+        let knows = |l: &&Laptop| l.number() == saved.tie || save.heard.contains(l.number());
+        !members.iter().any(knows)
     };
-    group.saves.keys().filter(|(i, t)| later(*i, *t)).count()
+    group.saves.iter().filter(lost).count()
 }
 
 #[cfg(test)]
 mod tests {
     use super::*;
-    use crate::chain::Save;
     use crate::settings::Settings;
-    use cetskobi::{Leaving, Members, Record, Replica, Timestamp};
+    use cetskobi::{Leaving, Members, Record, Replica};
 
     const SAVED: Timestamp = Timestamp { version: 1, tie: 0 };
 
@@ -65,7 +62,7 @@ mod tests {
     fn save(text: &[u8]) -> Save {
         Save {
             text: text.to_vec(),
-            over: Timestamp::default(),
+            ..Save::default()
         }
     }
 
@@ -234,5 +231,15 @@ mod tests {
         let later = Timestamp { version: 2, tie: 3 };
         group.saves.insert((0, later), save(b"Robin"));
         assert_eq!(looked(&group).map(|s| s.lost), Ok(1));
+        // That its bird was saved again since does not bring it back.
+        let lesser = Timestamp { version: 1, tie: 3 };
+        group.saves.insert((0, lesser), save(b"Robin"));
+        assert_eq!(looked(&group).map(|s| s.lost), Ok(2));
+        // Whoever is gone as well has not kept it.
+        for (laptop, lost) in [(4, 2), (1, 1)] {
+            let save = group.saves.get_mut(&(0, later)).expect("saved");
+            save.heard(laptop);
+            assert_eq!(looked(&group).map(|s| s.lost), Ok(lost));
+        }
     }
 }

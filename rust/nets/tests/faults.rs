@@ -97,25 +97,47 @@ fn saves_that_are_refused() {
     assert!(matches!(failure.cause, Cause::Unsaved { .. }), "{failure}");
 }
 
+/// Of how many laptops the line has this part.
+fn tells(failure: &Failure, part: &str) -> usize {
+    let told = failure.holdings.iter().filter(|h| h.contains(part));
+    told.count()
+}
+
+const fn stamp(version: u32, tie: u8) -> Timestamp {
+    Timestamp { version, tie }
+}
+
 /// What a plain write lets happen, and a commit does not (document 02, Wish 5): laptops
-/// 1 and 5 open record 3052, which tells of one capture. 1 saves; 5 saves over that,
-/// unseen, and 1's capture is in no record.
+/// 1 and 5 open record 3052, which tells of one capture. 1 saves, and that is finished;
+/// 5 saves over it, unseen.
 #[test]
 fn saves_over_what_the_ringer_has_not_seen() {
     let failure = failure(Fault::Blind);
-    let stamp = |version, tie| Timestamp { version, tie };
     let cause = Cause::Unseen {
         record: 3052,
         saved: stamp(3, 5),
         over: stamp(2, 1),
     };
     assert_eq!(failure.cause, cause, "{failure}");
-    // Three were saved; the text tells of two, on each of the ten laptops.
-    let tells = |part: &str| {
-        let told = failure.holdings.iter().filter(|h| h.contains(part));
-        told.count()
+    // 1's capture came back with the fourth save, from her slip, and as the third: on
+    // each of the ten laptops the number shows that a save has gone.
+    let numbers = [" (4,1) ", "; 2: ", "; 3: ", "; 4: ", " (after 45)"];
+    let told = numbers.map(|part| tells(&failure, part));
+    assert_eq!(told, [10, 0, 10, 0, 10], "{failure}");
+}
+
+/// The fate of a save is not asked for: laptops 1 and 7 saved record 740 on one
+/// timestamp, 7's save stands, and 1's bird is in no record.
+#[test]
+fn replaced_saves_that_are_not_entered_again() {
+    let failure = failure(Fault::Forget);
+    let cause = Cause::Untold {
+        record: 740,
+        saved: stamp(2, 1),
     };
-    assert_eq!([tells("; 2: "), tells("; 3: ")], [10, 0], "{failure}");
+    assert_eq!(failure.cause, cause, "{failure}");
+    let told = [" (2,7) ", "Reed warbler", "Blue tit"].map(|part| tells(&failure, part));
+    assert_eq!(told, [11, 11, 0], "{failure}");
 }
 
 #[test]

@@ -18,8 +18,12 @@ fn all_saved(settings: &Settings, report: &Report) {
     let saved = report.saved();
     assert_eq!(saved, birds, "{settings:?}");
     assert_eq!(report.settled(), settings.records, "{settings:?}");
+    // One save of each bird, and one for each time that it was entered again.
+    let saves = report.saves();
+    let [replaced, crossed, gone] = report.entered_again();
+    assert_eq!(saves, saved as u64 + replaced + gone, "{settings:?}");
     let ends = report.ends_of_saves();
-    assert_eq!(ends.iter().sum::<usize>(), saved, "{settings:?}");
+    assert_eq!(ends.iter().sum::<usize>() as u64, saves, "{settings:?}");
     // Document 02, Wish 3: what was open could be settled, by 3k - 2 events each.
     let [records, events, most] = report.unsettled();
     let bound = 3 * usize::from(settings.laptops - settings.deaths) - 2;
@@ -30,22 +34,27 @@ fn all_saved(settings: &Settings, report: &Report) {
     assert!(given_up <= report.overtaken(), "{settings:?}");
     assert!(settings.deaths > 0 || given_up == 0, "{settings:?}");
     // Document 02, Wish 5: every save is a commit over what was opened, and nobody who
-    // was refused by 26 has given up.
+    // was refused by 26 has given up: her bird was saved, or, where it was to be entered
+    // again, told of in what stood there.
     let [commits, refused, mended] = report.commits();
-    assert_eq!(commits, saved as u64 + refused, "{settings:?}");
-    assert_eq!(mended, refused, "{settings:?}");
+    assert_eq!(commits, saves + refused, "{settings:?}");
+    assert_eq!(mended + report.spared(), refused, "{settings:?}");
     assert_eq!(report.refused(Refusal::NotAsOpened), refused);
     assert_eq!(report.writes(), 0, "{settings:?}");
     assert!(report.unseen() <= refused, "{settings:?}");
     let [openings, unshown] = report.openings();
     assert!(openings - unshown >= commits, "{settings:?}");
-    // Each bird is in a record, was replaced by one that had not heard of it, or died
-    // with its laptop.
-    let [told, replaced, lost] = report.birds();
-    assert_eq!(told + replaced + lost, saved, "{settings:?}");
-    let overtaken = report.overtaken() as usize;
-    assert!(settings.deaths > 0 || overtaken <= replaced, "{settings:?}");
-    assert!(settings.deaths > 0 || lost == 0, "{settings:?}");
+    // Each bird is in a record in the end, once.
+    assert_eq!(report.told(), [birds, 0], "{settings:?}");
+    // A save that was overtaken, or crossed after it was finished, was entered again.
+    let overtaken = report.overtaken();
+    let none_dies = settings.deaths == 0;
+    assert!(
+        !none_dies || overtaken + crossed == replaced,
+        "{settings:?}"
+    );
+    assert!(!none_dies || gone == 0, "{settings:?}");
+    assert!(!none_dies || report.lost() == 0, "{settings:?}");
     // Finished or replaced, unless a laptop was struck off.
     assert!(settings.deaths > 0 || ends[2] == 0, "{settings:?}");
     // A view is missed only where one is issued.
@@ -69,10 +78,11 @@ fn the_default_morning() {
     assert_eq!(report.given_up(), 1, "the save of record 740");
     assert_eq!(report.unsettled(), [119, 1734, 28], "ten laptops");
     assert_eq!(report.views_missed(), (5, 300), "3 and 6, for so long");
-    assert_eq!(report.entries(), [177_420, 276_286]);
-    assert_eq!(report.commits(), [644, 4, 4]);
-    assert_eq!(report.unseen(), 4, "newer texts that nobody went over");
-    assert_eq!(report.birds(), [635, 5, 0]);
+    assert_eq!(report.entries(), [177_970, 272_069]);
+    assert_eq!(report.commits(), [648, 2, 2]);
+    assert_eq!(report.unseen(), 2, "newer texts that nobody went over");
+    assert_eq!(report.told(), [640, 0], "every bird, once");
+    assert_eq!(report.entered_again(), [6, 0, 0]);
     for refusal in [
         Refusal::NotReadable,
         Refusal::OtherEpoch,
@@ -108,7 +118,7 @@ fn laptops_that_only_slept() {
 fn other_seeds() {
     let mut settings = Settings::from_env().expect("a seed");
     let mut validations = [0, 0];
-    let (mut refused, mut unseen) = (0, 0);
+    let (mut refused, mut unseen, mut replaced) = (0, 0, 0);
     for _ in 0..30 {
         settings.seed = settings.seed.wrapping_add(1);
         let report = agreed(&settings);
@@ -118,12 +128,15 @@ fn other_seeds() {
         validations[1] += own;
         refused += report.commits()[1];
         unseen += report.unseen();
+        replaced += report.entered_again()[0];
     }
     // Both ways to finish have happened.
     assert!(validations.iter().all(|n| *n > 0), "{validations:?}");
     // Some four commits in a morning are refused by 26. Of those a plain write would
     // have gone over most, and 7 have refused the others.
     assert!(refused >= 60 && unseen >= 50, "{refused}, {unseen}");
+    // As many are replaced, by a save on the same timestamp, and entered again.
+    assert!(replaced >= 60, "{replaced}");
 }
 
 #[test]
@@ -201,7 +214,8 @@ fn other_groups() {
 }
 
 /// Few records, many saves at once, laptops that die: overtaken saves are given
-/// up, also by a laptop that others wait for, and nobody is left waiting.
+/// up, also by a laptop that others wait for, and nobody is left waiting. Birds are
+/// entered again for every reason, and none is missing.
 #[test]
 fn small_hard_groups() {
     let three = Settings {
@@ -229,22 +243,44 @@ fn small_hard_groups() {
         loss: 50,
         ..five.clone()
     };
-    // 55, 163 and 341 were counted.
-    for (settings, floor) in [(three, 45), (five, 120), (eight, 240)] {
-        let given_up: u64 = (1..500).map(|seed| given_up(&settings, seed)).sum();
-        assert!(given_up >= floor, "{given_up} given up in {settings:?}");
+    // Given up; replaced, of these crossed, laptop gone; lost. Counted were 49, 1913,
+    // 367, 424, 237; 173, 9778, 335, 353, 92; 340, 8864, 243, 654, 108.
+    let mut spared = 0;
+    for (settings, floors) in [
+        (three, [45, 1500, 250, 300, 170]),
+        (five, [120, 7000, 240, 250, 60]),
+        (eight, [240, 6500, 170, 480, 70]),
+    ] {
+        let mut counted = [0; 5];
+        for seed in 1..500 {
+            let report = of_seed(&settings, seed);
+            let [replaced, crossed, gone] = report.entered_again();
+            let lost = report.lost() as u64;
+            let more = [report.given_up(), replaced, crossed, gone, lost];
+            (0..5).for_each(|n| counted[n] += more[n]);
+            spared += report.spared();
+        }
+        let enough = counted.iter().zip(floors).all(|(n, floor)| *n >= floor);
+        assert!(enough, "{counted:?} in {settings:?}");
     }
+    // 13 were counted.
+    assert!(spared >= 5, "{spared} refused, and then found");
 }
 
-/// How many overtaken saves were given up by a replay, with this seed.
-fn given_up(settings: &Settings, seed: u64) -> u64 {
+/// The morning of this seed.
+fn of_seed(settings: &Settings, seed: u64) -> Report {
     let settings = Settings {
         seed,
         ..settings.clone()
     };
     let report = agreed(&settings);
     all_saved(&settings, &report);
-    report.given_up()
+    report
+}
+
+/// How many overtaken saves were given up by a replay, with this seed.
+fn given_up(settings: &Settings, seed: u64) -> u64 {
+    of_seed(settings, seed).given_up()
 }
 
 /// Document 02, Wish 2: two huts save one bird at once, and the laptop with the
@@ -261,7 +297,7 @@ fn overtaken_saves_are_given_up() {
     let given_up: Vec<u64> = (1..300).map(|seed| given_up(&small, seed)).collect();
     let mornings = given_up.iter().filter(|n| **n > 0).count();
     let saves: u64 = given_up.iter().sum();
-    // 63 in 52 of the 299 mornings were counted.
+    // 59 in 51 of the 299 mornings were counted.
     assert!(saves >= 50 && mornings >= 40, "{saves} in {mornings}");
 }
 

@@ -25,6 +25,8 @@ fn one_morning() {
         "save to finished",
         "given up",
         "refused by 26",
+        "entered again",
+        "in the records         80  all",
         "wall time",
     ] {
         assert!(said.contains(part), "{part} is missing:\n{said}");
@@ -58,6 +60,7 @@ fn many_mornings() {
     assert!(last.starts_with("3 mornings"), "{said}");
     assert!(last.contains("given up: 0, in 0 mornings"), "{said}");
     assert!(last.contains("commits refused by 26: "), "{said}");
+    assert!(last.contains("every bird in the records"), "{said}");
 }
 
 /// In the second of these mornings an overtaken save is given up.
