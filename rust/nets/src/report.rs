@@ -241,7 +241,7 @@ impl Report {
         let at_once = pairs - self.plan.apart();
         writeln!(
             f,
-            "  {} birds ringed, {} met again; {pairs} times two laptops opened one bird at once, and {at_once} times saved it so",
+            "  {} birds ringed, {} met again; {pairs} times two laptops opened one bird at once, and {at_once} times were to save it so",
             s.rings, s.recaptures
         )?;
         for (epoch, death) in (1..).zip(&self.plan.deaths) {
@@ -338,7 +338,7 @@ impl Report {
         line(f, "commits", commits, remark)?;
         let (mended, birds) = (grouped(mended), grouped(self.visits.again));
         let mut remark =
-            format!("no longer as opened; {mended} shown what stands, and saved: {birds} birds");
+            format!("saved since it was opened; {mended} shown what stands, and saved: {birds} birds");
         if self.spared() > 0 {
             remark += &format!("; {} found there", grouped(self.spared()));
         }
