@@ -337,8 +337,9 @@ impl Report {
         let remark = "by ringers, over what they had opened";
         line(f, "commits", commits, remark)?;
         let (mended, birds) = (grouped(mended), grouped(self.visits.again));
-        let mut remark =
-            format!("saved since it was opened; {mended} shown what stands, and saved: {birds} birds");
+        let mut remark = format!(
+            "saved since it was opened; {mended} shown what stands, and saved: {birds} birds"
+        );
         if self.spared() > 0 {
             remark += &format!("; {} found there", grouped(self.spared()));
         }
