@@ -9,6 +9,7 @@ pub use event::Event;
 pub use event::Moved;
 pub use event::Replica;
 pub use hermes_record::Record;
+pub use hermes_record::Rule;
 pub use hermes_record::State;
 pub use hermes_record::Timestamp;
 pub use message::Header;

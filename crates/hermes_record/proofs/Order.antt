@@ -8,7 +8,8 @@ use native.Mathlib.Omega.{arith}
 use lib.Dec.{ltb, eqb}
 use borrow.Author.Tests.{ltb-true, ltb-false, eqb-true, eqb-false, lt-ltb, le-ltb, eq-eqb}
 use Rattle.hermes_record.specs.declared.timestamp.Timestamp.{Timestamp}
-use Rattle.hermes_record.specs.Order.{TieOrder, higher, later, sameTimestamp, NotAfter, equal, rises}
+use Rattle.hermes_record.specs.declared.timestamp.Rule.the-variants.{Higher, Lower}
+use Rattle.hermes_record.specs.Order.{TieOrder, TieOrders, higher, lower, ties, later, sameTimestamp, NotAfter, equal, rises}
 use Rattle.hermes_record.proofs.Tests.{both, and-both, or-right, either, is-false}
 
 pub timestamp-path : {s t : Timestamp} → s .version ≡ t .version → s .tie ≡ t .tie → s ≡ t
@@ -29,6 +30,18 @@ higher-order = record {
   transitive = λ a b c p q. lt-ltb c a (omega (arith, ltb-true b a p, ltb-true c b q));
   total = λ a b d p. lt-ltb a b (omega (arith, d, ltb-false b a p));
 }
+
+-- Wish 6's
+lower-order : TieOrder lower
+lower-order = record {
+  irreflexive = λ a. le-ltb a a (omega arith);
+  transitive = λ a b c p q. lt-ltb a c (omega (arith, ltb-true a b p, ltb-true b c q));
+  total = λ a b d p. lt-ltb b a (omega (arith, d, ltb-false a b p));
+}
+
+pub ties-order : TieOrders ties
+ties-order Higher = higher-order
+ties-order Lower = lower-order
 
 -- `later`, read as facts, and back
 pub later-greater : (wins : ℕ → ℕ → Bool) (s t : Timestamp) → later wins s t ≡ true → (t .version < s .version) ⊎ ((s .version ≡ t .version) × (wins (s .tie) (t .tie) ≡ true))

@@ -1,10 +1,13 @@
--- The order of timestamps (01, "The greater stamp has the greater version or, versions equal, the greater tie-breaker"), over any strict total order of ties.
+-- The order of timestamps (01, "The greater stamp has the greater version or, versions equal, the greater tie-breaker"; 02, Wish 6, "Comparing two
+-- stamps now depends on the rule"), over any strict total order of ties.
 use Prim.Native.Nat.{ℕ}
 use mathlib.Core.Path.{_≡_}
 use mathlib.Core.Bool.{Bool, true, false, _&&_, _||_}
 use mathlib.Core.Logic.{_≢_}
 use lib.Dec.{ltb, eqb}
 use Rattle.hermes_record.specs.declared.timestamp.Timestamp.{Timestamp}
+use Rattle.hermes_record.specs.declared.timestamp.Rule.{Rule}
+use Rattle.hermes_record.specs.declared.timestamp.Rule.the-variants.{Higher, Lower}
 
 -- `wins a b`, tie-breaker a is the greater, is a strict total order
 pub record TieOrder (wins : ℕ → ℕ → Bool) : Type 0 where
@@ -15,6 +18,28 @@ pub record TieOrder (wins : ℕ → ℕ → Bool) : Type 0 where
 -- document 01's order of ties: the greater number
 abbrev pub higher : ℕ → ℕ → Bool
 higher a b = ltb b a
+
+-- 02, Wish 6, "a tie to the lower laptop number": the lesser number
+abbrev pub lower : ℕ → ℕ → Bool
+lower a b = ltb a b
+
+-- an order of ties for each rule; whatever compares timestamps is defined over any such, and the papers' is `ties`
+abbrev pub Orders : Type 0
+Orders = Rule → ℕ → ℕ → Bool
+
+-- 02, Wish 6, "both rules live on"
+abbrev pub ties : Orders
+ties Higher = higher
+ties Lower = lower
+
+-- each rule's order is a strict total order (02, Wish 6, "of two different numbers one always wins")
+abbrev pub TieOrders : Orders → Type 0
+TieOrders wins = (rule : Rule) → TieOrder (wins rule)
+
+-- the rules by their numbers: 01, "Byte 0 is 1"; 02, Wish 6, "Packets of the new rule have 2 as byte 0"
+abbrev pub ruleNumber : Rule → ℕ
+ruleNumber Higher = 1
+ruleNumber Lower = 2
 
 -- s is the greater timestamp
 unfoldable pub later : (ℕ → ℕ → Bool) → Timestamp → Timestamp → Bool

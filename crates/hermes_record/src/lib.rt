@@ -6,4 +6,5 @@ mod timestamp;
 pub use members::with;
 pub use record::Record;
 pub use record::State;
+pub use timestamp::Rule;
 pub use timestamp::Timestamp;
