@@ -16,10 +16,12 @@ use Rattle.hermes_record.specs.declared.record.State.the-variants as state
 use Rattle.hermes.specs.declared.message.Message.{Message}
 use Rattle.hermes.specs.declared.message.Message.the-variants.{Inv, Ack, Val}
 use Rattle.hermes.specs.declared.event.Replica.{Replica}
+use Rattle.hermes.specs.declared.event.Settings.{Settings}
 use Rattle.hermes.specs.declared.event.Event.{Event}
 use Rattle.hermes.specs.declared.event.Event.the-variants.{Read, Ask, Write, Commit, Replay, Deliver, Validate, Resend}
 use Rattle.hermes_record.specs.Members.{lowest}
-use Rattle.hermes_record.specs.Order.{later}
+use Rattle.hermes_record.specs.Order.{Orders, later}
+use Rattle.hermes.specs.Settings.{under}
 use Rattle.hermes_record.specs.Record.{oneOf, nextVersion, writtenBy, replayed, invalidated, acknowledged, validated, freshRecord}
 use Rattle.hermes.specs.Guards.{AllYes, firstNo, question1}
 use Rattle.hermes.specs.Event.{Step, own, invStep, ackStep, completes, deliverStep, step}
@@ -34,19 +36,19 @@ use Rattle.hermes.proofs.Start.{Begun, begun}
 use Rattle.hermes.proofs.Agreement.{at-who, at-other}
 
 -- the record that a list begins with
-pub fresh-record : (member : ℕ → Bool) (count : ℕ) (issued : ℕ → ℕ) (g : Group) → Started member count issued g
+pub fresh-record : (member : ℕ → Bool) (count : ℕ) (issued : ℕ → ℕ) (settings : Settings) (g : Group) → Started member count issued settings g
     → (i k : ℕ) → i < count → member k ≡ true → recordOf i (g .at k) ≡ freshRecord (lowest (issued 0))
-fresh-record member count issued g s i k l m = rw (f .tableAfter, b .tableAfter) (getD-replicate (length (f .table)) i _ _ (omega (arith, f .records)))
+fresh-record member count issued settings g s i k l m = rw (f .tableAfter, b .tableAfter) (getD-replicate (length (f .table)) i _ _ (omega (arith, f .records)))
   where
-    f : FreshStart count issued k (g .at k)
+    f : FreshStart count issued settings k (g .at k)
     f = s .fresh k m
 
-    b : Begun k (issued 0) (f .table) (f .store) (g .at k .me)
-    b = begun k (issued 0) (f .table) (f .store) (g .at k .me) (f .accepted)
+    b : Begun k (issued 0) settings (f .table) (f .store) (g .at k .me)
+    b = begun k (issued 0) settings (f .table) (f .store) (g .at k .me) (f .accepted)
 
 -- ---- one event
 
--- what an accepted event of replica me makes of its record r
+-- what an accepted event of replica me makes of its record r; `wins` is the order of ties of its group
 pub data Becomes (wins : ℕ → ℕ → Bool) (me : Replica) (r b : Record) : Type 0 where
   same : b ≡ r → Becomes wins me r b
   writes : (n : ℕ) → nextVersion (r .timestamp .version) ≡ r .timestamp .version + 1 → b ≡ writtenBy r (me .number) n → Becomes wins me r b
@@ -56,21 +58,24 @@ pub data Becomes (wins : ℕ → ℕ → Bool) (me : Replica) (r b : Record) : T
   settles : (sender : ℕ) → b ≡ validated (acknowledged r sender) → Becomes wins me r b
   validates : b ≡ validated r → Becomes wins me r b
 
-module _ (wins : ℕ → ℕ → Bool) (me : Replica) (i : ℕ) (r : Record) (v : List ℕ) where
-  delivered : (sender : ℕ) (m : Message) → sender ≢ me .number → Becomes wins me r (deliverStep wins me i r sender m v .after)
-  delivered sender (Inv t) d = go (later wins t (r .timestamp)) refl
+module _ (wins : Orders) (me : Replica) (i : ℕ) (r : Record) (v : List ℕ) where
+  abbrev order : ℕ → ℕ → Bool
+  order = under wins (me .settings)
+
+  delivered : (sender : ℕ) (m : Message) → sender ≢ me .number → Becomes order me r (deliverStep wins me i r sender m v .after)
+  delivered sender (Inv t) d = go (later order t (r .timestamp)) refl
     where
-      go : (l : Bool) → later wins t (r .timestamp) ≡ l → Becomes wins me r (invStep l me i r t sender v .after)
+      go : (l : Bool) → later order t (r .timestamp) ≡ l → Becomes order me r (invStep l me i r t sender v .after)
       go true l = invalidates t sender (length v) l d refl
       go false l = same refl
   delivered sender (Ack t) d = go (completes me r sender) refl
     where
-      go : (c : Bool) → completes me r sender ≡ c → Becomes wins me r (ackStep c me i r sender .after)
+      go : (c : Bool) → completes me r sender ≡ c → Becomes order me r (ackStep c me i r sender .after)
       go true c = settles sender refl
       go false c = counts sender c refl
   delivered sender (Val t) d = validates refl
 
-  becomes : (e : Event) → AllYes (own me r e (length v)) → Becomes wins me r (step wins me i r e v .after)
+  becomes : (e : Event) → AllYes (own me r e (length v)) → Becomes order me r (step wins me i r e v .after)
   becomes Read y = same refl
   becomes Ask y = same refl
   becomes Write y = writes (length v) (next-version (r .timestamp .version) (y .1 .1 .0)) refl
@@ -84,8 +89,8 @@ module _ (wins : ℕ → ℕ → Bool) (me : Replica) (i : ℕ) (r : Record) (v 
 -- ---- lists of entries
 
 -- P is the property; question 1 says yes at every accepted event. A list that passes `May` has only entries of replica k that pass `Fine`
-module _ (wins : ℕ → ℕ → Bool) (i : ℕ) (P : Replica → Record → Type 0)
-    (steps : (me : Replica) (r b : Record) → question1 me .yes ≡ true → Becomes wins me r b → P me r → P me b)
+module _ (wins : Orders) (i : ℕ) (P : Replica → Record → Type 0)
+    (steps : (me : Replica) (r b : Record) → question1 me .yes ≡ true → Becomes (under wins (me .settings)) me r b → P me r → P me b)
     (Fine : Action → Type 0)
     (views : (n : Node) (epoch set : ℕ) → Fine (run.view epoch set) → P (n .me) (recordOf i n) → P (viewed n epoch set .node .me) (recordOf i (viewed n epoch set .node))) where
   abbrev Holds : Node → Type 0
@@ -131,21 +136,28 @@ module _ (wins : ℕ → ℕ → Bool) (i : ℕ) (P : Replica → Record → Typ
       side (yes e) = rw (e, at-who wins g a) (entry-keeps (a .what) (g .log) (g .at (a .who)) (split a rest m .0 (sym e)) (rw e at before))
       side (no d) = rw (at-other wins g a k d) before
 
--- a change of view leaves the number
-viewed-number : (n : Node) (epoch set : ℕ) → viewed n epoch set .node .me .number ≡ n .me .number
+-- a change of view leaves number and settings
+viewed-keeps : (n : Node) (epoch set : ℕ) → (viewed n epoch set .node .me .number ≡ n .me .number) × (viewed n epoch set .node .me .settings ≡ n .me .settings)
 unfolding viewed view
-viewed-number n epoch set = go (firstNo (viewQuestions (n .me) epoch set))
+viewed-keeps n epoch set = go (firstNo (viewQuestions (n .me) epoch set))
   where
-    go : (z : ℕ) → identity (admissionOf z (record { number = n .me .number; epoch = epoch; view = set })) (n .me) .number ≡ n .me .number
-    go zero = refl
-    go (suc z) = refl
+    to : ℕ → Replica
+    to z = identity (admissionOf z (record { number = n .me .number; epoch = epoch; view = set; settings = n .me .settings })) (n .me)
+
+    go : (z : ℕ) → (to z .number ≡ n .me .number) × (to z .settings ≡ n .me .settings)
+    go zero = (refl, refl)
+    go (suc z) = (refl, refl)
 
 -- the same of a property that looks at no view: it holds after every list
-module _ (wins : ℕ → ℕ → Bool) (i : ℕ) (P : ℕ → Record → Type 0) (steps : (me : Replica) (r b : Record) → Becomes wins me r b → P (me .number) r → P (me .number) b) where
-  view-keeps : (n : Node) (epoch set : ℕ) → P (n .me .number) (recordOf i n) → P (viewed n epoch set .node .me .number) (recordOf i (viewed n epoch set .node))
-  unfolding viewed
-  view-keeps n epoch set h = rw (viewed-number n epoch set) h
+module _ (wins : Orders) (i : ℕ) (P : ℕ → Settings → Record → Type 0)
+    (steps : (me : Replica) (r b : Record) → Becomes (under wins (me .settings)) me r b → P (me .number) (me .settings) r → P (me .number) (me .settings) b) where
+  abbrev Has : Node → Type 0
+  Has n = P (n .me .number) (n .me .settings) (recordOf i n)
 
-  pub always : (k : ℕ) (g : Group) → P (g .at k .me .number) (recordOf i (g .at k)) → (entries : List Entry) → P (after wins g entries k .me .number) (recordOf i (after wins g entries k))
+  view-keeps : (n : Node) (epoch set : ℕ) → Has n → Has (viewed n epoch set .node)
+  unfolding viewed
+  view-keeps n epoch set h = rw (viewed-keeps n epoch set .0, viewed-keeps n epoch set .1) h
+
+  pub always : (k : ℕ) (g : Group) → Has (g .at k) → (entries : List Entry) → Has (after wins g entries k)
   always k g before entries =
-      along wins i (λ me r. P (me .number) r) (λ me r b y. steps me r b) (λ a. Unit) (λ n epoch set f. view-keeps n epoch set) k (λ l. Unit) (λ a rest m. (λ e. tt, tt)) g before entries tt
+      along wins i (λ me r. P (me .number) (me .settings) r) (λ me r b y. steps me r b) (λ a. Unit) (λ n epoch set f. view-keeps n epoch set) k (λ l. Unit) (λ a rest m. (λ e. tt, tt)) g before entries tt

@@ -9,6 +9,7 @@ use lib.Seq.{set-getD, getD-set-same, getD-set-other}
 use Rattle.hermes.specs.declared.event.Event.{Event}
 use Rattle.hermes.specs.declared.event.Answer.the-variants.{Accepted, Refused}
 use Rattle.hermes_record.specs.declared.record.Record.{Record}
+use Rattle.hermes_record.specs.Order.{Orders}
 use Rattle.hermes.specs.Guards.{Question, AllYes}
 use Rattle.hermes_record.specs.Record.{freshRecord}
 use Rattle.hermes.specs.Event.{Stored, kept, placed, Step, common, own, refusal, step, storing, effect, numberOf, sentBy}
@@ -29,7 +30,7 @@ ownOf n i e v = own (n .me) (recordOf i n) e (length v)
 abbrev pub questionsOf : Node → ℕ → Event → List ℕ → List Question
 questionsOf n i e v = common (n .me) (length (n .table)) (length (n .store)) i (recordOf i n) (ownOf n i e v)
 
-abbrev pub stepOf : (ℕ → ℕ → Bool) → Node → ℕ → Event → List ℕ → Step
+abbrev pub stepOf : Orders → Node → ℕ → Event → List ℕ → Step
 stepOf wins n i e v = step wins (n .me) i (recordOf i n) e v
 
 pub passed-zero : (n : Node) (i : ℕ) (e : Event) (v : List ℕ) → AllYes (questionsOf n i e v) → refusalOf n i e v ≡ 0
@@ -48,7 +49,7 @@ pub its-own : (n : Node) (i : ℕ) (e : Event) (v : List ℕ) → AllYes (questi
 its-own n i e v y = y .1 .1 .1 .1 .1
 
 -- its step leaves a sound record and stores what fits
-pub sound-step : (wins : ℕ → ℕ → Bool) (n : Node) (i : ℕ) (e : Event) (v : List ℕ) → AllYes (questionsOf n i e v) → SoundStep (n .me) (stepOf wins n i e v)
+pub sound-step : (wins : Orders) (n : Node) (i : ℕ) (e : Event) (v : List ℕ) → AllYes (questionsOf n i e v) → SoundStep (n .me) (stepOf wins n i e v)
 sound-step wins n i e v y =
     let c = first-five n i e v y in step-sound wins (n .me) i (recordOf i n) (c .number) (c .sound) e v (its-own n i e v y)
 
@@ -74,7 +75,7 @@ module _ (i : ℕ) (s : List ℕ) (room : 192 * i + 192 ≤ length s) where
 -- ---- an event
 
 -- the step is done on record i, and all else is as it was
-pub changed : (wins : ℕ → ℕ → Bool) (n : Node) (i : ℕ) (e : Event) (v : List ℕ) → AllYes (questionsOf n i e v)
+pub changed : (wins : Orders) (n : Node) (i : ℕ) (e : Event) (v : List ℕ) → AllYes (questionsOf n i e v)
     → Changed i (stepOf wins n i e v) n (done n i (stepOf wins n i e v))
 changed wins n i e v y = record {
   here = getD-set-same (n .table) i (s .after) (freshRecord 0) (first-five n i e v y .inside);
@@ -96,12 +97,12 @@ changed wins n i e v y = record {
     room : 192 * i + 192 ≤ length (n .store)
     room = slot-fits (first-five n i e v y)
 
-pub data Applied (wins : ℕ → ℕ → Bool) (n : Node) (i : ℕ) (e : Event) (v : List ℕ) (o : Outcome) : Type 0 where
+pub data Applied (wins : Orders) (n : Node) (i : ℕ) (e : Event) (v : List ℕ) (o : Outcome) : Type 0 where
   refused : (k : ℕ) → refusalOf n i e v ≡ suc k → o ≡ record { answer = Refused (suc k); node = n } → Applied wins n i e v o
   accepted : AllYes (questionsOf n i e v) → Changed i (stepOf wins n i e v) n (done n i (stepOf wins n i e v))
       → o ≡ record { answer = Accepted (stepOf wins n i e v .sent); node = done n i (stepOf wins n i e v) } → Applied wins n i e v o
 
-pub applied : (wins : ℕ → ℕ → Bool) (n : Node) (i : ℕ) (e : Event) (v : List ℕ) → Applied wins n i e v (apply wins n i e v)
+pub applied : (wins : Orders) (n : Node) (i : ℕ) (e : Event) (v : List ℕ) → Applied wins n i e v (apply wins n i e v)
 unfolding apply effect
 applied wins n i e v = go (refusalOf n i e v) refl
   where
@@ -114,7 +115,7 @@ applied wins n i e v = go (refusalOf n i e v) refl
     go (suc k) z = refused k z (rw z (ap (λ (t : List Record). record { answer = Refused (suc k); node = record { me = n .me; table = t; store = n .store } }) (set-getD (n .table) i (freshRecord 0))))
 
 -- an event whose questions all say yes is accepted, and sends what its step does
-pub answered : (wins : ℕ → ℕ → Bool) (n : Node) (i : ℕ) (e : Event) (v : List ℕ) → AllYes (questionsOf n i e v)
+pub answered : (wins : Orders) (n : Node) (i : ℕ) (e : Event) (v : List ℕ) → AllYes (questionsOf n i e v)
     → (numberOf (apply wins n i e v .answer) ≡ 0) × (sentBy (apply wins n i e v .answer) ≡ stepOf wins n i e v .sent)
 answered wins n i e v y = go (apply wins n i e v) (applied wins n i e v)
   where

@@ -11,8 +11,10 @@ use Rattle.hermes_record.specs.declared.timestamp.Timestamp.{Timestamp}
 use Rattle.hermes_record.specs.declared.record.Record.{Record}
 use Rattle.hermes_record.specs.declared.record.State.the-variants as state
 use Rattle.hermes.specs.declared.event.Replica.{Replica}
+use Rattle.hermes.specs.declared.event.Settings.{Settings}
 use Rattle.hermes.specs.declared.event.Event.the-variants.{Read, Ask, Commit}
-use Rattle.hermes_record.specs.Order.{TieOrder, higher, later, NotAfter, equal, rises}
+use Rattle.hermes_record.specs.Order.{ties, TieOrders, Orders, TieOrder, later, NotAfter, equal, rises}
+use Rattle.hermes.specs.Settings.{under}
 use Rattle.hermes_record.specs.Record.{nextTimestamp}
 use Rattle.hermes.specs.Store.{slot}
 use Rattle.hermes.specs.Event.{numberOf, Handed, refusal, effect, moved, readPart, askStamp, askHands}
@@ -22,7 +24,7 @@ use Rattle.hermes.specs.Run.{Entry, Group, result, run}
 use Rattle.hermes.specs.Agreement.{Started, Entries, Shows, Alike, IsAccepted, after}
 use Rattle.hermes.specs.Reads.{Sound}
 use Rattle.hermes.specs.Asking.{EveryAskGives, RefusedBy, Still, HandsOut, reads, asks, Apart, Opened, AskingAny, Asking}
-use Rattle.hermes_record.proofs.Order.{higher-order, equal-same, greater-later, later-apart, notAfter-trans, notAfter-antisym}
+use Rattle.hermes_record.proofs.Order.{ties-order, equal-same, greater-later, later-apart, notAfter-trans, notAfter-antisym}
 use Rattle.hermes_record.proofs.Tests.{and-both}
 use Rattle.hermes.proofs.Store.{value-slot}
 use Rattle.hermes.proofs.Guards.{sound-passed, commit-own, other-number}
@@ -36,12 +38,12 @@ use Rattle.hermes.proofs.Along.{Becomes, same, writes, replays, invalid
 -- ---- one ask
 
 -- it asks a read's questions, and does a read's step
-pub as-read : (wins : ℕ → ℕ → Bool) (n : Node) (i : ℕ) → apply wins n i Ask [] ≡ apply wins n i Read []
+pub as-read : (wins : Orders) (n : Node) (i : ℕ) → apply wins n i Ask [] ≡ apply wins n i Read []
 unfolding apply effect refusal
 as-read wins n i = refl
 
 -- the same of one record
-pub moves-as-read : (wins : ℕ → ℕ → Bool) (me : Replica) (count bytes i : ℕ) (r : Record) → moved wins me count bytes i r Ask [] ≡ moved wins me count bytes i r Read []
+pub moves-as-read : (wins : Orders) (me : Replica) (count bytes i : ℕ) (r : Record) → moved wins me count bytes i r Ask [] ≡ moved wins me count bytes i r Read []
 unfolding moved refusal
 moves-as-read wins me count bytes i r = refl
 
@@ -63,7 +65,7 @@ ask-gives wins n i = record { asRead = as-read wins n i; part = refl; accepted =
 -- ---- one entry
 
 -- an accepted read finds its record valid, and within the table
-reads-find : (wins : ℕ → ℕ → Bool) (n : Node) (i : ℕ) → numberOf (apply wins n i Read [] .answer) ≡ 0 → Shows n i × (i < length (n .table))
+reads-find : (wins : Orders) (n : Node) (i : ℕ) → numberOf (apply wins n i Read [] .answer) ≡ 0 → Shows n i × (i < length (n .table))
 reads-find wins n i = go (apply wins n i Read []) (applied wins n i Read [])
   where
     go : (o : Outcome) → Applied wins n i Read [] o → numberOf (o .answer) ≡ 0 → Shows n i × (i < length (n .table))
@@ -77,7 +79,7 @@ record Finds (n : Node) (i : ℕ) (t : Timestamp) (text : List ℕ) : Type 0 whe
   shows : Shows n i
   inside : i < length (n .table)
 
-hands : (wins : ℕ → ℕ → Bool) (g : Group) (a : Entry) (i : ℕ) (t : Timestamp) (text : List ℕ) → HandsOut wins g a i t text → Finds (g .at (a .who)) i t text
+hands : (wins : Orders) (g : Group) (a : Entry) (i : ℕ) (t : Timestamp) (text : List ℕ) → HandsOut wins g a i t text → Finds (g .at (a .who)) i t text
 unfolding result
 hands wins g a i t text (reads e z p s) =
     let f = reads-find wins (g .at (a .who)) i (rw e at z) in
@@ -90,7 +92,7 @@ hands wins g a i t text (asks e z p) =
     q = sym (ask-gives wins (g .at (a .who)) i .accepted (rw e at z)) ∙ p
 
 -- an accepted commit found the timestamp that it brought
-commits : (wins : ℕ → ℕ → Bool) (n : Node) (i : ℕ) (t : Timestamp) (v : List ℕ) → numberOf (apply wins n i (Commit t) v .answer) ≡ 0 → recordOf i n .timestamp ≡ t
+commits : (wins : Orders) (n : Node) (i : ℕ) (t : Timestamp) (v : List ℕ) → numberOf (apply wins n i (Commit t) v .answer) ≡ 0 → recordOf i n .timestamp ≡ t
 commits wins n i t v = go (apply wins n i (Commit t) v) (applied wins n i (Commit t) v)
   where
     go : (o : Outcome) → Applied wins n i (Commit t) v o → numberOf (o .answer) ≡ 0 → recordOf i n .timestamp ≡ t
@@ -98,7 +100,7 @@ commits wins n i t v = go (apply wins n i (Commit t) v) (applied wins n i (Commi
     go o (accepted y c q) a = sym (commit-own (n .me) (recordOf i n) t (length v) (its-own n i (Commit t) v y) .current)
 
 -- one that finds its record valid with that timestamp is not refused by 26
-not-in-vain : (wins : ℕ → ℕ → Bool) (n : Node) (i : ℕ) (t : Timestamp) (v : List ℕ) → Shows n i → t ≡ recordOf i n .timestamp → numberOf (apply wins n i (Commit t) v .answer) ≢ 26
+not-in-vain : (wins : Orders) (n : Node) (i : ℕ) (t : Timestamp) (v : List ℕ) → Shows n i → t ≡ recordOf i n .timestamp → numberOf (apply wins n i (Commit t) v .answer) ≢ 26
 unfolding refusal
 not-in-vain wins n i t v h e = go (apply wins n i (Commit t) v) (applied wins n i (Commit t) v)
   where
@@ -155,13 +157,20 @@ module _ (wins : ℕ → ℕ → Bool) (ord : TieOrder wins) (t : Timestamp) whe
 -- ---- from one point of a list to a later one
 
 -- the text is in the record's 192 bytes
-same-text : (count i k : ℕ) (n m : Node) → i < count → Sound count k n → Sound count k m → Alike i n m → valueOf i n ≡ valueOf i m
-same-text count i k n m h a b s = value n a ∙ (λ t. take (s .lengths t) (s .bytes t)) ∙ sym (value m b)
+same-text : (count : ℕ) (settings : Settings) (i k : ℕ) (n m : Node) → i < count → Sound count settings k n → Sound count settings k m → Alike i n m → valueOf i n ≡ valueOf i m
+same-text count settings i k n m h a b s = value n a ∙ (λ t. take (s .lengths t) (s .bytes t)) ∙ sym (value m b)
   where
-    value : (x : Node) → Sound count k x → valueOf i x ≡ take (recordOf i x .len) (slot i (x .store))
+    value : (x : Node) → Sound count settings k x → valueOf i x ≡ take (recordOf i x .len) (slot i (x .store))
     value x ok = value-slot i (recordOf i x .len) (x .store) (sound-passed (x .me) (recordOf i x) (ok .fifth i h) .short)
 
-module _ (wins : ℕ → ℕ → Bool) (ord : TieOrder wins) (member : ℕ → Bool) (count : ℕ) (issued : ℕ → ℕ) (g : Group) (s : Started member count issued g) where
+module _ (wins : Orders) (ords : TieOrders wins) (member : ℕ → Bool) (count : ℕ) (issued : ℕ → ℕ) (settings : Settings) (g : Group) (s : Started member count issued settings g) where
+  -- the order of the group
+  abbrev order : ℕ → ℕ → Bool
+  order = under wins settings
+
+  abbrev ord : TieOrder (under wins settings)
+  ord = ords (settings .rule)
+
   -- a list in two parts: laptop k at the point between them, and at its end
   module _ (xs ys : List Entry) (c : Entries member issued (xs ++ ys)) (i k : ℕ) (mem : member k ≡ true) where
     abbrev mid : Group
@@ -173,17 +182,17 @@ module _ (wins : ℕ → ℕ → Bool) (ord : TieOrder wins) (member : ℕ → B
     parts : Entries member issued xs × Entries member issued ys
     parts = entries-append member issued xs ys c
 
-    mid-ok : Ok wins ord member count issued mid
-    mid-ok = run-ok wins ord member count issued g (start-ok wins ord member count issued g s) xs (parts .0)
+    mid-ok : Ok wins settings ord member count issued mid
+    mid-ok = run-ok wins settings ord member count issued g (start-ok wins settings ord member count issued g s) xs (parts .0)
 
-    here : copies wins ord member count issued i mid k ≡ copy i (mid .at k)
-    here = copies-member wins ord member count issued i mid k mem
+    here : copies wins settings ord member count issued i mid k ≡ copy i (mid .at k)
+    here = copies-member wins settings ord member count issued i mid k mem
 
-    there : copies wins ord member count issued i (run wins mid ys) k ≡ copy i (run wins mid ys .at k)
-    there = copies-member wins ord member count issued i (run wins mid ys) k mem
+    there : copies wins settings ord member count issued i (run wins mid ys) k ≡ copy i (run wins mid ys .at k)
+    there = copies-member wins settings ord member count issued i (run wins mid ys) k mem
 
-    onwards : NotAfter wins (recordOf i (mid .at k) .timestamp) (recordOf i (end .at k) .timestamp)
-    onwards = rw (run-append wins g xs ys) (rw (here, there) at (run-rises wins ord member count issued mid mid-ok ys (parts .1) i k))
+    onwards : NotAfter order (recordOf i (mid .at k) .timestamp) (recordOf i (end .at k) .timestamp)
+    onwards = rw (run-append wins g xs ys) (rw (here, there) at (run-rises wins settings ord member count issued mid mid-ok ys (parts .1) i k))
 
     unmoved : recordOf i (end .at k) .timestamp ≡ recordOf i (mid .at k) .timestamp → Alike i (end .at k) (mid .at k)
     unmoved e = rw (run-append wins g xs ys) (record { timestamps = e′; lengths = ap (λ (x : Cell). x .len) cells; bytes = ap (λ (x : Cell). x .bytes) cells })
@@ -192,15 +201,16 @@ module _ (wins : ℕ → ℕ → Bool) (ord : TieOrder wins) (member : ℕ → B
         e′ = rw (run-append wins g xs ys) at e
 
         cells : copy i (run wins mid ys .at k) .cell ≡ copy i (mid .at k) .cell
-        cells = rw (here, there) at (run-cells wins ord member count issued mid mid-ok ys (parts .1) i k (rw (here, there) e′))
+        cells = rw (here, there) at (run-cells wins settings ord member count issued mid mid-ok ys (parts .1) i k (rw (here, there) e′))
 
     -- what was valid with t at the first point is so at the end, or has a later timestamp there
-    current : (t : Timestamp) → recordOf i (mid .at k) .timestamp ≡ t → Shows (mid .at k) i → Current wins t (recordOf i (end .at k))
+    current : (t : Timestamp) → recordOf i (mid .at k) .timestamp ≡ t → Shows (mid .at k) i → Current order t (recordOf i (end .at k))
     current t e v = rw (run-append wins g xs ys)
-        (always wins i (λ number r. Current wins t r) (current-keeps wins ord t) k mid (record { onward = equal (sym e); valid = λ z. v }) ys)
+        (subst (λ (x : Settings). Current (under wins x) t (recordOf i (run wins mid ys .at k))) (run-ok wins settings ord member count issued mid mid-ok ys (parts .1) .fixed k mem)
+        (always wins i (λ number x r. Current (under wins x) t r) (λ me. current-keeps (under wins (me .settings)) (ords (me .settings .rule)) t me) k mid (record { onward = equal (sym e); valid = λ z. v }) ys))
 
-  sound-at : (xs : List Entry) → Entries member issued xs → (k : ℕ) → member k ≡ true → Sound count k (run wins g xs .at k)
-  sound-at xs c k mem = stay-sound wins member count issued g s xs c k mem
+  sound-at : (xs : List Entry) → Entries member issued xs → (k : ℕ) → member k ≡ true → Sound count settings k (run wins g xs .at k)
+  sound-at xs c k mem = stay-sound wins member count issued settings g s xs c k mem
 
   module _ (entries : List Entry) (c : Entries member issued entries) where
     -- of two entries of one laptop
@@ -217,7 +227,7 @@ module _ (wins : ℕ → ℕ → Bool) (ord : TieOrder wins) (member : ℕ → B
       by-first P p = subst (λ (k : ℕ). P (run wins g (before ++ a ∷ between) .at k)) (sym (apart .one)) p
 
       goes-forward : (t u : Timestamp) (first second : List ℕ) → HandsOut wins (run wins g before) a i t first → HandsOut wins (run wins g (before ++ a ∷ between)) b i u second
-          → NotAfter wins t u × (t ≡ u → first ≡ second)
+          → NotAfter (under wins settings) t u × (t ≡ u → first ≡ second)
       goes-forward t u first second x y = (rw (p .timestamp, q .timestamp) at (onwards before (a ∷ between) due i (a .who) mem), λ z. sym (p .value) ∙ sym (text z) ∙ q .value)
         where
           p : Finds (run wins g before .at (a .who)) i t first
@@ -226,11 +236,11 @@ module _ (wins : ℕ → ℕ → Bool) (ord : TieOrder wins) (member : ℕ → B
           q : Finds (run wins g (before ++ a ∷ between) .at (a .who)) i u second
           q = by-first (λ n. Finds n i u second) (hands wins (run wins g (before ++ a ∷ between)) b i u second y)
 
-          early : Sound count (a .who) (run wins g before .at (a .who))
+          early : Sound count settings (a .who) (run wins g before .at (a .who))
           early = sound-at before (entries-append member issued before (a ∷ between) due .0) (a .who) mem
 
           text : t ≡ u → valueOf i (run wins g (before ++ a ∷ between) .at (a .who)) ≡ valueOf i (run wins g before .at (a .who))
-          text z = same-text count i (a .who) (run wins g (before ++ a ∷ between) .at (a .who)) (run wins g before .at (a .who)) (omega (arith, p .inside, early .records))
+          text z = same-text count settings i (a .who) (run wins g (before ++ a ∷ between) .at (a .who)) (run wins g before .at (a .who)) (omega (arith, p .inside, early .records))
               (sound-at (before ++ a ∷ between) due (a .who) mem) early (unmoved before (a ∷ between) due i (a .who) mem (q .timestamp ∙ sym z ∙ sym (p .timestamp)))
 
       module _ (t : Timestamp) (text v : List ℕ) (x : HandsOut wins (run wins g before) a i t text) (f : b .what ≡ run.commit i t v) where
@@ -256,34 +266,34 @@ module _ (wins : ℕ → ℕ → Bool) (ord : TieOrder wins) (member : ℕ → B
                 (by-first (λ n. recordOf i n .timestamp ≡ t) (unfold result in commits wins (run wins g (before ++ a ∷ between) .at (b .who)) i t v (rw f at z)))
 
             stamp : recordOf i (run wins g (before ++ a ∷ upto) .at (a .who)) .timestamp ≡ t
-            stamp = notAfter-antisym wins ord (rw last at (onwards (before ++ a ∷ upto) beyond whole i (a .who) mem)) (rw (found .timestamp) at (onwards before (a ∷ upto) d i (a .who) mem))
+            stamp = notAfter-antisym order ord (rw last at (onwards (before ++ a ∷ upto) beyond whole i (a .who) mem)) (rw (found .timestamp) at (onwards before (a ∷ upto) d i (a .who) mem))
 
         is-newer : RefusedBy 26 (result wins (run wins g (before ++ a ∷ between)) b)
-            → later wins (recordOf i (after wins g (before ++ a ∷ between) (a .who)) .timestamp) t ≡ true
+            → later order (recordOf i (after wins g (before ++ a ∷ between) (a .who)) .timestamp) t ≡ true
         is-newer z = go (now .onward)
           where
             n : Node
             n = run wins g (before ++ a ∷ between) .at (a .who)
 
-            now : Current wins t (recordOf i n)
+            now : Current order t (recordOf i n)
             now = current before (a ∷ between) due i (a .who) mem t (found .timestamp) (found .shows)
 
             says : numberOf (apply wins n i (Commit t) v .answer) ≡ 26
             says = by-first (λ n. numberOf (apply wins n i (Commit t) v .answer) ≡ 26) (unfold result in rw f at z)
 
-            go : NotAfter wins t (recordOf i n .timestamp) → later wins (recordOf i n .timestamp) t ≡ true
+            go : NotAfter order t (recordOf i n .timestamp) → later order (recordOf i n .timestamp) t ≡ true
             go (equal e) = absurd (not-in-vain wins n i t v (now .valid (sym e)) e says)
             go (rises l) = l
 
-    claim : Opened wins g entries
+    claim : Opened wins settings g entries
     claim = record { forward = goes-forward; kept = is-kept; newer = is-newer }
 
 -- ---- the theorems
 
 -- over every strict total order of ties
 pub asking-by : AskingAny
-asking-by wins ord member count issued g s entries c = claim wins ord member count issued g s entries c
+asking-by wins ord member count issued settings g s entries c = claim wins ord member count issued settings g s entries c
 
 -- Wish 5
 pub asking : Asking
-asking = asking-by higher higher-order
+asking = asking-by ties ties-order

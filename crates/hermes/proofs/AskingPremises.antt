@@ -4,7 +4,8 @@ use mathlib.Core.Path.{_≡_, refl, sym}
 use mathlib.Core.List.{[], _∷_}
 use lib.ListN.{take, drop, take-append-drop}
 use Rattle.hermes_record.specs.Members.{has, size, lowest, within, othersIn, with}
-use Rattle.hermes_record.specs.Order.{higher, later, sameTimestamp}
+use Rattle.hermes_record.specs.Order.{ties, later, sameTimestamp}
+use Rattle.hermes.specs.Settings.{oldSettings}
 use Rattle.hermes.specs.Store.{padded, place}
 use Rattle.hermes.specs.Event.{refusal, effect, readPart, askStamp, askHands}
 use Rattle.hermes.specs.Node.{start, apply}
@@ -23,8 +24,8 @@ together-entries =
     second : Entries three issued (drop 11 together)
     second = (refl, tt, (refl, tt, (refl, tt, (refl, tt, (refl, tt, (refl, tt, (refl, tt, (refl, tt, (refl, tt, (refl, tt, (refl, tt, tt)))))))))))
 
-opened : Opened higher group together
-opened = asking three 1 issued group started together together-entries
+opened : Opened ties oldSettings group together
+opened = asking three 1 issued oldSettings group started together together-entries
 
 together-numbers : answers group together ≡ numbersOf onOneStamp
 unfolding result advance apply effect refusal start has size lowest within othersIn with padded place later sameTimestamp
@@ -46,12 +47,12 @@ again : AsksThen 0 17 0 (stamp 0 0) [] (by 0 (ask 0)) 0
 unfolding result advance apply effect refusal askStamp askHands readPart start has size lowest within othersIn with padded place later sameTimestamp
 again = record { apart = record { rest = drop 19 together; split = refl; one = refl }; hands = asks refl refl refl; answers = refl }
 
-rereads : HandsOut higher (run higher group (upTo 20)) (by 0 (read 0)) 0 (stamp 1 1) (66 ∷ 49 ∷ [])
+rereads : HandsOut ties (run ties group (upTo 20)) (by 0 (read 0)) 0 (stamp 1 1) (66 ∷ 49 ∷ [])
 unfolding result advance apply effect refusal askStamp askHands readPart start has size lowest within othersIn with padded place later sameTimestamp
 rereads = reads refl refl refl refl
 
 -- 0's ask and its commit
-kept : (m : ℕ) → Still 0 (stamp 1 1) (point m) (after higher group (upTo 18) 0)
+kept : (m : ℕ) → Still 0 (stamp 1 1) (point m) (after ties group (upTo 18) 0)
 unfolding result advance apply effect refusal askStamp askHands readPart start has size lowest within othersIn with padded place later sameTimestamp
 kept m = opened .kept 0 (upTo 18) (behind 18 2) (by 0 (ask 0)) (by 0 (commit 0 (stamp 1 1) (67 ∷ 50 ∷ []))) (saves .apart) (stamp 1 1) (66 ∷ 49 ∷ []) (67 ∷ 50 ∷ [])
     (saves .hands) refl (saves .answers) (take m (behind 18 2)) (drop m (behind 18 2)) (sym (take-append-drop m (behind 18 2)))

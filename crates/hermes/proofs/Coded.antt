@@ -1,5 +1,5 @@
 -- Equality as a test: by numbers that stand for a thing and from which it can be had back.
-use Prim.Native.Nat.{ℕ}
+use Prim.Native.Nat.{ℕ, zero, suc}
 use mathlib.Core.Path.{_≡_, refl, sym, ap, ap₂, _∙_}
 use mathlib.Core.Bool.{Bool, true, false, _&&_, false≢true}
 use mathlib.Core.List.{List, [], _∷_}
@@ -7,6 +7,8 @@ use lib.Dec.{eqb}
 use lib.ListN.{getD}
 use borrow.Author.Tests.{eqb-true}
 use Rattle.hermes_record.specs.declared.timestamp.Timestamp.{Timestamp}
+use Rattle.hermes_record.specs.declared.timestamp.Rule.{Rule}
+use Rattle.hermes_record.specs.declared.timestamp.Rule.the-variants.{Higher, Lower}
 use Rattle.hermes_record.specs.declared.record.Record.{Record}
 use Rattle.hermes_record.specs.declared.record.State.{State}
 use Rattle.hermes.specs.declared.message.Message.{Message}
@@ -15,6 +17,7 @@ use Rattle.hermes.proofs.Kind.{message-back}
 use Rattle.hermes.specs.declared.message.Outgoing.{Outgoing}
 use Rattle.hermes.specs.declared.message.Outgoing.the-variants.{None, Sent}
 use Rattle.hermes.specs.declared.event.Replica.{Replica}
+use Rattle.hermes_record.specs.Order.{ruleNumber}
 use Rattle.hermes_record.specs.Record.{code}
 use Rattle.hermes.specs.Node.{Node}
 use Rattle.hermes_record.proofs.Tests.{both}
@@ -73,8 +76,25 @@ recordCode = record {
   had = λ r i. record { state = sym (coded-code (r .state)) i; timestamp = r .timestamp; writer = r .writer; written = r .written; acks = r .acks; len = r .len };
 }
 
+pub ruleBack : ℕ → Rule
+ruleBack zero = Higher
+ruleBack (suc zero) = Higher
+ruleBack (suc (suc n)) = Lower
+
+pub rule-had : (rule : Rule) → ruleBack (ruleNumber rule) ≡ rule
+unfolding ruleBack
+rule-had Higher = refl
+rule-had Lower = refl
+
+unfoldable pub ruleCode : Coded Rule
+ruleCode = record { numbers = λ rule. ruleNumber rule ∷ []; back = λ l. ruleBack (getD l 0 0); had = rule-had }
+
 unfoldable pub replicaCode : Coded Replica
-replicaCode = record { numbers = λ m. m .number ∷ m .epoch ∷ m .view ∷ []; back = λ l. record { number = getD l 0 0; epoch = getD l 1 0; view = getD l 2 0 }; had = λ m. refl }
+replicaCode = record {
+  numbers = λ m. m .number ∷ m .epoch ∷ m .view ∷ ruleNumber (m .settings .rule) ∷ [];
+  back = λ l. record { number = getD l 0 0; epoch = getD l 1 0; view = getD l 2 0; settings = record { rule = ruleBack (getD l 3 0) } };
+  had = λ m i. record { number = m .number; epoch = m .epoch; view = m .view; settings = record { rule = rule-had (m .settings .rule) i } };
+}
 
 unfoldable pub messageNumbers : Message → List ℕ
 messageNumbers m = kindOf m ∷ timestampOf m .version ∷ timestampOf m .tie ∷ []

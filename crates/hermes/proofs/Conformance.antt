@@ -17,11 +17,13 @@ use Rattle.hermes.specs.declared.message.Message.{Message}
 use Rattle.hermes.specs.declared.message.Message.the-variants.{Inv, Ack, Val}
 use Rattle.hermes.specs.declared.message.Outgoing.the-variants.{None}
 use Rattle.hermes.specs.declared.event.Replica.{Replica}
+use Rattle.hermes.specs.declared.event.Settings.{Settings}
 use Rattle.hermes.specs.declared.event.Event.{Event}
 use Rattle.hermes.specs.declared.event.Event.the-variants.{Read, Ask, Write, Commit, Replay, Deliver, Validate, Resend}
 use Rattle.hermes.specs.declared.event.Admission.the-variants.{Admitted}
 use Rattle.hermes_record.specs.Members.{has, lowest, othersIn}
-use Rattle.hermes_record.specs.Order.{higher, later, sameTimestamp}
+use Rattle.hermes_record.specs.Order.{Orders, ties, later, sameTimestamp}
+use Rattle.hermes.specs.Settings.{under}
 use Rattle.hermes_record.specs.Record.{oneOf, invalidatedState, acknowledged, freshRecord}
 use Rattle.hermes.specs.Store.{slot}
 use Rattle.hermes.specs.Guards.{Question, AllYes, ask, firstNo, question1, question3, question8, question9, question12, question15, question16}
@@ -67,7 +69,7 @@ stepVars s b = seen (s .after) (bytesAfter (s .stored) b)
 abbrev stepSends : Step → List ℕ → Sending
 stepSends s b = record { message = s .sent; body = leavingSlot (s .sent) (s .after) (bytesAfter (s .stored) b) }
 
-module _ (wins : ℕ → ℕ → Bool) (n : Node) (i : ℕ) (e : Event) (v : List ℕ) where
+module _ (wins : Orders) (n : Node) (i : ℕ) (e : Event) (v : List ℕ) where
   abbrev s : Step
   s = stepOf wins n i e v
 
@@ -171,7 +173,7 @@ write-does me i r b v h = record {
   send = refl;
 }
 
-module _ (wins : ℕ → ℕ → Bool) (n : Node) (i : ℕ) (v : List ℕ) where
+module _ (wins : Orders) (n : Node) (i : ℕ) (v : List ℕ) where
   follows-read : Follows wins n i Read v (fiveAnd n i []) HReadGuard source.HRead
   follows-read = follows wins n i Read v (fiveAnd n i []) HReadGuard source.HRead
       (λ y. (five wins n i Read v [] y tt, is-state (recordOf i n .state) state.Valid (read-own (n .me) (recordOf i n) (length v) (its-own n i Read v y))))
@@ -271,7 +273,7 @@ ack-does me i r b sender h c e = record { between = between; acknowledged = coun
     incomplete true e f = absurd (f (may-send me (acknowledged r sender) b e))
     incomplete false e f = (refl, refl)
 
-module _ (wins : ℕ → ℕ → Bool) (n : Node) (i sender epoch : ℕ) (t : Timestamp) (v : List ℕ) where
+module _ (wins : Orders) (n : Node) (i sender epoch : ℕ) (t : Timestamp) (v : List ℕ) where
   -- question 11 from its two parts
   both-eleven : has (n .me .view) sender ≡ true → sender ≢ n .me .number → (has (n .me .view) sender && not (eqb sender (n .me .number))) ≡ true
   both-eleven p d = rw (p, ne-eqb sender (n .me .number) d)
@@ -282,11 +284,11 @@ module _ (wins : ℕ → ℕ → Bool) (n : Node) (i sender epoch : ℕ) (t : Ti
   apart : (m : Message) → AllYes (questionsOf n i (Deliver (message sender epoch m)) v) → sender ≢ n .me .number
   apart m y = eqb-false sender (n .me .number) (yes m y .other)
 
-  follows-inv : Follows wins n i (Deliver (message sender epoch (Inv t))) v (delivered n i (message sender epoch (Inv t)) v) (λ s. HRcvInvGuard (n .me) sender epoch) (HRcvInv wins (n .me) i sender t v)
-  follows-inv = follows wins n i (Deliver (message sender epoch (Inv t))) v (delivered n i (message sender epoch (Inv t)) v) (λ s. HRcvInvGuard (n .me) sender epoch) (HRcvInv wins (n .me) i sender t v)
+  follows-inv : Follows wins n i (Deliver (message sender epoch (Inv t))) v (delivered n i (message sender epoch (Inv t)) v) (λ s. HRcvInvGuard (n .me) sender epoch) (HRcvInv (under wins (n .me .settings)) (n .me) i sender t v)
+  follows-inv = follows wins n i (Deliver (message sender epoch (Inv t))) v (delivered n i (message sender epoch (Inv t)) v) (λ s. HRcvInvGuard (n .me) sender epoch) (HRcvInv (under wins (n .me .settings)) (n .me) i sender t v)
       (λ y. (five wins n i (Deliver (message sender epoch (Inv t))) v (question12 (message sender epoch (Inv t)) (length v) ∷ []) y (yes (Inv t) y .shape, tt), (yes (Inv t) y .epoch, apart (Inv t) y, yes (Inv t) y .known)))
       (λ g. back wins n i (Deliver (message sender epoch (Inv t))) v (question12 (message sender epoch (Inv t)) (length v) ∷ []) (g .0) (eq-eqb epoch (n .me .epoch) (g .1 .0), (both-eleven (g .1 .2) (g .1 .1), (g .0 .1 .1 .1 .1 .1 .0, tt))))
-      (λ y. inv-does wins (n .me) i (recordOf i n) (slot i (n .store)) t sender v (later wins t (recordOf i n .timestamp)) refl)
+      (λ y. inv-does (under wins (n .me .settings)) (n .me) i (recordOf i n) (slot i (n .store)) t sender v (later (under wins (n .me .settings)) t (recordOf i n .timestamp)) refl)
 
   follows-ack : Follows wins n i (Deliver (message sender epoch (Ack t))) v (delivered n i (message sender epoch (Ack t)) v) (HRcvAckGuard (n .me) sender epoch t) (HRcvAckThenSendVals (n .me) i sender)
   follows-ack = follows wins n i (Deliver (message sender epoch (Ack t))) v (delivered n i (message sender epoch (Ack t)) v) (HRcvAckGuard (n .me) sender epoch t) (HRcvAckThenSendVals (n .me) i sender)
@@ -347,20 +349,20 @@ module _ (wins : ℕ → ℕ → Bool) (n : Node) (i sender epoch : ℕ) (t : Ti
 
 -- ---- fresh start and view
 
-start-follows : (k view : ℕ) (table : List Record) (store : List ℕ) → StartFollows k view table store
-start-follows k view table store = record { accepted = (to, from); does = λ a i h. inits (begun k view table store (newcomer k view) a) i h }
+start-follows : (k view : ℕ) (settings : Settings) (table : List Record) (store : List ℕ) → StartFollows k view settings table store
+start-follows k view settings table store = record { accepted = (to, from); does = λ a i h. inits (begun k view settings table store (newcomer k view settings) a) i h }
   where
     questions : List Question
-    questions = startQuestions (newcomer k view) (length table) (length store)
+    questions = startQuestions (newcomer k view settings) (length table) (length store)
 
-    to : start k view table store .admission ≡ Admitted (newcomer k view) → AllYes questions
-    to a = begun k view table store (newcomer k view) a .asked
+    to : start k view settings table store .admission ≡ Admitted (newcomer k view settings) → AllYes questions
+    to a = begun k view settings table store (newcomer k view settings) a .asked
 
-    from : AllYes questions → start k view table store .admission ≡ Admitted (newcomer k view)
+    from : AllYes questions → start k view settings table store .admission ≡ Admitted (newcomer k view settings)
     from y = unfold start in rw (none-says-no questions y)
 
-    inits : Begun k view table store (newcomer k view) → (i : ℕ) → i < length table
-        → HInit view (varsOf i (record { me = newcomer k view; table = start k view table store .table; store = start k view table store .store }))
+    inits : Begun k view settings table store (newcomer k view settings) → (i : ℕ) → i < length table
+        → HInit view (varsOf i (record { me = newcomer k view settings; table = start k view settings table store .table; store = start k view settings table store .store }))
     inits b i h = rw (b .tableAfter, getD-replicate (length table) i (freshRecord (lowest view)) (freshRecord 0) h) (record {
       nodeRcvdAcks = has-zero;
       nodeState = refl;
@@ -385,7 +387,7 @@ view-follows n epoch alive = record {
   refused = λ a. (view-frame n epoch alive .refused a, quiet (firstNo questions));
 }
   where
-    quiet : (k : ℕ) → sentBy (answerOf (admissionNumber (admissionOf k (record { number = n .me .number; epoch = epoch; view = alive }))) None) ≡ None
+    quiet : (k : ℕ) → sentBy (answerOf (admissionNumber (admissionOf k (record { number = n .me .number; epoch = epoch; view = alive; settings = n .me .settings }))) None) ≡ None
     quiet zero = refl
     quiet (suc k) = refl
 
@@ -393,7 +395,7 @@ view-follows n epoch alive = record {
     questions = viewQuestions (n .me) epoch alive
 
     next : Replica
-    next = record { number = n .me .number; epoch = epoch; view = alive }
+    next = record { number = n .me .number; epoch = epoch; view = alive; settings = n .me .settings }
 
     guard : AllYes questions → NodeFailureGuard (n .me) epoch alive
     guard y =
@@ -412,7 +414,7 @@ view-follows n epoch alive = record {
 
 -- ---- the theorems
 
-pub conformance-by : (wins : ℕ → ℕ → Bool) → Demand2By wins
+pub conformance-by : (wins : Orders) → Demand2By wins
 unfolding valOwn
 conformance-by wins = record {
   start = start-follows;
@@ -431,4 +433,4 @@ conformance-by wins = record {
 
 -- demand 2
 pub conformance : Demand2
-conformance = conformance-by higher
+conformance = conformance-by ties

@@ -28,7 +28,7 @@ use Rattle.hermes.specs.Recipe.{each, underWay, isValid, other, due}
 use Rattle.hermes_record.proofs.Tests.{both, and-both, is-false}
 use Rattle.hermes.proofs.Members.{Has, has-small, others-members, members-others, with-members, members-with}
 use Rattle.hermes_record.proofs.Order.{equal-same, notAfter-antisym, notAfter-total, later-apart}
-use Rattle.hermes.proofs.Progress.{Task, self, Post, incoming, stepBy, Alive, Did, did, delivers, Plays, none, one, next, for-each}
+use Rattle.hermes.proofs.Progress.{Task, order, self, Post, incoming, stepBy, Alive, Did, did, delivers, Plays, none, one, next, for-each}
 
 -- ---- the others of the view
 
@@ -79,7 +79,7 @@ pub record Asked (T : Task) (d : ℕ) (M : Timestamp) (late : ℕ → Bool) (m a
   pub driver : recordOf (T .i) (g .at d) ≡ r
   pub inv : Post T (g .log) m d (Inv M)
   pub sent : length (g .log) ≡ m + 1 + countBelow k (due (T .set) d acks)
-  pub below : (u : ℕ) → Has (T .set) u → NotAfter (T .wins) (recordOf (T .i) (g .at u) .timestamp) M
+  pub below : (u : ℕ) → Has (T .set) u → NotAfter (order T) (recordOf (T .i) (g .at u) .timestamp) M
   pub counted : (u : ℕ) → Has (T .set) u → Has acks u → recordOf (T .i) (g .at u) .timestamp ≡ M
   pub replied : (u : ℕ) → u < k → due (T .set) d acks u ≡ true → (recordOf (T .i) (g .at u) .timestamp ≡ M) × Post T (g .log) (m + 1 + countBelow u (due (T .set) d acks)) u (Ack M)
 
@@ -112,7 +112,7 @@ pub record Told (T : Task) (d : ℕ) (M : Timestamp) (late : ℕ → Bool) (v k 
   pub unshown : (u : ℕ) → k ≤ u → late u ≡ true → isValid (recordOf (T .i) (g .at u)) ≡ false
   pub valid : (u : ℕ) → Has (T .set) u → (late u ≡ false) ⊎ (u < k) → recordOf (T .i) (g .at u) .state ≡ state.Valid
 
-module _ (T : Task) (inside : T .i < T .count) (ord : TieOrder (T .wins)) (d : ℕ) (hd : Has (T .set) d) (M : Timestamp) (low : M .tie ≤ 15)
+module _ (T : Task) (inside : T .i < T .count) (ord : TieOrder (order T)) (d : ℕ) (hd : Has (T .set) d) (M : Timestamp) (low : M .tie ≤ 15)
     (late : ℕ → Bool) (lates : (u : ℕ) → late u ≡ true → Has (T .set) u × (u ≢ d)) where
   open Task T using (wins, e, set, i)
 
@@ -175,11 +175,11 @@ module _ (T : Task) (inside : T .i < T .count) (ord : TieOrder (T .wins)) (d : �
     ackOf u = m + 1 + countBelow u (due set d acks)
 
     -- whether it is greater or not, it leaves M there, and an ACK of M; and who then shows M has shown it before
-    taken : (k : ℕ) (r : Record) (v : List ℕ) → NotAfter wins (r .timestamp) M → (b : Bool) → later wins M (r .timestamp) ≡ b
+    taken : (k : ℕ) (r : Record) (v : List ℕ) → NotAfter (order T) (r .timestamp) M → (b : Bool) → later (order T) M (r .timestamp) ≡ b
         → (invStep b (self T k) i r M d v .after .timestamp ≡ M) × (invStep b (self T k) i r M d v .sent ≡ send (self T k) i (Ack M))
         × (((r .timestamp ≢ M) × (isValid (invStep b (self T k) i r M d v .after) ≡ false)) ⊎ ((r .timestamp ≡ M) × (invStep b (self T k) i r M d v .after ≡ r)))
-    taken k r v h true q = (refl, refl, inl (later-apart wins ord M (r .timestamp) q, invalid-shown (r .state)))
-    taken k r v h false q = let e = notAfter-antisym wins ord h (notAfter-total wins ord M (r .timestamp) q) in (e, refl, inr (e, refl))
+    taken k r v h true q = (refl, refl, inl (later-apart (order T) ord M (r .timestamp) q, invalid-shown (r .state)))
+    taken k r v h false q = let e = notAfter-antisym (order T) ord h (notAfter-total (order T) ord M (r .timestamp) q) in (e, refl, inr (e, refl))
 
     ask-one : (r : Record) (k : ℕ) → k < 16 → (g : Group) → Asked T d M late m acks r k g → Plays T g (cond (due set d acks k) (by k (deliver m) ∷ []) []) (Asked T d M late m acks r (suc k))
     ask-one r k l g p = go (due set d acks k) refl
@@ -230,12 +230,12 @@ module _ (T : Task) (inside : T .i < T .count) (ord : TieOrder (T .wins)) (d : �
                 (ten, (eleven k d hd (λ z. apart (sym z)), (x .shape, tt)))
 
             t : (s .after .timestamp ≡ M) × (s .sent ≡ send (self T k) i (Ack M)) × (((at T g k .timestamp ≢ M) × (isValid (s .after) ≡ false)) ⊎ ((at T g k .timestamp ≡ M) × (s .after ≡ at T g k)))
-            t = taken k (at T g k) (x .body) (p .below k hk) (later wins M (at T g k .timestamp)) refl
+            t = taken k (at T g k) (x .body) (p .below k hk) (later (order T) M (at T g k .timestamp)) refl
 
             here : at T (advance wins g a) k .timestamp ≡ M
             here = ap (λ (z : Record). z .timestamp) (D .here) ∙ t .0
 
-            below : (u : ℕ) → Has set u → Dec (u ≡ k) → NotAfter wins (at T (advance wins g a) u .timestamp) M
+            below : (u : ℕ) → Has set u → Dec (u ≡ k) → NotAfter (order T) (at T (advance wins g a) u .timestamp) M
             below u h (yes z) = rw z (equal here)
             below u h (no n) = rw (D .others u n) (p .below u h)
 

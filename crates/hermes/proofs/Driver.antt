@@ -32,7 +32,7 @@ use Rattle.hermes.proofs.Members.{Has, has-small, has-zero, all-at, all
 use Rattle.hermes_record.proofs.Order.{notAfter-refl, notAfter-trans, notAfter-antisym, notAfter-total, not-later}
 use Rattle.hermes.proofs.Words.{is-state, state-is, Two, count-le, count-without, size-two}
 use Rattle.hermes.proofs.Guards.{sound-passed}
-use Rattle.hermes.proofs.Progress.{Task, self, Alive, Did, did, stepBy, Plays, none, one, next, each-length}
+use Rattle.hermes.proofs.Progress.{Task, order, self, Alive, Did, did, stepBy, Plays, none, one, next, each-length}
 use Rattle.hermes.proofs.Drive.{other-yes, yes-other, due-yes, AllShow, Shown, Asked, Told, tells, asks}
 
 -- ---- words on choices and states
@@ -138,19 +138,19 @@ Behind wins v r s = (later wins (r .timestamp) s ≡ true) ⊎ ((r .timestamp �
 
 pub record Outset (T : Task) (g : Group) : Type 0 where
   pub alive : Alive T g
-  pub settled : (u v : ℕ) → Has (T .set) u → Has (T .set) v → isValid (recordOf (T .i) (g .at u)) ≡ true → NotAfter (T .wins) (recordOf (T .i) (g .at u) .timestamp) (recordOf (T .i) (g .at v) .timestamp)
-  pub acked : (u v : ℕ) → Has (T .set) u → Has (T .set) v → Has (recordOf (T .i) (g .at u) .acks) v → NotAfter (T .wins) (recordOf (T .i) (g .at u) .written) (recordOf (T .i) (g .at v) .timestamp)
+  pub settled : (u v : ℕ) → Has (T .set) u → Has (T .set) v → isValid (recordOf (T .i) (g .at u)) ≡ true → NotAfter (order T) (recordOf (T .i) (g .at u) .timestamp) (recordOf (T .i) (g .at v) .timestamp)
+  pub acked : (u v : ℕ) → Has (T .set) u → Has (T .set) v → Has (recordOf (T .i) (g .at u) .acks) v → NotAfter (order T) (recordOf (T .i) (g .at u) .written) (recordOf (T .i) (g .at v) .timestamp)
   pub mine : (u : ℕ) → Has (T .set) u → underWay (recordOf (T .i) (g .at u)) ≡ true → recordOf (T .i) (g .at u) .written ≡ recordOf (T .i) (g .at u) .timestamp
   -- the last writer v of u stands behind what u holds
-  pub writers : (u v : ℕ) → Has (T .set) u → Has (T .set) v → recordOf (T .i) (g .at u) .writer ≡ v → Behind (T .wins) v (recordOf (T .i) (g .at v)) (recordOf (T .i) (g .at u) .timestamp)
+  pub writers : (u v : ℕ) → Has (T .set) u → Has (T .set) v → recordOf (T .i) (g .at u) .writer ≡ v → Behind (order T) v (recordOf (T .i) (g .at v)) (recordOf (T .i) (g .at u) .timestamp)
 
 -- one of the view, `who`, holds a timestamp that is not before those of the others below k
 pub record Top (T : Task) (g : Group) (k : ℕ) : Type 0 where
   pub who : ℕ
   pub seen : Has (T .set) who
-  pub most : (u : ℕ) → u < k → Has (T .set) u → NotAfter (T .wins) (recordOf (T .i) (g .at u) .timestamp) (recordOf (T .i) (g .at who) .timestamp)
+  pub most : (u : ℕ) → u < k → Has (T .set) u → NotAfter (order T) (recordOf (T .i) (g .at u) .timestamp) (recordOf (T .i) (g .at who) .timestamp)
 
-module _ (T : Task) (inside : T .i < T .count) (ord : TieOrder (T .wins)) (g : Group) where
+module _ (T : Task) (inside : T .i < T .count) (ord : TieOrder (order T)) (g : Group) where
   open Task T using (wins, set, i, old)
 
   abbrev r : ℕ → Record
@@ -166,48 +166,48 @@ module _ (T : Task) (inside : T .i < T .count) (ord : TieOrder (T .wins)) (g : G
       go : Top T g k → (b : Bool) → has set k ≡ b → Top T g (suc k)
       go t false q = record { who = t .who; seen = t .seen; most = λ u l h. at u l h (ℕ-discrete u k) }
         where
-          at : (u : ℕ) → u < suc k → Has set u → Dec (u ≡ k) → NotAfter wins (r u .timestamp) (r (t .who) .timestamp)
+          at : (u : ℕ) → u < suc k → Has set u → Dec (u ≡ k) → NotAfter (order T) (r u .timestamp) (r (t .who) .timestamp)
           at u l h (yes z) = absurd (false≢true (sym q ∙ (rw z at h)))
           at u l h (no d) = t .most u (omega arith) h
-      go t true q = pick (later wins (r k .timestamp) (r (t .who) .timestamp)) refl
+      go t true q = pick (later (order T) (r k .timestamp) (r (t .who) .timestamp)) refl
         where
-          pick : (b : Bool) → later wins (r k .timestamp) (r (t .who) .timestamp) ≡ b → Top T g (suc k)
+          pick : (b : Bool) → later (order T) (r k .timestamp) (r (t .who) .timestamp) ≡ b → Top T g (suc k)
           pick true z = record { who = k; seen = q; most = λ u l h. at u l h (ℕ-discrete u k) }
             where
-              at : (u : ℕ) → u < suc k → Has set u → Dec (u ≡ k) → NotAfter wins (r u .timestamp) (r k .timestamp)
-              at u l h (yes y) = rw y (notAfter-refl wins (r k .timestamp))
-              at u l h (no d) = notAfter-trans wins ord (t .most u (omega arith) h) (rises z)
+              at : (u : ℕ) → u < suc k → Has set u → Dec (u ≡ k) → NotAfter (order T) (r u .timestamp) (r k .timestamp)
+              at u l h (yes y) = rw y (notAfter-refl (order T) (r k .timestamp))
+              at u l h (no d) = notAfter-trans (order T) ord (t .most u (omega arith) h) (rises z)
           pick false z = record { who = t .who; seen = t .seen; most = λ u l h. at u l h (ℕ-discrete u k) }
             where
-              at : (u : ℕ) → u < suc k → Has set u → Dec (u ≡ k) → NotAfter wins (r u .timestamp) (r (t .who) .timestamp)
-              at u l h (yes y) = rw y (notAfter-total wins ord (r k .timestamp) (r (t .who) .timestamp) z)
+              at : (u : ℕ) → u < suc k → Has set u → Dec (u ≡ k) → NotAfter (order T) (r u .timestamp) (r (t .who) .timestamp)
+              at u l h (yes y) = rw y (notAfter-total (order T) ord (r k .timestamp) (r (t .who) .timestamp) z)
               at u l h (no d) = t .most u (omega arith) h
 
-  module _ (o : Outset T g) (M : Timestamp) (holder : ℕ) (hh : Has set holder) (held : r holder .timestamp ≡ M) (most : (u : ℕ) → Has set u → NotAfter wins (r u .timestamp) M) where
+  module _ (o : Outset T g) (M : Timestamp) (holder : ℕ) (hh : Has set holder) (held : r holder .timestamp ≡ M) (most : (u : ℕ) → Has set u → NotAfter (order T) (r u .timestamp) M) where
     low : M .tie ≤ 15
     low = subst (λ (t : Timestamp). t .tie ≤ 15) held (sound-passed (g .at holder .me) (r holder) (o .alive .live holder hh .sound .fifth i inside) .tie)
 
     -- whoever has reached M holds M
-    at-most : (u : ℕ) → Has set u → NotAfter wins M (r u .timestamp) → r u .timestamp ≡ M
-    at-most u h k = notAfter-antisym wins ord (most u h) k
+    at-most : (u : ℕ) → Has set u → NotAfter (order T) M (r u .timestamp) → r u .timestamp ≡ M
+    at-most u h k = notAfter-antisym (order T) ord (most u h) k
 
     -- v is not ahead of u
     abbrev notAhead : ℕ → ℕ → Bool
-    notAhead u v = not (has set v && later wins (r v .timestamp) (r u .timestamp))
+    notAhead u v = not (has set v && later (order T) (r v .timestamp) (r u .timestamp))
 
     -- who leads holds M
-    leads-yes : (u : ℕ) → leads wins set i g u ≡ true → Has set u × (r u .timestamp ≡ M)
+    leads-yes : (u : ℕ) → leads (order T) set i g u ≡ true → Has set u × (r u .timestamp ≡ M)
     unfolding leads
     leads-yes u h = let (p, q) = both (has set u) _ h in (
       p,
-      at-most u p (subst (λ (t : Timestamp). NotAfter wins t (r u .timestamp)) held (notAfter-total wins ord (r holder .timestamp) (r u .timestamp)
+      at-most u p (subst (λ (t : Timestamp). NotAfter (order T) t (r u .timestamp)) held (notAfter-total (order T) ord (r holder .timestamp) (r u .timestamp)
           (is-false _ (λ k. false≢true (sym (not-true _ (all-at 16 (notAhead u) q holder (has-small set holder hh))) ∙ and-both (has set holder) _ hh k))))),
     )
 
-    yes-leads : (u : ℕ) → Has set u → r u .timestamp ≡ M → leads wins set i g u ≡ true
+    yes-leads : (u : ℕ) → Has set u → r u .timestamp ≡ M → leads (order T) set i g u ≡ true
     unfolding leads
-    yes-leads u h e = and-both (has set u) _ h (all-of 16 (notAhead u) (λ v l. rw (is-false (has set v && later wins (r v .timestamp) (r u .timestamp))
-        (λ k. let (p, q) = both (has set v) _ k in not-later wins ord (r v .timestamp) (r u .timestamp) (rw e (most v p)) q))))
+    yes-leads u h e = and-both (has set u) _ h (all-of 16 (notAhead u) (λ v l. rw (is-false (has set v && later (order T) (r v .timestamp) (r u .timestamp))
+        (λ k. let (p, q) = both (has set v) _ k in not-later (order T) ord (r v .timestamp) (r u .timestamp) (rw e (most v p)) q))))
 
     -- these entries leave all showing M, and are at most 3k − 2
     pub record Achieves (entries : List Entry) : Type 0 where
@@ -217,18 +217,18 @@ module _ (T : Task) (inside : T .i < T .count) (ord : TieOrder (T .wins)) (g : G
     -- ---- a driver d
     module _ (d : ℕ) (hd : Has set d) (stamp : r d .timestamp ≡ M) where
       abbrev lateOf : ℕ → Bool
-      lateOf = late wins set i g d
+      lateOf = late (order T) set i g d
 
       lates : (u : ℕ) → lateOf u ≡ true → Has set u × (u ≢ d)
       lates u h = other-yes set d u (both (other set d u) _ h .0)
 
       shown : Shown T d M lateOf g
       shown = record {
-        no = λ u h e. is-false (isValid (r u)) (λ v. false≢true (sym (not-true _ (both (other set d u) _ h .1)) ∙ and-both (leads wins set i g u) (isValid (r u)) (yes-leads u (lates u h .0) e) v));
-        yes = λ u h n z. let (p, q) = both (leads wins set i g u) (isValid (r u)) (shows u h n z (leads wins set i g u && isValid (r u)) refl) in (is-state (r u .state) state.Valid q, leads-yes u p .1);
+        no = λ u h e. is-false (isValid (r u)) (λ v. false≢true (sym (not-true _ (both (other set d u) _ h .1)) ∙ and-both (leads (order T) set i g u) (isValid (r u)) (yes-leads u (lates u h .0) e) v));
+        yes = λ u h n z. let (p, q) = both (leads (order T) set i g u) (isValid (r u)) (shows u h n z (leads (order T) set i g u && isValid (r u)) refl) in (is-state (r u .state) state.Valid q, leads-yes u p .1);
       }
         where
-          shows : (u : ℕ) → Has set u → u ≢ d → lateOf u ≡ false → (b : Bool) → (leads wins set i g u && isValid (r u)) ≡ b → b ≡ true
+          shows : (u : ℕ) → Has set u → u ≢ d → lateOf u ≡ false → (b : Bool) → (leads (order T) set i g u && isValid (r u)) ≡ b → b ≡ true
           shows u h n z true q = refl
           shows u h n z false q = absurd (false≢true (sym z ∙ rw (yes-other set d u h n, q)))
 
@@ -243,16 +243,16 @@ module _ (T : Task) (inside : T .i < T .count) (ord : TieOrder (T .wins)) (g : G
       by-asking : (what : Action) (s : Step) → Helps i old (g .log) what → Did T g (by d what) s
           → s .after .timestamp ≡ M → s .after .written ≡ M → underWay (s .after) ≡ true → s .sent ≡ send (self T d) i (Inv M)
           → ((u : ℕ) → Has set u → Has (s .after .acks) u → r u .timestamp ≡ M) → othersIn d set (s .after .acks) ≡ false
-          → Achieves (by d what ∷ round wins set i g d (length (g .log)) (s .after .acks))
+          → Achieves (by d what ∷ round (order T) set i g d (length (g .log)) (s .after .acks))
       by-asking what s k D t t′ c q counted n = record {
         plays = next T (one T g (by d what) hd k (D .accepted) start) (λ f p. asks T inside ord d hd M low lateOf lates (length (g .log)) (s .after .acks) (s .after) f p refl c t t′ n);
-        few = omega (arith, others-size wins set i g d hd, round-length wins set i g d hd (length (g .log)) (s .after .acks));
+        few = omega (arith, others-size (order T) set i g d hd, round-length (order T) set i g d hd (length (g .log)) (s .after .acks));
       }
         where
           now : ℕ → Record
           now u = recordOf i (advance wins g (by d what) .at u)
 
-          below : (u : ℕ) → Has set u → Dec (u ≡ d) → NotAfter wins (now u .timestamp) M
+          below : (u : ℕ) → Has set u → Dec (u ≡ d) → NotAfter (order T) (now u .timestamp) M
           below u h (yes z) = rw (z, D .here) (equal t)
           below u h (no f) = rw (D .others u f) (most u h)
 
@@ -275,10 +275,10 @@ module _ (T : Task) (inside : T .i < T .count) (ord : TieOrder (T .wins)) (g : G
       -- after one entry of d, which leaves it valid at M, as all others hold M, and by which its VAL leaves
       by-telling : (what : Action) (s : Step) → Helps i old (g .log) what → Did T g (by d what) s
           → s .after .timestamp ≡ M → s .after .state ≡ state.Valid → s .sent ≡ send (self T d) i (Val M)
-          → ((u : ℕ) → Has set u → r u .timestamp ≡ M) → Achieves (by d what ∷ vals wins set i g d (length (g .log)))
+          → ((u : ℕ) → Has set u → r u .timestamp ≡ M) → Achieves (by d what ∷ vals (order T) set i g d (length (g .log)))
       by-telling what s k D t v q all = record {
         plays = next T (one T g (by d what) hd k (D .accepted) start) (tells T inside ord d hd M low lateOf lates (length (g .log)));
-        few = omega (arith, others-size wins set i g d hd, vals-length wins set i g d hd (length (g .log)));
+        few = omega (arith, others-size (order T) set i g d hd, vals-length (order T) set i g d hd (length (g .log)));
       }
         where
           now : ℕ → Record
@@ -303,17 +303,17 @@ module _ (T : Task) (inside : T .i < T .count) (ord : TieOrder (T .wins)) (g : G
           }
 
       -- a save or replay is under way: it validates at once if all others are counted, and else resends its INV
-      working : underWay (r d) ≡ true → Achieves (drive wins set i g d (r d .state))
-      working c = subst Achieves (sym (drive-under-way wins set i g d (r d .state) c)) (go (othersIn d set (r d .acks)) refl)
+      working : underWay (r d) ≡ true → Achieves (drive (order T) set i g d (r d .state))
+      working c = subst Achieves (sym (drive-under-way (order T) set i g d (r d .state) c)) (go (othersIn d set (r d .acks)) refl)
         where
           counted : (u : ℕ) → Has set u → Has (r d .acks) u → r u .timestamp ≡ M
-          counted u h k = at-most u h (subst (λ (t : Timestamp). NotAfter wins t (r u .timestamp)) (o .mine d hd c ∙ stamp) (o .acked d u hd h k))
+          counted u h k = at-most u h (subst (λ (t : Timestamp). NotAfter (order T) t (r u .timestamp)) (o .mine d hd c ∙ stamp) (o .acked d u hd h k))
 
           all : (u : ℕ) → Has set u → (u ≡ d) ⊎ Has (r d .acks) u → r u .timestamp ≡ M
           all u h (inl z) = rw z stamp
           all u h (inr z) = counted u h z
 
-          go : (b : Bool) → othersIn d set (r d .acks) ≡ b → Achieves (finish wins set i g d b)
+          go : (b : Bool) → othersIn d set (r d .acks) ≡ b → Achieves (finish (order T) set i g d b)
           go true q = by-telling (run.validate i) (stepBy T d (r d) Validate []) refl
               (did T inside g (o .alive) d hd (run.validate i) Validate [] refl (and-both (underWay (r d)) (othersIn d set (r d .acks)) c q, tt))
               stamp refl (ap (λ (t : Timestamp). send (self T d) i (Val t)) stamp) (λ u h. all u h (others-members d set (r d .acks) q u h))
@@ -322,83 +322,83 @@ module _ (T : Task) (inside : T .i < T .count) (ord : TieOrder (T .wins)) (g : G
               stamp (o .mine d hd c ∙ stamp) c (resent-inv (self T d) i (r d .state) (r d .timestamp) c ∙ ap (λ (t : Timestamp). send (self T d) i (Inv t)) stamp) counted q
 
       -- it is valid and its own last writer: it resends its VAL
-      writer : isValid (r d) ≡ true → r d .writer ≡ d → Achieves (drive wins set i g d (r d .state))
-      writer v w = subst (λ (s : State). Achieves (drive wins set i g d s)) (sym is) (by-telling (run.resend i) (stepBy T d (r d) Resend []) refl
+      writer : isValid (r d) ≡ true → r d .writer ≡ d → Achieves (drive (order T) set i g d (r d .state))
+      writer v w = subst (λ (s : State). Achieves (drive (order T) set i g d s)) (sym is) (by-telling (run.resend i) (stepBy T d (r d) Resend []) refl
           (did T inside g (o .alive) d hd (run.resend i) Resend [] refl (rw (is, eq-eqb (r d .writer) d w), tt))
-          stamp is (rw (is, stamp)) (λ u h. at-most u h (subst (λ (t : Timestamp). NotAfter wins t (r u .timestamp)) stamp (o .settled d u hd h v))))
+          stamp is (rw (is, stamp)) (λ u h. at-most u h (subst (λ (t : Timestamp). NotAfter (order T) t (r u .timestamp)) stamp (o .settled d u hd h v))))
         where
           is : r d .state ≡ state.Valid
           is = is-state (r d .state) state.Valid v
 
       -- it is invalid or invalid-write, and its last writer is not in the view: it replays
-      waiting : isInvalid (r d) ≡ true → has set (r d .writer) ≡ false → Achieves (drive wins set i g d (r d .state))
-      waiting v w = subst Achieves (sym (drive-invalid wins set i g d (r d .state) v)) (by-asking (run.replay i) (stepBy T d (r d) Replay []) refl
+      waiting : isInvalid (r d) ≡ true → has set (r d .writer) ≡ false → Achieves (drive (order T) set i g d (r d .state))
+      waiting v w = subst Achieves (sym (drive-invalid (order T) set i g d (r d .state) v)) (by-asking (run.replay i) (stepBy T d (r d) Replay []) refl
           (did T inside g (o .alive) d hd (run.replay i) Replay [] refl (rw (v, w), tt))
-          stamp stamp refl (ap (λ (t : Timestamp). send (self T d) i (Inv t)) stamp) (λ u h k. absurd (false≢true (sym (has-zero u) ∙ k))) (not-alone wins set i g d hd two))
+          stamp stamp refl (ap (λ (t : Timestamp). send (self T d) i (Inv t)) stamp) (λ u h k. absurd (false≢true (sym (has-zero u) ∙ k))) (not-alone (order T) set i g d hd two))
         where
           two : leb 2 (size set) ≡ true
           two = subst (λ (x : ℕ). leb 2 (size x) ≡ true) (o .alive .live d hd .view) (both (leb (g .at d .me .number) 15) (leb 2 (size (g .at d .me .view))) (o .alive .live d hd .sound .first) .1)
 
     -- whichever drives
-    pub by-driver : (d : ℕ) → (goesOn wins set i g d || (saysAgain wins set i g d || takesOver wins set i g d)) ≡ true → Achieves (drive wins set i g d (r d .state))
-    by-driver d h = go (either (goesOn wins set i g d) _ h)
+    pub by-driver : (d : ℕ) → (goesOn (order T) set i g d || (saysAgain (order T) set i g d || takesOver (order T) set i g d)) ≡ true → Achieves (drive (order T) set i g d (r d .state))
+    by-driver d h = go (either (goesOn (order T) set i g d) _ h)
       where
-        last : (saysAgain wins set i g d ≡ true) ⊎ (takesOver wins set i g d ≡ true) → Achieves (drive wins set i g d (r d .state))
-        last (inl z) = let (p, q) = both (leads wins set i g d) _ z in let (k, t) = leads-yes d p in let (v, w) = both (isValid (r d)) (eqb (r d .writer) d) q in writer d k t v (eqb-true _ _ w)
-        last (inr z) = let (p, q) = both (leads wins set i g d) _ z in let (k, t) = leads-yes d p in let (v, w) = both (isInvalid (r d)) (not (has set (r d .writer))) q in waiting d k t v (not-true _ w)
+        last : (saysAgain (order T) set i g d ≡ true) ⊎ (takesOver (order T) set i g d ≡ true) → Achieves (drive (order T) set i g d (r d .state))
+        last (inl z) = let (p, q) = both (leads (order T) set i g d) _ z in let (k, t) = leads-yes d p in let (v, w) = both (isValid (r d)) (eqb (r d .writer) d) q in writer d k t v (eqb-true _ _ w)
+        last (inr z) = let (p, q) = both (leads (order T) set i g d) _ z in let (k, t) = leads-yes d p in let (v, w) = both (isInvalid (r d)) (not (has set (r d .writer))) q in waiting d k t v (not-true _ w)
 
-        go : (goesOn wins set i g d ≡ true) ⊎ ((saysAgain wins set i g d || takesOver wins set i g d) ≡ true) → Achieves (drive wins set i g d (r d .state))
-        go (inl z) = let (p, q) = both (leads wins set i g d) (underWay (r d)) z in let (k, t) = leads-yes d p in working d k t q
-        go (inr z) = last (either (saysAgain wins set i g d) _ z)
+        go : (goesOn (order T) set i g d ≡ true) ⊎ ((saysAgain (order T) set i g d || takesOver (order T) set i g d) ≡ true) → Achieves (drive (order T) set i g d (r d .state))
+        go (inl z) = let (p, q) = both (leads (order T) set i g d) (underWay (r d)) z in let (k, t) = leads-yes d p in working d k t q
+        go (inr z) = last (either (saysAgain (order T) set i g d) _ z)
 
     -- ---- there is a driver, or all is done
     -- nobody who leads has a save or replay under way, or is valid and its own last writer: so the last writer of who leads is not in the view
-    gone : ((u : ℕ) → u < 16 → goesOn wins set i g u ≡ false) → ((u : ℕ) → u < 16 → saysAgain wins set i g u ≡ false) → (d : ℕ) → Has set d → r d .timestamp ≡ M → has set (r d .writer) ≡ false
+    gone : ((u : ℕ) → u < 16 → goesOn (order T) set i g u ≡ false) → ((u : ℕ) → u < 16 → saysAgain (order T) set i g u ≡ false) → (d : ℕ) → Has set d → r d .timestamp ≡ M → has set (r d .writer) ≡ false
     gone a b d hd t = is-false (has set (r d .writer)) (λ h. never h (o .writers d (r d .writer) hd h refl))
       where
         w : ℕ
         w = r d .writer
 
-        never : Has set w → Behind wins w (r w) (r d .timestamp) → ⊥
-        never h (inl z) = not-later wins ord (r w .timestamp) M (most w h) (subst (λ (x : Timestamp). later wins (r w .timestamp) x ≡ true) t z)
-        never h (inr (p, q, inl v)) = false≢true (sym (b w (has-small set w h)) ∙ and-both (leads wins set i g w) _ (yes-leads w h (p ∙ t)) (and-both (isValid (r w)) (eqb (r w .writer) w) v (eq-eqb (r w .writer) w q)))
-        never h (inr (p, q, inr v)) = false≢true (sym (a w (has-small set w h)) ∙ and-both (leads wins set i g w) (underWay (r w)) (yes-leads w h (p ∙ t)) v)
+        never : Has set w → Behind (order T) w (r w) (r d .timestamp) → ⊥
+        never h (inl z) = not-later (order T) ord (r w .timestamp) M (most w h) (subst (λ (x : Timestamp). later (order T) (r w .timestamp) x ≡ true) t z)
+        never h (inr (p, q, inl v)) = false≢true (sym (b w (has-small set w h)) ∙ and-both (leads (order T) set i g w) _ (yes-leads w h (p ∙ t)) (and-both (isValid (r w)) (eqb (r w .writer) w) v (eq-eqb (r w .writer) w q)))
+        never h (inr (p, q, inr v)) = false≢true (sym (a w (has-small set w h)) ∙ and-both (leads (order T) set i g w) (underWay (r w)) (yes-leads w h (p ∙ t)) v)
 
     -- who shows it valid at the outset holds M where all do
     all-hold : ((u : ℕ) → Has set u → r u .state ≡ state.Valid) → Achieves []
     all-hold v = record {
-      plays = none T g (λ u h. (v u h, at-most u h (subst (λ (t : Timestamp). NotAfter wins t (r u .timestamp)) held (o .settled holder u hh h (state-is _ state.Valid (v holder hh))))));
-      few = omega (arith, others-size wins set i g holder hh);
+      plays = none T g (λ u h. (v u h, at-most u h (subst (λ (t : Timestamp). NotAfter (order T) t (r u .timestamp)) held (o .settled holder u hh h (state-is _ state.Valid (v holder hh))))));
+      few = omega (arith, others-size (order T) set i g holder hh);
     }
 
-    pub by-recipe : Achieves (recipe wins set i g)
+    pub by-recipe : Achieves (recipe (order T) set i g)
     unfolding recipe allShow driver
-    by-recipe = go (allShow wins set i g) refl
+    by-recipe = go (allShow (order T) set i g) refl
       where
         -- nobody can drive: all who lead show the record valid, so all hold M
-        rest : ((u : ℕ) → u < 16 → goesOn wins set i g u ≡ false) → ((u : ℕ) → u < 16 → saysAgain wins set i g u ≡ false) → ((u : ℕ) → u < 16 → takesOver wins set i g u ≡ false)
+        rest : ((u : ℕ) → u < 16 → goesOn (order T) set i g u ≡ false) → ((u : ℕ) → u < 16 → saysAgain (order T) set i g u ≡ false) → ((u : ℕ) → u < 16 → takesOver (order T) set i g u ≡ false)
             → (u : ℕ) → Has set u → r u .state ≡ state.Valid
         rest a b c u h = shows u h (all u h)
           where
             shows : (v : ℕ) → Has set v → r v .timestamp ≡ M → r v .state ≡ state.Valid
-            shows v k t = valid-else (r v) (is-false (underWay (r v)) (λ z. false≢true (sym (a v (has-small set v k)) ∙ and-both (leads wins set i g v) (underWay (r v)) (yes-leads v k t) z)))
-                (is-false (isInvalid (r v)) (λ z. false≢true (sym (c v (has-small set v k)) ∙ and-both (leads wins set i g v) _ (yes-leads v k t) (rw (z, gone a b v k t)))))
+            shows v k t = valid-else (r v) (is-false (underWay (r v)) (λ z. false≢true (sym (a v (has-small set v k)) ∙ and-both (leads (order T) set i g v) (underWay (r v)) (yes-leads v k t) z)))
+                (is-false (isInvalid (r v)) (λ z. false≢true (sym (c v (has-small set v k)) ∙ and-both (leads (order T) set i g v) _ (yes-leads v k t) (rw (z, gone a b v k t)))))
 
             all : (v : ℕ) → Has set v → r v .timestamp ≡ M
-            all v k = at-most v k (subst (λ (t : Timestamp). NotAfter wins t (r v .timestamp)) held (o .settled holder v hh k (state-is _ state.Valid (shows holder hh held))))
+            all v k = at-most v k (subst (λ (t : Timestamp). NotAfter (order T) t (r v .timestamp)) held (o .settled holder v hh k (state-is _ state.Valid (shows holder hh held))))
 
-        third : ((u : ℕ) → u < 16 → goesOn wins set i g u ≡ false) → ((u : ℕ) → u < 16 → saysAgain wins set i g u ≡ false) → (c : Choice) → Picked 16 (takesOver wins set i g) c → Achieves (driven wins set i g c)
-        third a b c (some d h e) = rw e (by-driver d (rw (h, or-true (saysAgain wins set i g d), or-true (goesOn wins set i g d))))
+        third : ((u : ℕ) → u < 16 → goesOn (order T) set i g u ≡ false) → ((u : ℕ) → u < 16 → saysAgain (order T) set i g u ≡ false) → (c : Choice) → Picked 16 (takesOver (order T) set i g) c → Achieves (driven (order T) set i g c)
+        third a b c (some d h e) = rw e (by-driver d (rw (h, or-true (saysAgain (order T) set i g d), or-true (goesOn (order T) set i g d))))
         third a b c (none-of f e) = rw e (all-hold (rest a b f))
 
-        second : ((u : ℕ) → u < 16 → goesOn wins set i g u ≡ false) → (c : Choice) → Picked 16 (saysAgain wins set i g) c → Achieves (driven wins set i g (orElse c (first 16 (takesOver wins set i g))))
-        second a c (some d h e) = rw e (by-driver d (rw (h, or-true (goesOn wins set i g d))))
-        second a c (none-of f e) = rw e (third a f (first 16 (takesOver wins set i g)) (picked 16 (takesOver wins set i g)))
+        second : ((u : ℕ) → u < 16 → goesOn (order T) set i g u ≡ false) → (c : Choice) → Picked 16 (saysAgain (order T) set i g) c → Achieves (driven (order T) set i g (orElse c (first 16 (takesOver (order T) set i g))))
+        second a c (some d h e) = rw e (by-driver d (rw (h, or-true (goesOn (order T) set i g d))))
+        second a c (none-of f e) = rw e (third a f (first 16 (takesOver (order T) set i g)) (picked 16 (takesOver (order T) set i g)))
 
-        start : (c : Choice) → Picked 16 (goesOn wins set i g) c → Achieves (driven wins set i g (orElse c (orElse (first 16 (saysAgain wins set i g)) (first 16 (takesOver wins set i g)))))
+        start : (c : Choice) → Picked 16 (goesOn (order T) set i g) c → Achieves (driven (order T) set i g (orElse c (orElse (first 16 (saysAgain (order T) set i g)) (first 16 (takesOver (order T) set i g)))))
         start c (some d h e) = rw e (by-driver d (rw h))
-        start c (none-of f e) = rw e (second f (first 16 (saysAgain wins set i g)) (picked 16 (saysAgain wins set i g)))
+        start c (none-of f e) = rw e (second f (first 16 (saysAgain (order T) set i g)) (picked 16 (saysAgain (order T) set i g)))
 
-        go : (b : Bool) → allShow wins set i g ≡ b → Achieves (cond b [] (driven wins set i g (driver wins set i g)))
+        go : (b : Bool) → allShow (order T) set i g ≡ b → Achieves (cond b [] (driven (order T) set i g (driver (order T) set i g)))
         go true q = all-hold (λ u h. is-state (r u .state) state.Valid (implied (has set u) (isValid (r u)) (all-at 16 (λ (x : ℕ). not (has set x) || isValid (r x)) q u (has-small set u h)) h))
-        go false q = start (first 16 (goesOn wins set i g)) (picked 16 (goesOn wins set i g))
+        go false q = start (first 16 (goesOn (order T) set i g)) (picked 16 (goesOn (order T) set i g))

@@ -8,6 +8,7 @@ use lib.ListN.{length, set, replicate, drop}
 use lib.Seq.{drop-length}
 use Rattle.hermes_record.specs.declared.record.Record.{Record}
 use Rattle.hermes.specs.declared.event.Replica.{Replica}
+use Rattle.hermes.specs.declared.event.Settings.{Settings}
 use Rattle.hermes.specs.declared.event.Admission.the-variants.{Refused}
 use Rattle.hermes.specs.Node.{newcomer, admissionOf, startRefusal, admit, begin, start}
 
@@ -28,21 +29,21 @@ begins-admission : (k : ℕ) (me : Replica) (table : List Record) (store : List 
 begins-admission zero me table store = refl
 begins-admission (suc k) me table store = refl
 
-module _ (number view : ℕ) (table : List Record) (store : List ℕ) where
+module _ (number view : ℕ) (settings : Settings) (table : List Record) (store : List ℕ) where
   abbrev no : ℕ
-  no = startRefusal number view (length table) (length store)
+  no = startRefusal number view settings (length table) (length store)
 
-  pub start-admission : admit number view (length table) (length store) ≡ start number view table store .admission
+  pub start-admission : admit number view settings (length table) (length store) ≡ start number view settings table store .admission
   unfolding start
-  start-admission = begins-admission no (newcomer number view) table store
+  start-admission = begins-admission no (newcomer number view settings) table store
 
   -- a refused start leaves the memory as found
-  pub start-refused : (k : ℕ) → start number view table store .admission ≡ Refused k
-      → (start number view table store .table ≡ table) × (start number view table store .store ≡ store)
+  pub start-refused : (k : ℕ) → start number view settings table store .admission ≡ Refused k
+      → (start number view settings table store .table ≡ table) × (start number view settings table store .store ≡ store)
   unfolding start
   start-refused k a = go no a
     where
-      go : (z : ℕ) → begin z (newcomer number view) table store .admission ≡ Refused k
-          → (begin z (newcomer number view) table store .table ≡ table) × (begin z (newcomer number view) table store .store ≡ store)
+      go : (z : ℕ) → begin z (newcomer number view settings) table store .admission ≡ Refused k
+          → (begin z (newcomer number view settings) table store .table ≡ table) × (begin z (newcomer number view settings) table store .store ≡ store)
       go zero e = let q : _≡_ {A = ℕ} 0 1 = cc in absurd (omega arith)
       go (suc z) e = (refl, refl)

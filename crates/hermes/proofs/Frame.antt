@@ -6,8 +6,10 @@ use mathlib.Core.List.{List}
 use native.Mathlib.Omega.{arith}
 use Rattle.hermes.specs.declared.event.Event.{Event}
 use Rattle.hermes.specs.declared.event.Replica.{Replica}
+use Rattle.hermes.specs.declared.event.Settings.{Settings}
 use Rattle.hermes_record.specs.declared.record.Record.{Record}
 use Rattle.hermes.specs.declared.message.Outgoing.the-variants.{None}
+use Rattle.hermes_record.specs.Order.{Orders}
 use Rattle.hermes.specs.Guards.{firstNo}
 use Rattle.hermes.specs.Event.{numberOf, answerOf}
 use Rattle.hermes.specs.Node.{Node, Outcome, apply, view, viewed, viewQuestions, admissionOf, admissionNumber, identity}
@@ -16,7 +18,7 @@ use Rattle.hermes.proofs.Start.{Begun, begun}
 use Rattle.hermes.proofs.Filling.{start-refused}
 use Rattle.hermes.proofs.Apply.{stepOf, Applied, refused, accepted, applied}
 
-pub event-frame : (wins : ℕ → ℕ → Bool) (n : Node) (i : ℕ) (e : Event) (v : List ℕ) → EventFrame wins n i e v
+pub event-frame : (wins : Orders) (n : Node) (i : ℕ) (e : Event) (v : List ℕ) → EventFrame wins n i e v
 event-frame wins n i e v = record { accepted = yes-case (apply wins n i e v) (applied wins n i e v); refused = no-case (apply wins n i e v) (applied wins n i e v) }
   where
     yes-case : (o : Outcome) → Applied wins n i e v o → numberOf (o .answer) ≡ 0 → Changed i (stepOf wins n i e v) n (o .node)
@@ -34,7 +36,7 @@ unfolding viewed view
 view-frame n epoch next = record { accepted = yes-case (firstNo (viewQuestions (n .me) epoch next)); refused = no-case (firstNo (viewQuestions (n .me) epoch next)) }
   where
     to : Replica
-    to = record { number = n .me .number; epoch = epoch; view = next }
+    to = record { number = n .me .number; epoch = epoch; view = next; settings = n .me .settings }
 
     at : Replica → Node
     at me = record { me = me; table = n .table; store = n .store }
@@ -49,8 +51,8 @@ view-frame n epoch next = record { accepted = yes-case (firstNo (viewQuestions (
 
 -- ---- a fresh start
 
-pub start-frame : (k view : ℕ) (table : List Record) (store : List ℕ) → StartFrame k view table store
-start-frame k view table store = record {
-  accepted = λ me a. let b : Begun k view table store me = begun k view table store me a in (b .identity, b .tableAfter, b .storeAfter);
-  refused = start-refused k view table store;
+pub start-frame : (k view : ℕ) (settings : Settings) (table : List Record) (store : List ℕ) → StartFrame k view settings table store
+start-frame k view settings table store = record {
+  accepted = λ me a. let b : Begun k view settings table store me = begun k view settings table store me a in (b .identity, b .tableAfter, b .storeAfter);
+  refused = start-refused k view settings table store;
 }

@@ -15,9 +15,11 @@ use Rattle.hermes_record.specs.declared.record.State.the-variants as state
 use Rattle.hermes.specs.declared.message.Message.the-variants.{Val}
 use Rattle.hermes.specs.declared.message.Outgoing.the-variants.{None}
 use Rattle.hermes.specs.declared.event.Replica.{Replica}
+use Rattle.hermes.specs.declared.event.Settings.{Settings}
 use Rattle.hermes.specs.declared.event.Event.the-variants.{Deliver}
 use Rattle.hermes_record.specs.Members.{has, size, with}
-use Rattle.hermes_record.specs.Order.{later}
+use Rattle.hermes_record.specs.Order.{Orders, later}
+use Rattle.hermes.specs.Settings.{under}
 use Rattle.hermes_record.specs.Record.{oneOf, invalidatedState, writtenBy, replayed, invalidated, acknowledged, validated}
 use Rattle.hermes.specs.Guards.{question1}
 use Rattle.hermes.specs.Event.{Step, ackStep, completes, send, numberOf}
@@ -133,16 +135,16 @@ keeps wins me r b y (counts sender c e) before =
 keeps wins me r b y (settles sender e) before = rw e (idle me (validated (acknowledged r sender)) refl)
 keeps wins me r b y (validates e) before = rw e (idle me (validated r) refl)
 
-later-none : (wins : ℕ → ℕ → Bool) (i k : ℕ) (g : Group) → (AllReplied i (g .at k) → ⊥) → (entries : List Entry) → NoView k entries → AllReplied i (after wins g entries k) → ⊥
+later-none : (wins : Orders) (i k : ℕ) (g : Group) → (AllReplied i (g .at k) → ⊥) → (entries : List Entry) → NoView k entries → AllReplied i (after wins g entries k) → ⊥
 later-none wins i k g before entries f =
-    along wins i (λ me r. Replied me r → ⊥) (keeps wins)
+    along wins i (λ me r. Replied me r → ⊥) (λ me. keeps (under wins (me .settings)) me)
     (λ a. IsView a → ⊥) (λ n epoch set no-view none. absurd (no-view tt))
     k (NoView k) (λ a rest fs. fs) g before entries f
 
 -- a fresh record is valid
-fresh-none : (member : ℕ → Bool) (count : ℕ) (issued : ℕ → ℕ) (g : Group) → Started member count issued g → (i k : ℕ) → i < count → member k ≡ true → AllReplied i (g .at k) → ⊥
-fresh-none member count issued g s i k l m h =
-    idle (g .at k .me) (recordOf i (g .at k)) (ap (λ (r : Record). oneOf (r .state) (state.Write ∷ state.Replay ∷ [])) (fresh-record member count issued g s i k l m)) h
+fresh-none : (member : ℕ → Bool) (count : ℕ) (issued : ℕ → ℕ) (settings : Settings) (g : Group) → Started member count issued settings g → (i k : ℕ) → i < count → member k ≡ true → AllReplied i (g .at k) → ⊥
+fresh-none member count issued settings g s i k l m h =
+    idle (g .at k .me) (recordOf i (g .at k)) (ap (λ (r : Record). oneOf (r .state) (state.Write ∷ state.Replay ∷ [])) (fresh-record member count issued settings g s i k l m)) h
 
 pub nobody-waits : NobodyWaits
 nobody-waits = record { fresh = fresh-none; later = λ wins g i k before entries f. later-none wins i k g before entries f }

@@ -30,6 +30,7 @@ pub mod SecondPremises
 pub mod Premises
 pub mod SettlingPremises
 pub mod AskingPremises
+pub mod TiePremises
 pub mod Frame
 pub mod Locality
 pub mod Recipients

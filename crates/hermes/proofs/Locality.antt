@@ -12,7 +12,7 @@ use Rattle.hermes.specs.declared.message.Outgoing.the-variants.{None, Se
 use Rattle.hermes.specs.declared.event.Event.{Event}
 use Rattle.hermes.specs.declared.event.Event.the-variants.{Read, Ask}
 use Rattle.hermes.specs.declared.event.Answer.the-variants.{Accepted, Refused}
-use Rattle.hermes_record.specs.Order.{higher}
+use Rattle.hermes_record.specs.Order.{Orders, ties}
 use Rattle.hermes.specs.Store.{slot, valueAt}
 use Rattle.hermes.specs.Event.{Step, refusal, step, partOf, readPart, Handed, stampHanded, askStamp, askHands, bodyOf}
 use Rattle.hermes.specs.Node.{Node, Outcome, recordOf, valueOf, leaving, apply}
@@ -34,7 +34,7 @@ pub leaving-slot : (i : ℕ) (o : Outgoing) → About i o → (n : Node) → rec
 leaving-slot i None a n h = refl
 leaving-slot i (Sent m d) a n h = ap (bodyOf m) (ap (λ (j : ℕ). valueOf j n) a ∙ value-slot i (recordOf i n .len) (n .store) h)
 
-module _ (wins : ℕ → ℕ → Bool) (i : ℕ) (n m : Node) (q : EqualAt i n m) (e : Event) (v : List ℕ) where
+module _ (wins : Orders) (i : ℕ) (n m : Node) (q : EqualAt i n m) (e : Event) (v : List ℕ) where
   same-refusal : refusalOf n i e v ≡ refusalOf m i e v
   same-refusal = λ t. refusal (q .identity t) (q .count t) (q .room t) i (q .here t) e (length v)
 
@@ -51,7 +51,7 @@ module _ (wins : ℕ → ℕ → Bool) (i : ℕ) (n m : Node) (q : EqualAt i n m
     bytes = c .bytes ∙ (λ t. bytesAfter (same-step t .stored) (q .bytes t)) ∙ sym (d .bytes);
   }
 
-pub locality : (wins : ℕ → ℕ → Bool) → Locality wins
+pub locality : (wins : Orders) → Locality wins
 locality wins i n m q e v = go (apply wins n i e v) (applied wins n i e v) (apply wins m i e v) (applied wins m i e v)
   where
     go : (o : Outcome) → Applied wins n i e v o → (p : Outcome) → Applied wins m i e v p → AnswersAlike i o p
@@ -110,4 +110,4 @@ ask-locality i n m q = go (refusalOf n i Ask []) refl
 
 -- demand 1
 pub confinement : Demand1
-confinement = record { event = event-frame higher; view = view-frame; start = start-frame; locality = locality higher; readLocality = read-locality; askLocality = ask-locality }
+confinement = record { event = event-frame ties; view = view-frame; start = start-frame; locality = locality ties; readLocality = read-locality; askLocality = ask-locality }

@@ -32,15 +32,15 @@ use Rattle.hermes_record.proofs.Order.{equal-same, same-equal, later-apart}
 use Rattle.hermes.proofs.Members.{Has, has-with, with-members}
 use Rattle.hermes.proofs.Words.{count-same, count-near}
 use Rattle.hermes.proofs.Guards.{KindOwn, DeliverOwn, deliver-own, ValidateOwn, validate-own, ReplayOwn, replay-own, ResendOwn, resend-own}
-use Rattle.hermes.proofs.Progress.{Task, self, stepBy, Did, did}
+use Rattle.hermes.proofs.Progress.{Task, order, self, stepBy, Did, did}
 use Rattle.hermes.proofs.Drive.{other-yes, yes-other}
 use Rattle.hermes.proofs.Missing.{asked, Falls, keeps, sent-once, total, Saving, waits, done, Hears, unheard, heard, Fine, Leaves, Stage, unaware, unshown, uncounted, missing, Nearer}
 
-module _ (T : Task) (inside : T .i < T .count) (ord : TieOrder (T .wins)) (d : ℕ) (hd : Has (T .set) d) (M t0 : Timestamp) (newer : later (T .wins) M t0 ≡ true) where
+module _ (T : Task) (inside : T .i < T .count) (ord : TieOrder (order T)) (d : ℕ) (hd : Has (T .set) d) (M t0 : Timestamp) (newer : later (order T) M t0 ≡ true) where
   open Task T using (wins, set, i, old)
 
   pub apart : t0 ≢ M
-  apart = later-apart wins ord M t0 newer
+  apart = later-apart (order T) ord M t0 newer
 
   pub different : sameTimestamp t0 M ≡ false
   different = is-false _ (λ h. apart (same-equal t0 M h))
@@ -357,9 +357,9 @@ module _ (T : Task) (inside : T .i < T .count) (ord : TieOrder (T .wins)) (d : �
           f = advance wins g (by w (run.deliver k))
 
           -- an INV: it is taken, or was before
-          inv : (t : Timestamp) → t ≡ M → sender ≡ d → sent ≡ true → (b : Bool) → later wins t (r w .timestamp) ≡ b
+          inv : (t : Timestamp) → t ≡ M → sender ≡ d → sent ≡ true → (b : Bool) → later (order T) t (r w .timestamp) ≡ b
               → Did T g (by w (run.deliver k)) (invStep b (self T w) i (r w) t sender (x .body)) → Hears T d M t0 sent (r w) → Next (by w (run.deliver k))
-          inv t a v z true q D (heard y o b n) = absurd (later-apart wins ord t (r w .timestamp) q (o ∙ sym a))
+          inv t a v z true q D (heard y o b n) = absurd (later-apart (order T) ord t (r w .timestamp) q (o ∙ sym a))
           inv t a v z true q D (unheard o b) = record {
             sent′ = sent;
             stage = by-other (run.deliver k) _ D (heard z a v (inl (rw b))) (λ y. a) (rw (D .here) a);
@@ -378,7 +378,7 @@ module _ (T : Task) (inside : T .i < T .count) (ord : TieOrder (T .wins)) (d : �
           }
 
           go : (m : Message) → Did T g (by w (run.deliver k)) (deliverStep wins (self T w) i (r w) sender m (x .body)) → KindOwn m sender (r w) → Fine T d M t0 sent g sender m → Next (by w (run.deliver k))
-          go (Inv t) D q (a, b, z) = inv t a b z (later wins t (r w .timestamp)) refl D (p .hears w ow)
+          go (Inv t) D q (a, b, z) = inv t a b z (later (order T) t (r w .timestamp)) refl D (p .hears w ow)
           go (Ack t) D (q, a, b) v = absurd (none-counts (p .hears w ow) q)
             where
               none-counts : Hears T d M t0 sent (r w) → oneOf (r w .state) (state.Write ∷ state.InvalidWrite ∷ state.Replay ∷ []) ≡ true → ⊥

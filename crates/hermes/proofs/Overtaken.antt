@@ -15,10 +15,12 @@ use Rattle.hermes.specs.declared.message.Message.{Message}
 use Rattle.hermes.specs.declared.message.Message.the-variants.{Inv, Ack}
 use Rattle.hermes.specs.declared.message.Received.{Received}
 use Rattle.hermes.specs.declared.event.Replica.{Replica}
+use Rattle.hermes.specs.declared.event.Settings.{Settings}
 use Rattle.hermes.specs.declared.event.Event.{Event}
 use Rattle.hermes.specs.declared.event.Event.the-variants.{Replay, Deliver, Validate, Resend}
 use Rattle.hermes_record.specs.Members.{has, othersIn}
 use Rattle.hermes_record.specs.Order.{TieOrder, later}
+use Rattle.hermes.specs.Settings.{under}
 use Rattle.hermes_record.specs.Record.{oneOf, invalidatedState, nextTimestamp}
 use Rattle.hermes.specs.Guards.{AllYes}
 use Rattle.hermes.specs.Event.{resent, send, numberOf}
@@ -109,7 +111,7 @@ module _ (wins : ℕ → ℕ → Bool) (ord : TieOrder wins) where
 
 pub given-up : GivenUp
 unfolding result
-given-up wins ord member count issued g s before i k l m x rest = record { overtaken = past .held; uncounted = refuses }
+given-up wins ords member count issued settings g s before i k l m x rest = record { overtaken = past .held; uncounted = refuses }
   where
     n : Node
     n = after wins g before k
@@ -117,24 +119,31 @@ given-up wins ord member count issued g s before i k l m x rest = record { overt
     t : Timestamp
     t = recordOf i n .written
 
-    ahead : Ahead wins (recordOf i n .state) (recordOf i n .timestamp) t
-    ahead = always wins i (λ number r. Ahead wins (r .state) (r .timestamp) (r .written)) (ahead-keeps wins ord) k g (rw (fresh-record member count issued g s i k l m) tt) before
+    -- by the laptop's own rule, before and after the rest
+    order : Settings → ℕ → ℕ → Bool
+    order x = under wins x
 
-    behind : later wins (recordOf i n .timestamp) t ≡ true
-    behind = subst (λ (z : State). Ahead wins z (recordOf i n .timestamp) t) (x .invalidWrite) ahead
+    ord : (x : Settings) → TieOrder (order x)
+    ord x = ords (x .rule)
 
-    done-risen : (o : Outcome) → Applied wins n i Replay [] o → numberOf (o .answer) ≡ 0 → Risen wins t (recordOf i (o .node))
+    ahead : Ahead (order (n .me .settings)) (recordOf i n .state) (recordOf i n .timestamp) t
+    ahead = always wins i (λ number x r. Ahead (order x) (r .state) (r .timestamp) (r .written)) (λ me. ahead-keeps (order (me .settings)) (ord (me .settings)) me) k g (rw (fresh-record member count issued settings g s i k l m) tt) before
+
+    behind : later (order (n .me .settings)) (recordOf i n .timestamp) t ≡ true
+    behind = subst (λ (z : State). Ahead (order (n .me .settings)) z (recordOf i n .timestamp) t) (x .invalidWrite) ahead
+
+    done-risen : (o : Outcome) → Applied wins n i Replay [] o → numberOf (o .answer) ≡ 0 → Risen (order (o .node .me .settings)) t (recordOf i (o .node))
     done-risen o (refused z y q) e = absurd (omega (arith, ap (λ (w : Outcome). numberOf (w .answer)) q))
     done-risen o (accepted y c q) e = rw (q, c .here) (record { held = behind; own = behind })
 
     now : Group
     now = advance wins (run.run wins g before) (replayOf k i)
 
-    begun : Risen wins t (recordOf i (now .at k))
+    begun : Risen (order (now .at k .me .settings)) t (recordOf i (now .at k))
     begun = rw (at-who wins (run.run wins g before) (replayOf k i)) (done-risen (apply wins n i Replay []) (applied wins n i Replay []) (x .accepted))
 
-    past : Risen wins t (recordOf i (after wins now rest k))
-    past = always wins i (λ number r. Risen wins t r) (risen-keeps wins ord t) k now begun rest
+    past : Risen (order (after wins now rest k .me .settings)) t (recordOf i (after wins now rest k))
+    past = always wins i (λ number x r. Risen (order x) t r) (λ me. risen-keeps (order (me .settings)) (ord (me .settings)) t me) k now begun rest
 
     refuses : (msg : Received) (v : List ℕ) → msg .message ≡ Ack t → numberOf (apply wins (after wins now rest k) i (Deliver msg) v .answer) ≡ 0 → ⊥
     refuses msg v is = go (apply wins (after wins now rest k) i (Deliver msg) v) (applied wins (after wins now rest k) i (Deliver msg) v)
@@ -144,24 +153,24 @@ given-up wins ord member count issued g s before i k l m x rest = record { overt
         go o (accepted y c q) e =
             let kind = deliver-own (after wins now rest k .me) (recordOf i (after wins now rest k)) msg (length v) (its-own (after wins now rest k) i (Deliver msg) v y) .kind in
             let own : t ≡ recordOf i (after wins now rest k) .written = subst (λ (z : Message). KindOwn z (msg .sender) (recordOf i (after wins now rest k))) is kind .1 in
-            later-apart wins ord (recordOf i (after wins now rest k) .written) t (past .own) own
+            later-apart (order (after wins now rest k .me .settings)) (ord (after wins now rest k .me .settings)) (recordOf i (after wins now rest k) .written) t (past .own) own
 
 -- ---- nobody hangs
 
 pub nobody-hangs : NobodyHangs
-nobody-hangs wins member count issued g s entries c i k l m v = go (recordOf i n .state) refl
+nobody-hangs wins member count issued settings g s entries c i k l m v = go (recordOf i n .state) refl
   where
     n : Node
     n = after wins g entries k
 
-    ok : Sound count k n
-    ok = stay-sound wins member count issued g s entries c k m
+    ok : Sound count settings k n
+    ok = stay-sound wins member count issued settings g s entries c k m
 
     five : (e : Event) → AllYes (ownOf n i e []) → AllYes (questionsOf n i e [])
-    five e y = five-say-yes count k n ok i l v e [] y
+    five e y = five-say-yes count settings k n ok i l v e [] y
 
     foreign : Foreign (recordOf i n .state) (recordOf i n .writer) (n .me .number)
-    foreign = always wins i (λ number r. Foreign (r .state) (r .writer) number) (foreign-keeps wins) k g (rw (fresh-record member count issued g s i k l m) tt) entries
+    foreign = always wins i (λ number x r. Foreign (r .state) (r .writer) number) (λ me. foreign-keeps (under wins (me .settings)) me) k g (rw (fresh-record member count issued settings g s i k l m) tt) entries
 
     invalidated : oneOf (recordOf i n .state) (state.Invalid ∷ state.InvalidWrite ∷ []) ≡ true → recordOf i n .writer ≢ n .me .number
         → (b : Bool) → has (n .me .view) (recordOf i n .writer) ≡ b → Turn wins n i
@@ -176,7 +185,7 @@ nobody-hangs wins member count issued g s entries c i k l m v = go (recordOf i n
         resends (λ h. false≢true (sym a ∙ every-other (n .me .number) (n .me .view) (recordOf i n .acks) (h .1))) p (q ∙ f)
 
     go : (x : State) → recordOf i n .state ≡ x → Turn wins n i
-    go state.Valid e = shown (reads-tell wins member count issued g s entries c i k l m v .0 e)
+    go state.Valid e = shown (reads-tell wins member count issued settings g s entries c i k l m v .0 e)
     go state.Invalid e = invalidated (rw e) (subst (λ (z : State). Foreign z (recordOf i n .writer) (n .me .number)) e foreign) (has (n .me .view) (recordOf i n .writer)) refl
     go state.InvalidWrite e = invalidated (rw e) (subst (λ (z : State). Foreign z (recordOf i n .writer) (n .me .number)) e foreign) (has (n .me .view) (recordOf i n .writer)) refl
     go state.Write e = working (rw e) (rw e) (othersIn (n .me .number) (n .me .view) (recordOf i n .acks)) refl

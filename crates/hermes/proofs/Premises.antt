@@ -10,41 +10,47 @@ use lib.ListN.{replicate, take, drop}
 use borrow.Author.Tests.{ltb-true}
 use Rattle.hermes.specs.declared.event.Admission.the-variants.{Admitted}
 use Rattle.hermes_record.specs.Members.{has, size, lowest, within, othersIn, with}
-use Rattle.hermes_record.specs.Order.{higher, later, sameTimestamp}
+use Rattle.hermes.specs.declared.event.Settings.{Settings}
+use Rattle.hermes_record.specs.Order.{ties, later, sameTimestamp}
+use Rattle.hermes.specs.Settings.{under, oldSettings}
 use Rattle.hermes.specs.Store.{padded, place}
 use Rattle.hermes.specs.Event.{refusal, effect}
 use Rattle.hermes.specs.Node.{newcomer, start, apply, view, viewed}
 use Rattle.hermes.specs.Run as run
 use Rattle.hermes.specs.Run.{Action, result, advance}
 use Rattle.hermes.specs.Agreement.{Started, Entries, Agreement, validates, acknowledges}
-use Rattle.hermes.specs.Played.{three, issued, lentTable, group, played, answers, struckOff, story}
+use Rattle.hermes.specs.Played.{three, issued, lentTable, groupWith, group, played, answers, struckOff, story}
 use Rattle.hermes.specs.Witness.{kind, BothWays, leftOut, Witness}
 use Rattle.hermes.specs.Overtaken.{Turn, shown, finishes, resends, takesOver, awaits}
-use Rattle.hermes_record.proofs.Order.{higher-order}
+use Rattle.hermes_record.proofs.Order.{ties-order}
 use Rattle.hermes.proofs.Members.{others-every}
 use Rattle.hermes.proofs.Agreement.{agreement}
 use Rattle.hermes.proofs.Overtaken.{given-up, nobody-hangs}
 
-admitted : (k : ℕ) → three k ≡ true → start k 7 lentTable (replicate 192 0) .admission ≡ Admitted (newcomer k 7)
+admitted : (settings : Settings) (k : ℕ) → three k ≡ true → start k 7 settings lentTable (replicate 192 0) .admission ≡ Admitted (newcomer k 7 settings)
 unfolding start has size
-admitted zero e = refl
-admitted (suc zero) e = refl
-admitted (suc (suc zero)) e = refl
-admitted (suc (suc (suc k))) e = absurd (omega (arith, ltb-true (suc (suc (suc k))) 3 e))
+admitted settings zero e = refl
+admitted settings (suc zero) e = refl
+admitted settings (suc (suc zero)) e = refl
+admitted settings (suc (suc (suc k))) e = absurd (omega (arith, ltb-true (suc (suc (suc k))) 3 e))
 
-pub started : Started three 1 issued group
-started = record {
-  fresh = λ k e. record { table = lentTable; store = replicate 192 0; records = refl; accepted = admitted k e; tableAfter = refl; storeAfter = refl };
+-- under each rule
+pub started-with : (settings : Settings) → Started three 1 issued settings (groupWith settings)
+started-with settings = record {
+  fresh = λ k e. record { table = lentTable; store = replicate 192 0; records = refl; accepted = admitted settings k e; tableAfter = refl; storeAfter = refl };
   silent = refl;
 }
+
+abbrev pub started : Started three 1 issued oldSettings group
+started = started-with oldSettings
 
 -- the sixth line, validate, is refused by 15: the last ACK before it has validated (02, Wish 1)
 pub played-answers : answers group played ≡ 0 ∷ 0 ∷ 0 ∷ 0 ∷ 0 ∷ 15 ∷ 0 ∷ 0 ∷ 6 ∷ []
 unfolding result advance apply effect refusal start has size lowest within othersIn with padded place later sameTimestamp
 played-answers = refl
 
-pub played-agree : Agreement higher three 1 group played
-played-agree = agreement three 1 issued group started played
+pub played-agree : Agreement ties three 1 oldSettings group played
+played-agree = agreement three 1 issued oldSettings group started played
     ((refl, tt, (refl, tt, (refl, tt, (refl, tt, (refl, tt, (refl, tt, (refl, tt, (refl, tt, (refl, tt, tt))))))))))
 
 -- ---- every kind of entry
@@ -75,7 +81,7 @@ every-kind (run.resend i) = (refl, refl)
 every-kind (run.view epoch set) = (refl, refl)
 
 -- 2 is not in its own view, and is itself the last writer
-no-turn : Turn higher leftOut 0 → ⊥
+no-turn : Turn ties leftOut 0 → ⊥
 unfolding result advance apply effect refusal start has size lowest within othersIn with padded place later sameTimestamp view viewed
 no-turn (shown e) = omega (arith, e)
 no-turn (finishes e m) = omega (arith, e)
@@ -92,7 +98,7 @@ unfolding result advance apply effect refusal start has size lowest within other
 witness = record {
   started = started;
   entries = story-entries;
-  agreed = agreement three 1 issued group started story story-entries;
+  agreed = agreement three 1 issued oldSettings group started story story-entries;
   numbers = refl;
   kinds = every-kind;
   left = omega arith;
@@ -114,9 +120,9 @@ witness = record {
     split = refl;
     given = record { invalidWrite = refl; accepted = refl };
     save = refl;
-    past = given-up higher higher-order three 1 issued group started (take 24 story) 0 0 (omega arith) refl (record { invalidWrite = refl; accepted = refl }) (drop 25 story);
+    past = given-up ties ties-order three 1 issued oldSettings group started (take 24 story) 0 0 (omega arith) refl (record { invalidWrite = refl; accepted = refl }) (drop 25 story);
   };
-  turns = λ k m v. nobody-hangs higher three 1 issued group started story story-entries 0 k (omega arith) m v;
+  turns = λ k m v. nobody-hangs ties three 1 issued oldSettings group started story story-entries 0 k (omega arith) m v;
   stuck = no-turn;
   first = record { timestamp = refl; text = refl };
   second = record { timestamp = refl; text = refl };

@@ -18,10 +18,13 @@ use Rattle.hermes.specs.declared.message.Outgoing.{Outgoing}
 use Rattle.hermes.specs.declared.message.Outgoing.the-variants.{None, Sent}
 use Rattle.hermes.specs.declared.message.Received.{Received}
 use Rattle.hermes.specs.declared.event.Replica.{Replica}
+use Rattle.hermes.specs.declared.event.Settings.{Settings}
 use Rattle.hermes.specs.declared.event.Event.{Event}
 use Rattle.hermes.specs.declared.event.Event.the-variants.{Deliver}
 use Rattle.hermes.specs.declared.event.Answer.the-variants.{Accepted}
 use Rattle.hermes_record.specs.Members.{countBelow}
+use Rattle.hermes_record.specs.Order.{Orders}
+use Rattle.hermes.specs.Settings.{under}
 use Rattle.hermes.specs.Store.{valueAt}
 use Rattle.hermes.specs.Guards.{AllYes, shapely}
 use Rattle.hermes.specs.Event.{Step, own, step, bodyOf}
@@ -59,16 +62,21 @@ shaped (Val t) v a b = rw (le-leb (t .tie) 15 a)
 
 -- record i, of the replicas of the view `set` at epoch e, by messages that leave after the first `old` ones; `count` records each
 pub record Task : Type 0 where
-  pub wins : ℕ → ℕ → Bool
+  pub wins : Orders
+  pub settings : Settings
   pub count : ℕ
   pub e : ℕ
   pub set : ℕ
   pub i : ℕ
   pub old : ℕ
 
+-- its order of ties
+abbrev pub order : Task → ℕ → ℕ → Bool
+order T = under (T .wins) (T .settings)
+
 -- replica m of the view
 abbrev pub self : Task → ℕ → Replica
-self T m = record { number = m; epoch = T .e; view = T .set }
+self T m = record { number = m; epoch = T .e; view = T .set; settings = T .settings }
 
 -- the step of an event of replica m on its record r
 abbrev pub stepBy : Task → ℕ → Record → Event → List ℕ → Step
@@ -80,7 +88,7 @@ incoming T sender m = record { sender = sender; epoch = T .e; message = m }
 
 -- n is replica m of the view, sound
 pub record Live (T : Task) (m : ℕ) (n : Node) : Type 0 where
-  pub sound : Sound (T .count) m n
+  pub sound : Sound (T .count) (T .settings) m n
   pub epoch : n .me .epoch ≡ T .e
   pub view : n .me .view ≡ T .set
 
@@ -111,7 +119,7 @@ pub record Did (T : Task) (g : Group) (a : Entry) (s : Step) : Type 0 where
   pub silent : s .sent ≡ None → length (advance (T .wins) g a .log) ≡ length (g .log)
 
 pub identity : (T : Task) (m : ℕ) (n : Node) → Live T m n → n .me ≡ self T m
-identity T m n l = λ t. record { number = l .sound .number t; epoch = l .epoch t; view = l .view t }
+identity T m n l = λ t. record { number = l .sound .number t; epoch = l .epoch t; view = l .view t; settings = l .sound .fixed t }
 
 -- an event of replica m whose own questions say yes
 acts : (T : Task) → T .i < T .count → (m : ℕ) → Has (T .set) m → (n : Node) → Live T m n → (ev : Event) (v : List ℕ) → AllYes (own (self T m) (recordOf (T .i) n) ev (length v))
@@ -120,7 +128,7 @@ acts : (T : Task) → T .i < T .count → (m : ℕ) → Has (T .set) m → (n : 
 acts T inside m h n l ev v y = subst (λ (me : Replica). (apply wins n i ev v ≡ record { answer = Accepted (s me .sent); node = done n i (s me) }) × (recordOf i (done n i (s me)) ≡ s me .after))
     (identity T m n l) (go (apply wins n i ev v) (applied wins n i ev v))
   where
-    wins : ℕ → ℕ → Bool
+    wins : Orders
     wins = T .wins
 
     i : ℕ
@@ -130,7 +138,7 @@ acts T inside m h n l ev v y = subst (λ (me : Replica). (apply wins n i ev v �
     s me = step wins me i (recordOf i n) ev v
 
     yes-all : AllYes (questionsOf n i ev v)
-    yes-all = five-say-yes (T .count) m n (l .sound) i inside (rw (l .view) h) ev v (subst (λ (me : Replica). AllYes (own me (recordOf i n) ev (length v))) (sym (identity T m n l)) y)
+    yes-all = five-say-yes (T .count) (T .settings) m n (l .sound) i inside (rw (l .view) h) ev v (subst (λ (me : Replica). AllYes (own me (recordOf i n) ev (length v))) (sym (identity T m n l)) y)
 
     go : (o : Outcome) → Applied wins n i ev v o → (o ≡ record { answer = Accepted (s (n .me) .sent); node = done n i (s (n .me)) }) × (recordOf i (done n i (s (n .me))) ≡ s (n .me) .after)
     go o (refused k z q) = absurd (omega (arith, z, passed-zero n i ev v yes-all))
@@ -138,7 +146,7 @@ acts T inside m h n l ev v y = subst (λ (me : Replica). (apply wins n i ev v �
 
 module _ (T : Task) (inside : T .i < T .count) (g : Group) (all : Alive T g) (m : ℕ) (h : Has (T .set) m) (what : Action) (ev : Event) (v : List ℕ)
     (does : perform (T .wins) what (g .log) (g .at m) ≡ event (apply (T .wins) (g .at m) (T .i) ev v)) (y : AllYes (own (self T m) (recordOf (T .i) (g .at m)) ev (length v))) where
-  open Task T using (wins, count, e, set, i, old)
+  open Task T using (wins, settings, count, e, set, i, old)
 
   abbrev a : Entry
   a = by m what
@@ -161,7 +169,7 @@ module _ (T : Task) (inside : T .i < T .count) (g : Group) (all : Alive T g) (m 
   log-is = ap (λ (r : Result). logAfter r (g .log)) what-it-is
 
   live-after : (u : ℕ) → Has set u → Live T u (advance wins g a .at u)
-  live-after u k = record { sound = advance-sound wins count u g a (all .live u k .sound); epoch = go (ℕ-discrete u m) .0; view = go (ℕ-discrete u m) .1 }
+  live-after u k = record { sound = advance-sound wins count settings u g a (all .live u k .sound); epoch = go (ℕ-discrete u m) .0; view = go (ℕ-discrete u m) .1 }
     where
       go : Dec (u ≡ m) → (advance wins g a .at u .me .epoch ≡ e) × (advance wins g a .at u .me .view ≡ set)
       go (yes q) = rw (q, at-m) (unfold after in (all .live m h .epoch, all .live m h .view))

@@ -19,7 +19,8 @@ use Rattle.hermes.specs.declared.event.Replica.{Replica}
 use Rattle.hermes.specs.declared.event.Event.{Event}
 use Rattle.hermes.specs.declared.event.Event.the-variants.{Read, Ask, Write, Commit, Replay, Deliver, Validate, Resend}
 use Rattle.hermes_record.specs.Members.{has, with, without}
-use Rattle.hermes_record.specs.Order.{later}
+use Rattle.hermes_record.specs.Order.{Orders, later}
+use Rattle.hermes.specs.Settings.{under}
 use Rattle.hermes.specs.Guards.{AllYes}
 use Rattle.hermes.specs.Event.{invStep, ackStep, completes, deliverStep, resent, step, own, sentBy, recipients}
 use Rattle.hermes.specs.Node.{Outcome, recordOf, apply}
@@ -49,7 +50,7 @@ only k l m = (λ h. go (with-members 0 k m h), λ e. members-with 0 k m l (inr e
 
 -- ---- what a step sends
 
-module _ (wins : ℕ → ℕ → Bool) (me : Replica) (i : ℕ) (r : Record) where
+module _ (wins : Orders) (me : Replica) (i : ℕ) (r : Record) where
   for-its-sender : (m : Received) (t : Timestamp) → m .message ≡ Inv t → Other me (m .sender) → ForItsSender me (Deliver m) t (with 0 (m .sender))
   for-its-sender m t e o = record { inv = m; delivered = refl; timestamp = e; sender = only (m .sender) (has-small (me .view) (m .sender) (o .0)); other = o }
 
@@ -67,7 +68,7 @@ module _ (wins : ℕ → ℕ → Bool) (me : Replica) (i : ℕ) (r : Record) whe
 
   deliver-goes : (m : Received) (k : Message) (v : List ℕ) → m .message ≡ k → Other me (m .sender)
       → GoesTo me (Deliver m) (deliverStep wins me i r (m .sender) k v .sent) (recipients me (Deliver m) (deliverStep wins me i r (m .sender) k v .sent))
-  deliver-goes m (Inv t) v e o = inv-goes m t v e o (later wins t (r .timestamp))
+  deliver-goes m (Inv t) v e o = inv-goes m t v e o (later (under wins (me .settings)) t (r .timestamp))
   deliver-goes m (Ack t) v e o = ack-goes m (completes me r (m .sender))
   deliver-goes m (Val t) v e o = nobody
 

@@ -19,10 +19,12 @@ use Rattle.hermes.specs.declared.message.Header.{Header}
 use Rattle.hermes.specs.declared.message.Outgoing.{Outgoing}
 use Rattle.hermes.specs.declared.message.Outgoing.the-variants.{None, Sent}
 use Rattle.hermes.specs.declared.event.Replica.{Replica}
+use Rattle.hermes.specs.declared.event.Settings.{Settings}
 use Rattle.hermes.specs.declared.event.Event.{Event}
 use Rattle.hermes.specs.declared.event.Event.the-variants.{Read, Ask, Write, Commit, Replay, Deliver, Validate, Resend}
 use Rattle.hermes_record.specs.Members.{with}
-use Rattle.hermes_record.specs.Order.{TieOrder, later, NotAfter}
+use Rattle.hermes_record.specs.Order.{Orders, TieOrder, later, NotAfter}
+use Rattle.hermes.specs.Settings.{under}
 use Rattle.hermes_record.specs.Record.{oneOf}
 use Rattle.hermes_record.proofs.Moves.{invalid-shown, invalid-own}
 use Rattle.hermes.specs.Store.{slot, valueAt, padded}
@@ -61,8 +63,8 @@ Clean c = cellOf (take (c .len) (c .bytes)) ≡ c
 pub clean-cell : (v : List ℕ) → Clean (cellOf v)
 clean-cell v = ap cellOf (take-padded v)
 
-abbrev pub setting : (ℕ → ℕ → Bool) → (ℕ → ℕ) → Setting
-setting wins issued = record { wins = wins; Has = Has; issued = issued; Cell = Cell; Clean = Clean }
+abbrev pub setting : Orders → Settings → (ℕ → ℕ) → Setting
+setting wins settings issued = record { wins = under wins settings; Has = Has; issued = issued; Cell = Cell; Clean = Clean }
 
 abbrev pub copyOf : Replica → Record → List ℕ → Copy Cell
 copyOf me r bytes = record {
@@ -104,11 +106,11 @@ module _ (j : ℕ) (n : Node) (s : Step) (c : Changed j s n (done n j s)) where
 
 -- ---- what an entry is to a record
 
-module _ (wins : ℕ → ℕ → Bool) (issued : ℕ → ℕ) where
+module _ (wins : Orders) (settings : Settings) (issued : ℕ → ℕ) where
   -- what leaves is true of the copy that was left
   abbrev True : Copy Cell → Message → Type 0
   True b (Inv s) = (s ≡ b .timestamp) × (b .coordinates ≡ true)
-  True b (Ack s) = NotAfter wins s (b .timestamp)
+  True b (Ack s) = NotAfter (under wins settings) s (b .timestamp)
   True b (Val s) = (s ≡ b .timestamp) × (b .valid ≡ true)
 
   -- it goes out under the replica's name and epoch, about record j
@@ -118,29 +120,30 @@ module _ (wins : ℕ → ℕ → Bool) (issued : ℕ → ℕ) where
 
   -- an accepted step on record j
   record Good (log : List Logged) (j : ℕ) (n : Node) (s : Step) : Type 0 where
-    moves : Move (setting wins issued) (n .me .number) (Known j log) (copy j n) (stepped j n s)
+    moves : Move (setting wins settings issued) (n .me .number) (Known j log) (copy j n) (stepped j n s)
     says : Says (n .me) j (stepped j n s) (s .sent)
 
   -- an entry, accepted or refused, as record i sees it
   pub record Refined (log : List Logged) (i : ℕ) (n : Node) (r : Result) : Type 0 where
     pub number : nodeAfter r n .me .number ≡ n .me .number
-    pub moves : Move (setting wins issued) (n .me .number) (Known i log) (copy i n) (copy i (nodeAfter r n))
-    pub left : (p : Msg Cell) → Known i (logAfter r log) p → Known i log p ⊎ Honest (setting wins issued) (n .me .number) (copy i (nodeAfter r n)) p
+    pub fixed : nodeAfter r n .me .settings ≡ n .me .settings
+    pub moves : Move (setting wins settings issued) (n .me .number) (Known i log) (copy i n) (copy i (nodeAfter r n))
+    pub left : (p : Msg Cell) → Known i (logAfter r log) p → Known i log p ⊎ Honest (setting wins settings issued) (n .me .number) (copy i (nodeAfter r n)) p
 
   -- nothing happened
   idle : (log : List Logged) (i : ℕ) (n : Node) → Refined log i n run.nothing
-  idle log i n = record { number = refl; moves = stay refl; left = λ p k. inl k }
+  idle log i n = record { number = refl; fixed = refl; moves = stay refl; left = λ p k. inl k }
 
   -- a true message is honest
   honest : (i : ℕ) (n : Node) (m : Message) → True (copy i n) m → recordOf i n .len ≤ 192
-      → Honest (setting wins issued) (n .me .number) (copy i n) (msg (n .me .number) (n .me .epoch) m (bodyOf m (valueAt i (recordOf i n .len) (n .store))))
+      → Honest (setting wins settings issued) (n .me .number) (copy i n) (msg (n .me .number) (n .me .epoch) m (bodyOf m (valueAt i (recordOf i n .len) (n .store))))
   honest i n (Inv s) h f = (h .0, λ k. ap cellOf (value-slot i (recordOf i n .len) (n .store) f) ∙ k, refl, h .1)
   honest i n (Ack s) h f = (refl, h)
   honest i n (Val s) h f = (refl, h .0, h .1)
 
   -- what was sent about record j of n joins the log
   joins : (i j : ℕ) (log : List Logged) (n : Node) (o : Outgoing) → recordOf j n .len ≤ 192 → Says (n .me) j (copy j n) o → (p : Msg Cell)
-      → Known i (logged log n o) p → Known i log p ⊎ Honest (setting wins issued) (n .me .number) (copy i n) p
+      → Known i (logged log n o) p → Known i log p ⊎ Honest (setting wins settings issued) (n .me .number) (copy i n) p
   joins i j log n None f h p k = inl k
   joins i j log n (Sent m d) f h p (x, t, e, q) = go (List·Memᴰ·append-cases log t)
     where
@@ -150,7 +153,7 @@ module _ (wins : ℕ → ℕ → Bool) (issued : ℕ → ℕ) where
       sent : Logged
       sent = new (record { sender = n .me .number; epoch = n .me .epoch; index = j })
 
-      go : List·Memᴰ x log ⊎ List·Memᴰ x (new d ∷ []) → Known i log p ⊎ Honest (setting wins issued) (n .me .number) (copy i n) p
+      go : List·Memᴰ x log ⊎ List·Memᴰ x (new d ∷ []) → Known i log p ⊎ Honest (setting wins settings issued) (n .me .number) (copy i n) p
       go (inl t) = inl (x, t, e, q)
       go (inr t) =
           let s : x ≡ sent = List·Memᴰ·eq-of-singleton t ∙ ap new (h .0) in
@@ -167,8 +170,8 @@ module _ (wins : ℕ → ℕ → Bool) (issued : ℕ → ℕ) where
       s = stepOf wins n j e v
 
       go : (o : Outcome) → Applied wins n j e v o → Refined log i n (run.event o)
-      go o (refused k z q) = rw q (record { number = refl; moves = stay refl; left = λ p k. inl k })
-      go o (accepted y c q) = rw q (record { number = refl; moves = move (ℕ-discrete i j); left = λ p k. joins i j log (done n j s) (s .sent) (rw (c .here) (sound-step wins n j e v y .after .short)) (rw here (g .says)) p k })
+      go o (refused k z q) = rw q (record { number = refl; fixed = refl; moves = stay refl; left = λ p k. inl k })
+      go o (accepted y c q) = rw q (record { number = refl; fixed = refl; moves = move (ℕ-discrete i j); left = λ p k. joins i j log (done n j s) (s .sent) (rw (c .here) (sound-step wins n j e v y .after .short)) (rw here (g .says)) p k })
         where
           g : Good log j n s
           g = good (its-own n j e v y)
@@ -176,14 +179,14 @@ module _ (wins : ℕ → ℕ → Bool) (issued : ℕ → ℕ) where
           here : copy j (done n j s) ≡ stepped j n s
           here = copy-here j n s c
 
-          move : Dec (i ≡ j) → Move (setting wins issued) (n .me .number) (Known i log) (copy i n) (copy i (done n j s))
+          move : Dec (i ≡ j) → Move (setting wins settings issued) (n .me .number) (Known i log) (copy i n) (copy i (done n j s))
           move (yes d) = rw (d, here) (g .moves)
           move (no d) = stay (copy-there j n s c (omega (arith, slot-fits (first-five n j e v y))) i d)
 
 -- ---- the events
 
-module _ (wins : ℕ → ℕ → Bool) (ord : TieOrder wins) (issued : ℕ → ℕ) (log : List Logged) (n : Node) where
-  resent-says : (j : ℕ) (s : State) → recordOf j n .state ≡ s → Says wins issued (n .me) j (copy j n) (resent (n .me) j s (recordOf j n .timestamp))
+module _ (wins : Orders) (settings : Settings) (ord : TieOrder (under wins settings)) (issued : ℕ → ℕ) (log : List Logged) (n : Node) (same : n .me .settings ≡ settings) where
+  resent-says : (j : ℕ) (s : State) → recordOf j n .state ≡ s → Says wins settings issued (n .me) j (copy j n) (resent (n .me) j s (recordOf j n .timestamp))
   resent-says j state.Valid e = (refl, (refl, rw e))
   resent-says j state.Invalid e = tt
   resent-says j state.InvalidWrite e = tt
@@ -191,18 +194,18 @@ module _ (wins : ℕ → ℕ → Bool) (ord : TieOrder wins) (issued : ℕ → �
   resent-says j state.Replay e = (refl, (refl, rw e))
 
   inv-good : (j sender epoch : ℕ) (t : Timestamp) (v : List ℕ) → Known j log (inv sender epoch t (cellOf v))
-      → (g : Bool) → later wins t (recordOf j n .timestamp) ≡ g → Good wins issued log j n (invStep g (n .me) j (recordOf j n) t sender v)
+      → (g : Bool) → later (under wins settings) t (recordOf j n .timestamp) ≡ g → Good wins settings issued log j n (invStep g (n .me) j (recordOf j n) t sender v)
   inv-good j sender epoch t v k true g = record {
     moves = rcvInv sender epoch t (cellOf v) (clean-cell v) k g (rw (invalid-shown (recordOf j n .state), invalid-own (recordOf j n .state)));
-    says = (refl, notAfter-refl wins t);
+    says = (refl, notAfter-refl (under wins settings) t);
   }
   inv-good j sender epoch t v k false g =
-      let behind : NotAfter wins t (recordOf j n .timestamp) = notAfter-total wins ord t (recordOf j n .timestamp) g in
+      let behind : NotAfter (under wins settings) t (recordOf j n .timestamp) = notAfter-total (under wins settings) ord t (recordOf j n .timestamp) g in
       record { moves = stay refl; says = search needs }
 
   -- 02, Wish 1: an ACK that completes the view is also a validation
   ack-good : (j sender epoch : ℕ) → Known j log (ack sender epoch (recordOf j n .written))
-      → (c : Bool) → completes (n .me) (recordOf j n) sender ≡ c → Good wins issued log j n (ackStep c (n .me) j (recordOf j n) sender)
+      → (c : Bool) → completes (n .me) (recordOf j n) sender ≡ c → Good wins settings issued log j n (ackStep c (n .me) j (recordOf j n) sender)
   ack-good j sender epoch k true c =
       let (p, q) = both (oneOf (recordOf j n .state) (state.Write ∷ state.Replay ∷ [])) _ c in
       record {
@@ -215,9 +218,9 @@ module _ (wins : ℕ → ℕ → Bool) (ord : TieOrder wins) (issued : ℕ → �
   }
 
   deliver-good : (j sender epoch : ℕ) (m : Message) (v : List ℕ) → Known j log (msg sender epoch m v) → epoch ≡ n .me .epoch
-      → KindOwn m sender (recordOf j n) → Good wins issued log j n (deliverStep wins (n .me) j (recordOf j n) sender m v)
+      → KindOwn m sender (recordOf j n) → Good wins settings issued log j n (deliverStep wins (n .me) j (recordOf j n) sender m v)
   deliver-good j sender epoch (Inv t) v k p y =
-      inv-good j sender epoch t v k (later wins t (recordOf j n .timestamp)) refl
+      inv-good j sender epoch t v k (later (under wins (n .me .settings)) t (recordOf j n .timestamp)) (ap (λ (s : Settings). later (under wins s) t (recordOf j n .timestamp)) (sym same))
   deliver-good j sender epoch (Ack t) v k p y =
       ack-good j sender epoch (rw (← e) k) (completes (n .me) (recordOf j n) sender) refl
     where
@@ -246,43 +249,44 @@ module _ (wins : ℕ → ℕ → Bool) (ord : TieOrder wins) (issued : ℕ → �
   }
 
   -- a write's step, below the greatest version
-  write-good : (j : ℕ) (v : List ℕ) → question9 (recordOf j n) .yes ≡ true → Good wins issued log j n (writeStep (n .me) j (recordOf j n) v)
+  write-good : (j : ℕ) (v : List ℕ) → question9 (recordOf j n) .yes ≡ true → Good wins settings issued log j n (writeStep (n .me) j (recordOf j n) v)
   unfolding writing
   write-good j v h = record { moves = write (cellOf v) (clean-cell v) 0 none-in-zero (ap (writing j v) (next-version (recordOf j n .timestamp .version) h)); says = (refl, (refl, refl)) }
 
-  viewed-refined : (epoch next : ℕ) → next ≡ issued epoch → (i : ℕ) → Refined wins issued log i n (run.event (viewed n epoch next))
+  viewed-refined : (epoch next : ℕ) → next ≡ issued epoch → (i : ℕ) → Refined wins settings issued log i n (run.event (viewed n epoch next))
   unfolding viewed view
   viewed-refined epoch next q i = go (firstNo (viewQuestions (n .me) epoch next)) refl
     where
       to : Replica
-      to = record { number = n .me .number; epoch = epoch; view = next }
+      to = record { number = n .me .number; epoch = epoch; view = next; settings = n .me .settings }
 
-      go : (k : ℕ) → firstNo (viewQuestions (n .me) epoch next) ≡ k → Refined wins issued log i n
+      go : (k : ℕ) → firstNo (viewQuestions (n .me) epoch next) ≡ k → Refined wins settings issued log i n
           (run.event (record { answer = answerOf (admissionNumber (admissionOf k to)) None; node = record { me = identity (admissionOf k to) (n .me); table = n .table; store = n .store } }))
       go zero z = record {
         number = refl;
+        fixed = refl;
         moves = shrink epoch (λ m h. within-members next (n .me .view) (view-inside (n .me) epoch next (all-yes (viewQuestions (n .me) epoch next) refl z) .0) m (rw (← q) at h)) (rw (← q));
         left = λ p k. inl k;
       }
-      go (suc k) z = record { number = refl; moves = stay refl; left = λ p k. inl k }
+      go (suc k) z = record { number = refl; fixed = refl; moves = stay refl; left = λ p k. inl k }
 
   -- every entry, as record i of its replica sees it
-  pub refined : (a : Action) → AsIssued issued a → (i : ℕ) → Refined wins issued log i n (perform wins a log n)
-  refined (run.read j) c = of-event wins issued log n j Read [] (λ y. record { moves = stay refl; says = tt })
-  refined (run.ask j) c = of-event wins issued log n j Ask [] (λ y. record { moves = stay refl; says = tt })
-  refined (run.write j v) c = of-event wins issued log n j Write v (λ y. write-good j v (y .1 .1 .0))
-  refined (run.commit j t v) c = of-event wins issued log n j (Commit t) v (λ y. write-good j v (y .1 .1 .0))
-  refined (run.replay j) c = of-event wins issued log n j Replay [] (λ y. record { moves = replay 0 none-in-zero refl; says = (refl, (refl, refl)) })
-  refined (run.validate j) c = of-event wins issued log n j Validate []
+  pub refined : (a : Action) → AsIssued issued a → (i : ℕ) → Refined wins settings issued log i n (perform wins a log n)
+  refined (run.read j) c = of-event wins settings issued log n j Read [] (λ y. record { moves = stay refl; says = tt })
+  refined (run.ask j) c = of-event wins settings issued log n j Ask [] (λ y. record { moves = stay refl; says = tt })
+  refined (run.write j v) c = of-event wins settings issued log n j Write v (λ y. write-good j v (y .1 .1 .0))
+  refined (run.commit j t v) c = of-event wins settings issued log n j (Commit t) v (λ y. write-good j v (y .1 .1 .0))
+  refined (run.replay j) c = of-event wins settings issued log n j Replay [] (λ y. record { moves = replay 0 none-in-zero refl; says = (refl, (refl, refl)) })
+  refined (run.validate j) c = of-event wins settings issued log n j Validate []
       (λ y. let o = validate-own (n .me) (recordOf j n) 0 y in
       record { moves = sendVals (o .pending) (others-members (n .me .number) (n .me .view) (recordOf j n .acks) (o .acknowledged)) refl; says = (refl, (refl, refl)) })
-  refined (run.resend j) c = of-event wins issued log n j Resend []
+  refined (run.resend j) c = of-event wins settings issued log n j Resend []
       (λ y. record { moves = stay refl; says = resent-says j (recordOf j n .state) refl })
   refined (run.deliver k) c = go (find log k) refl
     where
-      go : (f : Found) → find log k ≡ f → (i : ℕ) → Refined wins issued log i n (delivery wins f n)
-      go run.missing e = λ i. idle wins issued log i n
-      go (run.found x) e = of-event wins issued log n (x .header .index) (Deliver (received x)) (x .body)
+      go : (f : Found) → find log k ≡ f → (i : ℕ) → Refined wins settings issued log i n (delivery wins f n)
+      go run.missing e = λ i. idle wins settings issued log i n
+      go (run.found x) e = of-event wins settings issued log n (x .header .index) (Deliver (received x)) (x .body)
           (λ y. let o = deliver-own (n .me) (recordOf (x .header .index) n) (received x) (length (x .body)) y in
           deliver-good (x .header .index) (x .header .sender) (x .header .epoch) (x .message) (x .body) (x, found-in log k x e, refl, refl) (o .epoch) (o .kind))
   refined (run.view epoch next) c = viewed-refined epoch next c

@@ -8,14 +8,15 @@ use borrow.Author.Tests.{eqb-true}
 use Rattle.hermes.specs.declared.message.Outgoing.the-variants.{None}
 use Rattle.hermes_record.specs.Members.{has, size, lowest, within, othersIn, with}
 use Rattle.hermes_record.specs.Order.{later, sameTimestamp}
+use Rattle.hermes.specs.Settings.{oldSettings}
 use Rattle.hermes.specs.Store.{padded, place}
 use Rattle.hermes.specs.Event.{numberOf, sentBy, send, refusal, effect, askStamp, askHands}
 use Rattle.hermes.specs.Node.{Node, Outcome, recordOf, apply, asked, admit, start, view, viewed, admissionNumber}
-use Rattle.hermes.specs.Worked.{Claim, answers, leaves, stamps, lastWriter, lastWrite, acknowledgedBy, holding, sends, handsOut, silent, unchanged, storeOf, Says, SaysAll, Row, row, asks, asksStart, asksView, Holds, before, outcome}
+use Rattle.hermes.specs.Worked.{Claim, answers, leaves, stamps, lastWriter, tiesBy, lastWrite, acknowledgedBy, holding, sends, handsOut, silent, unchanged, storeOf, Says, SaysAll, Row, row, asks, asksStart, asksView, Holds, before, outcome}
 use Rattle.hermes.specs.Limits.{limits}
 use Rattle.hermes.specs.Rows.{unstarted, ringing, rows}
 use Rattle.hermes_record.proofs.Tests.{both}
-use Rattle.hermes.proofs.Coded.{same, same-sound, sameList, list-sound, stateCode, timestampCode, recordCode, recordNumbers, replicaCode, messageNumbers, outgoingNumbers, outgoingCode, sameTable, sameNode, node-sound}
+use Rattle.hermes.proofs.Coded.{same, same-sound, sameList, list-sound, stateCode, timestampCode, recordCode, recordNumbers, ruleCode, replicaCode, messageNumbers, outgoingNumbers, outgoingCode, sameTable, sameNode, node-sound}
 use Rattle.hermes.proofs.Table.{passing, every}
 
 test : Claim → Node → Outcome → Bool
@@ -23,6 +24,7 @@ test (answers k) n o = eqb (numberOf (o .answer)) k
 test (leaves s) n o = same stateCode (recordOf 0 (o .node) .state) s
 test (stamps v t) n o = same timestampCode (recordOf 0 (o .node) .timestamp) (record { version = v; tie = t })
 test (lastWriter k) n o = eqb (recordOf 0 (o .node) .writer) k
+test (tiesBy rule) n o = same ruleCode (o .node .me .settings .rule) rule
 test (lastWrite v t) n o = same timestampCode (recordOf 0 (o .node) .written) (record { version = v; tie = t })
 test (acknowledgedBy set) n o = eqb (recordOf 0 (o .node) .acks) set
 test (holding v) n o = eqb (recordOf 0 (o .node) .len) (length v) && sameList (o .node .store) (storeOf v)
@@ -37,6 +39,7 @@ says (answers k) n o e = eqb-true _ k e
 says (leaves s) n o e = same-sound stateCode _ s e
 says (stamps v t) n o e = same-sound timestampCode _ _ e
 says (lastWriter k) n o e = eqb-true _ k e
+says (tiesBy rule) n o e = same-sound ruleCode _ rule e
 says (lastWrite v t) n o e = same-sound timestampCode _ _ e
 says (acknowledgedBy set) n o e = eqb-true _ set e
 says (holding v) n o e =
@@ -61,7 +64,7 @@ says-all (c ∷ cs) n o e = let (p, q) = both (test c n o) (testAll cs n o) e in
 testRow : Node → Row → Bool
 testRow n (row earlier deed claims) = testAll claims (before n earlier) (outcome (before n earlier) deed)
 testRow n (asks me count bytes i r e m k) = eqb (refusal me count bytes i r e m) k
-testRow n (asksStart number set count bytes k) = eqb (admissionNumber (admit number set count bytes)) k
+testRow n (asksStart number set count bytes k) = eqb (admissionNumber (admit number set oldSettings count bytes)) k
 testRow n (asksView me epoch set k) = eqb (admissionNumber (view me epoch set)) k
 
 holds : (n : Node) (r : Row) → testRow n r ≡ true → Holds n r
@@ -73,7 +76,7 @@ holds n (asksView me epoch set k) e = eqb-true _ k e
 
 -- the test, computed
 computed : passing Row (testRow unstarted) rows ≡ true
-unfolding passing testRow testAll test same sameList sameTable sameNode stateCode timestampCode recordCode recordNumbers replicaCode outgoingCode outgoingNumbers messageNumbers unstarted limits ringing rows apply effect refusal askStamp askHands start view viewed has size lowest within othersIn with later sameTimestamp padded place
+unfolding passing testRow testAll test same sameList sameTable sameNode stateCode timestampCode recordCode recordNumbers ruleCode replicaCode outgoingCode outgoingNumbers messageNumbers unstarted limits ringing rows apply effect refusal askStamp askHands start view viewed has size lowest within othersIn with later sameTimestamp padded place
 computed = refl
 
 -- Every row about the events holds.

@@ -11,14 +11,18 @@ use lib.ListN.{length, getD, drop}
 use lib.Seq.{getD-take, getD-drop}
 use borrow.Author.Tests.{eqb-true, ltb-true, eq-eqb, ne-eqb}
 use Rattle.hermes_record.specs.declared.timestamp.Timestamp.{Timestamp}
+use Rattle.hermes_record.specs.declared.timestamp.Rule.{Rule}
+use Rattle.hermes_record.specs.declared.timestamp.Rule.the-variants.{Higher, Lower}
 use Rattle.hermes_record.specs.declared.record.State.the-variants as state
 use Rattle.hermes.specs.declared.message.Message.the-variants.{Inv, Ack, Val}
 use Rattle.hermes.specs.declared.message.Outgoing.{Outgoing}
 use Rattle.hermes.specs.declared.message.Outgoing.the-variants.{None, Sent}
 use Rattle.hermes.specs.declared.event.Replica.{Replica}
+use Rattle.hermes.specs.declared.event.Settings.{Settings}
 use Rattle.hermes.specs.declared.event.Admission.the-variants.{Admitted}
 use Rattle.hermes_record.specs.Members.{has}
-use Rattle.hermes_record.specs.Order.{higher, later, NotAfter, equal, rises}
+use Rattle.hermes_record.specs.Order.{ties, later, NotAfter, equal, rises}
+use Rattle.hermes.specs.Settings.{under, oldSettings}
 use Rattle.hermes_record.specs.Record.{oneOf}
 use Rattle.hermes.specs.Store.{slot}
 use Rattle.hermes.specs.Event.{completes, numberOf, sentBy}
@@ -28,7 +32,7 @@ use Rattle.hermes.specs.Run.{Logged, Action, Group, find, found, logged,
 use Rattle.hermes.specs.Agreement as one
 use Rattle.hermes.specs.Agreement.{Started, AsIssued, Entries, Alike, validates, acknowledges}
 use Rattle.hermes.specs.Reads.{Sound}
-use Rattle.hermes.specs.SecondReading.{InView, Greater, byVersion, byTie, SameOrLater, same, greater, Among, first, further}
+use Rattle.hermes.specs.SecondReading.{InView, WinsTie, Greater, byVersion, byTie, SameOrLater, same, greater, Among, first, further}
 use Rattle.hermes.specs.SecondReading.{Mail, Happening, read, write, replay, delivery, validation, resend, change, ask, commit, perform}
 use Rattle.hermes.specs.SecondReading.{Entry, outcome, Leaves, Left, Honest, Replaced, here, there, History, empty, next}
 use Rattle.hermes.specs.SecondReading.{FreshStart, Different, Premises, ShowsValid, Agree, Agreement, InWriteOrReplay, LastAck, Validates, Kept, SecondDemand3}
@@ -52,14 +56,18 @@ unfolding bit
 view-in k s h = (has-small s k h, member-bit s k h)
 
 -- the two orders of stamps
-same-or-later : (s t : Timestamp) → NotAfter higher s t → SameOrLater s t
+wins-tie : (rule : Rule) (a b : ℕ) → ties rule a b ≡ true → WinsTie rule a b
+wins-tie Higher a b e = ltb-true b a e
+wins-tie Lower a b e = ltb-true a b e
+
+same-or-later : (rule : Rule) (s t : Timestamp) → NotAfter (ties rule) s t → SameOrLater rule s t
 unfolding later
-same-or-later s t (equal e) = same (sym e)
-same-or-later s t (rises e) = greater (go (either _ _ e))
+same-or-later rule s t (equal e) = same (sym e)
+same-or-later rule s t (rises e) = greater (go (either _ _ e))
   where
-    go : (ltb (s .version) (t .version) ≡ true) ⊎ ((eqb (t .version) (s .version) && ltb (s .tie) (t .tie)) ≡ true) → Greater t s
+    go : (ltb (s .version) (t .version) ≡ true) ⊎ ((eqb (t .version) (s .version) && ties rule (t .tie) (s .tie)) ≡ true) → Greater rule t s
     go (inl v) = byVersion (ltb-true (s .version) (t .version) v)
-    go (inr v) = let (p, q) = both _ _ v in byTie (eqb-true (t .version) (s .version) p) (ltb-true (s .tie) (t .tie) q)
+    go (inr v) = let (p, q) = both _ _ v in byTie (eqb-true (t .version) (s .version) p) (wins-tie rule (t .tie) (s .tie) q)
 
 -- a record's 192 bytes, one by one
 agree : (i : ℕ) (a b : Node) → Alike i a b → Agree i a b
@@ -76,7 +84,7 @@ agree i a b k = record {
 
 -- the laptop with number k; where there is none, one with another number
 abbrev at : List Node → ℕ → Node
-at [] k = lent (newcomer (suc k) 0) [] []
+at [] k = lent (newcomer (suc k) 0 oldSettings) [] []
 at (n ∷ rest) k = cond (eqb (n .me .number) k) n (at rest k)
 
 -- one of them has number k
@@ -115,8 +123,8 @@ module _ {old new : Node} where
   differ (there r) e d = (λ m a s. ⊎-elim (λ q. d .0 old (was r) (sym e ∙ ap (λ (n : Node). n .me .number) (sym q) ∙ s)) (λ x. d .0 m (x .0) s) (stands r (d .1) m a), differ r e (d .1))
 
 -- a fresh start of the second reading is one of the first
-fresh-start : (count : ℕ) (issued : ℕ → ℕ) (k : ℕ) (n : Node) → n .me .number ≡ k → FreshStart (issued 0) count n → one.FreshStart count issued k n
-fresh-start count issued k n e f = subst (λ (x : ℕ). one.FreshStart count issued x n) (sym number ∙ e) (record {
+fresh-start : (count : ℕ) (issued : ℕ → ℕ) (settings : Settings) (k : ℕ) (n : Node) → n .me .number ≡ k → FreshStart (issued 0) count settings n → one.FreshStart count issued settings k n
+fresh-start count issued settings k n e f = subst (λ (x : ℕ). one.FreshStart count issued settings x n) (sym number ∙ e) (record {
   table = f .table;
   store = f .store;
   records = f .records;
@@ -125,11 +133,11 @@ fresh-start count issued k n e f = subst (λ (x : ℕ). one.FreshStart count iss
   storeAfter = ap (λ (s : Start). s .store) (sym (f .accepted));
 })
   where
-    admitted : start (f .number) (issued 0) (f .table) (f .store) .admission ≡ Admitted (n .me)
+    admitted : start (f .number) (issued 0) settings (f .table) (f .store) .admission ≡ Admitted (n .me)
     admitted = ap (λ (s : Start). s .admission) (f .accepted)
 
     number : n .me .number ≡ f .number
-    number = ap (λ (me : Replica). me .number) (begun (f .number) (issued 0) (f .table) (f .store) (n .me) admitted .identity)
+    number = ap (λ (me : Replica). me .number) (begun (f .number) (issued 0) settings (f .table) (f .store) (n .me) admitted .identity)
 
 -- ---- messages and the log
 
@@ -187,7 +195,7 @@ record Taken (issued : ℕ → ℕ) (log : List Logged) (n : Node) (h : Happenin
   number : ℕ
   brings : Brings log h number
   due : AsIssued issued (action h number)
-  does : run.perform higher (action h number) log n ≡ run.event (perform h n)
+  does : run.perform ties (action h number) log n ≡ run.event (perform h n)
 
 module _ (issued : ℕ → ℕ) (earlier : List Entry) (log : List Logged) (known : (m : Mail) → Left m earlier → In log m) (n : Node) where
   taken : (h : Happening) → Honest issued earlier h → Taken issued log n h
@@ -217,21 +225,21 @@ entries-add member issued (x ∷ xs) a c e d = (c .0, c .1, entries-add member i
 
 -- ---- a history, as a run of the first reading
 
-module _ (issued : ℕ → ℕ) (begun : List Node) (p : Premises issued begun) where
+module _ (issued : ℕ → ℕ) (settings : Settings) (begun : List Node) (p : Premises issued settings begun) where
   abbrev group : Group
   group = record { at = at begun; log = [] }
 
-  started : Started (member begun) (p .count) issued group
+  started : Started (member begun) (p .count) issued settings group
   started = record {
-    fresh = λ k e. let s = eqb-true (at begun k .me .number) k e in fresh-start (p .count) issued k (at begun k) s (p .fresh (at begun k) (sought begun k s));
+    fresh = λ k e. let s = eqb-true (at begun k .me .number) k e in fresh-start (p .count) issued settings k (at begun k) s (p .fresh (at begun k) (sought begun k s));
     silent = refl;
   }
 
   abbrev after : List run.Entry → Group
-  after entries = run.run higher group entries
+  after entries = run.run ties group entries
 
-  sound : (entries : List run.Entry) → Entries (member begun) issued entries → (k : ℕ) → member begun k ≡ true → Sound (p .count) k (after entries .at k)
-  sound = stay-sound higher (member begun) (p .count) issued group started
+  sound : (entries : List run.Entry) → Entries (member begun) issued entries → (k : ℕ) → member begun k ≡ true → Sound (p .count) settings k (after entries .at k)
+  sound = stay-sound ties (member begun) (p .count) issued settings group started
 
   -- an entry of the history: where it stands in the run, which then finds its laptop and does its event, and has in the log what left it
   record Past (entries : List run.Entry) (e : Entry) : Type 0 where
@@ -241,7 +249,7 @@ module _ (issued : ℕ → ℕ) (begun : List Node) (p : Premises issued begun) 
     split : entries ≡ before ++ entryOf e number ∷ rest
     brings : Brings (after before .log) (e .event) number
     finds : after before .at (e .found .me .number) ≡ e .found
-    gives : result higher (after before) (entryOf e number) ≡ run.event (outcome e)
+    gives : result ties (after before) (entryOf e number) ≡ run.event (outcome e)
     sent : (m : Mail) → Leaves m (sentBy (outcome e .answer)) (outcome e .node) → In (after entries .log) m
 
   -- laptop n is one of the group, and as the run leaves it
@@ -272,15 +280,15 @@ module _ (issued : ℕ → ℕ) (begun : List Node) (p : Premises issued begun) 
     abbrev list : List run.Entry
     list = m .entries ++ a ∷ []
 
-    gives : result higher g a ≡ run.event (outcome e)
+    gives : result ties g a ≡ run.event (outcome e)
     unfolding result
     gives = rw (it .1) (act .does)
 
-    advanced : after list ≡ advance higher g a
-    advanced = run-append higher group (m .entries) (a ∷ [])
+    advanced : after list ≡ advance ties g a
+    advanced = run-append ties group (m .entries) (a ∷ [])
 
     at-it : after list .at (e .found .me .number) ≡ outcome e .node
-    at-it = rw (advanced, at-who higher g a, gives)
+    at-it = rw (advanced, at-who ties g a, gives)
 
     log : after list .log ≡ logged (g .log) (outcome e .node) (sentBy (outcome e .answer))
     unfolding advance
@@ -295,7 +303,7 @@ module _ (issued : ℕ → ℕ) (begun : List Node) (p : Premises issued begun) 
 
     held : (n : Node) → (n ≡ outcome e .node) ⊎ (Among n old × (n .me .number ≢ e .found .me .number)) → Held list n
     held n (inl q) = rw (q, number) (it .0, at-it)
-    held n (inr (b, d)) = rw (advanced, at-other higher g a (n .me .number) d) (m .held n b)
+    held n (inr (b, d)) = rw (advanced, at-other ties g a (n .me .number) d) (m .held n b)
 
     past : (f : Entry) → Among f (e ∷ earlier) → Past list f
     past f first = record {
@@ -334,7 +342,7 @@ module _ (issued : ℕ → ℕ) (begun : List Node) (p : Premises issued begun) 
 
   -- an accepted validation is one of the first reading
   validated : (entries : List run.Entry) (h : Happening) (f : Node) (i : ℕ) → Validates h i f → (q : Past entries (record { found = f; event = h }))
-      → numberOf (perform h f .answer) ≡ 0 → one.Validation higher (after (q .before)) (entryOf (record { found = f; event = h }) (q .number)) i
+      → numberOf (perform h f .answer) ≡ 0 → one.Validation ties (after (q .before)) (entryOf (record { found = f; event = h }) (q .number)) i
   validated entries (delivery x) f i w q z =
       acknowledges (q .number) (posted x) (w .stamp) refl (q .brings) (w .itsRecord) (w .ack) (rw (q .finds) (completing x i f w)) (rw (q .gives) z)
   validated entries (validation j) f i w q z = validates (ap run.validate w) (rw (q .gives) z)
@@ -342,8 +350,8 @@ module _ (issued : ℕ → ℕ) (begun : List Node) (p : Premises issued begun) 
   -- ---- the claim
 
   module _ (list : List Entry) (now : List Node) (m : Matched list now) where
-    claimed : one.Agreement higher (member begun) (p .count) group (m .entries)
-    claimed = agreement (member begun) (p .count) issued group started (m .entries) (m .due)
+    claimed : one.Agreement ties (member begun) (p .count) settings group (m .entries)
+    claimed = agreement (member begun) (p .count) issued settings group started (m .entries) (m .due)
 
     inside : (i : ℕ) (n : Node) → Among n now → ShowsValid i n → i < p .count
     inside i n b s = omega (arith, rw (m .held n b .1) at (sound (m .entries) (m .due) (n .me .number) (m .held n b .0) .records), s .itsOwn)
@@ -355,10 +363,10 @@ module _ (issued : ℕ → ℕ) (begun : List Node) (p : Premises issued begun) 
         agree i a b (rw (p, q) at (claimed .alike i (a .me .number) (b .me .number) (inside i a ha sa) (m .held a ha .0) (m .held b hb .0)
         (rw p (in-view (b .me .number) (a .me .view) va)) (rw q (in-view (a .me .number) (b .me .view) vb)) (rw p (sa .valid)) (rw q (sb .valid))))
 
-    kept : Kept list now
+    kept : Kept (settings .rule) list now
     kept i h f a b w z ha v s =
         let q = m .past (record { found = f; event = h }) b in
-        same-or-later (recordOf i f .timestamp) (recordOf i a .timestamp)
+        same-or-later (settings .rule) (recordOf i f .timestamp) (recordOf i a .timestamp)
         (rw (q .finds, m .held a ha .1) at (claimed .lasting i (a .me .number) (q .before) (q .rest) (entryOf (record { found = f; event = h }) (q .number))
         (inside i a ha s) (m .held a ha .0) (q .split) (validated (m .entries) h f i w q z) (rw (q .finds) (in-view (a .me .number) (f .me .view) v)) (rw (m .held a ha .1) (s .valid))))
 
@@ -366,4 +374,4 @@ module _ (issued : ℕ → ℕ) (begun : List Node) (p : Premises issued begun) 
 
 -- demand 3, second reading
 pub second-demand3 : SecondDemand3
-second-demand3 issued begun p list now h = let m = matched issued begun p h in (agrees issued begun p list now m, kept issued begun p list now m)
+second-demand3 issued settings begun p list now h = let m = matched issued settings begun p h in (agrees issued settings begun p list now m, kept issued settings begun p list now m)

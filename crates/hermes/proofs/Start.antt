@@ -10,6 +10,7 @@ use lib.ListN.{length, replicate}
 use borrow.Author.Tests.{eqb-true}
 use Rattle.hermes_record.specs.declared.record.Record.{Record}
 use Rattle.hermes.specs.declared.event.Replica.{Replica}
+use Rattle.hermes.specs.declared.event.Settings.{Settings}
 use Rattle.hermes.specs.declared.event.Admission.the-variants.{Admitted}
 use Rattle.hermes_record.specs.Members.{has, lowest, lowestFrom}
 use Rattle.hermes_record.specs.Record.{freshRecord}
@@ -25,23 +26,23 @@ use Rattle.hermes.proofs.Guards.{all-yes}
 pub sized : (count bytes : ℕ) → question2 count bytes .yes ≡ true → bytes ≡ 192 * count
 sized count bytes h = eqb-true bytes (192 * count) (both (leb 1 count && leb count 4096) (eqb bytes (192 * count)) h .1)
 
-pub record Begun (k view : ℕ) (table : List Record) (store : List ℕ) (me : Replica) : Type 0 where
-  pub identity : me ≡ newcomer k view
-  pub tableAfter : start k view table store .table ≡ replicate (length table) (freshRecord (lowest view))
-  pub storeAfter : start k view table store .store ≡ zeros (length store)
-  pub asked : AllYes (startQuestions (newcomer k view) (length table) (length store))
+pub record Begun (k view : ℕ) (settings : Settings) (table : List Record) (store : List ℕ) (me : Replica) : Type 0 where
+  pub identity : me ≡ newcomer k view settings
+  pub tableAfter : start k view settings table store .table ≡ replicate (length table) (freshRecord (lowest view))
+  pub storeAfter : start k view settings table store .store ≡ zeros (length store)
+  pub asked : AllYes (startQuestions (newcomer k view settings) (length table) (length store))
 
-pub begun : (k view : ℕ) (table : List Record) (store : List ℕ) (me : Replica) → start k view table store .admission ≡ Admitted me → Begun k view table store me
+pub begun : (k view : ℕ) (settings : Settings) (table : List Record) (store : List ℕ) (me : Replica) → start k view settings table store .admission ≡ Admitted me → Begun k view settings table store me
 unfolding start
-begun k view table store me a = go (startRefusal k view (length table) (length store)) refl a
+begun k view settings table store me a = go (startRefusal k view settings (length table) (length store)) refl a
   where
-    go : (z : ℕ) → startRefusal k view (length table) (length store) ≡ z → begin z (newcomer k view) table store .admission ≡ Admitted me
-        → Begun k view table store me
+    go : (z : ℕ) → startRefusal k view settings (length table) (length store) ≡ z → begin z (newcomer k view settings) table store .admission ≡ Admitted me
+        → Begun k view settings table store me
     go zero e a = record {
       identity = cc;
       tableAfter = rw e;
       storeAfter = rw e;
-      asked = all-yes (startQuestions (newcomer k view) (length table) (length store)) refl e;
+      asked = all-yes (startQuestions (newcomer k view settings) (length table) (length store)) refl e;
     }
     go (suc z) e a = let q : _≡_ {A = ℕ} 0 1 = cc in absurd (omega arith)
 

@@ -21,7 +21,8 @@ use Rattle.hermes.specs.declared.event.Replica.{Replica}
 use Rattle.hermes.specs.declared.event.Event.{Event}
 use Rattle.hermes.specs.declared.event.Event.the-variants.{Read, Ask, Write, Commit, Replay, Deliver, Validate, Resend}
 use Rattle.hermes_record.specs.Members.{has, with}
-use Rattle.hermes_record.specs.Order.{later}
+use Rattle.hermes_record.specs.Order.{Orders, later}
+use Rattle.hermes.specs.Settings.{under}
 use Rattle.hermes_record.specs.Record.{nextVersion}
 use Rattle.hermes.specs.Guards.{AllYes, question5, shapely}
 use Rattle.hermes.specs.Event.{Stored, kept, placed, Step, writeStep, invStep, ackStep, completes, deliverStep, resent, step, own}
@@ -46,7 +47,7 @@ pub record SoundStep (me : Replica) (s : Step) : Type 0 where
   pub after : Sound me (s .after)
   pub fits : Fits (s .stored)
 
-module _ (wins : ℕ → ℕ → Bool) (me : Replica) (i : ℕ) (r : Record) (small : me .number ≤ 15) (ok : Sound me r) where
+module _ (wins : Orders) (me : Replica) (i : ℕ) (r : Record) (small : me .number ≤ 15) (ok : Sound me r) where
   inv-sound : (t : Timestamp) (sender : ℕ) (v : List ℕ) → t .tie ≤ 15 → sender ≤ 15 → length v ≤ 192 → (g : Bool) → SoundStep me (invStep g me i r t sender v)
   inv-sound t sender v a b c true = record { after = record { short = c; tie = a; own-tie = ok .own-tie; writer = b; uncounted = ok .uncounted }; fits = search needs }
   inv-sound t sender v a b c false = record { after = ok; fits = tt }
@@ -55,7 +56,7 @@ module _ (wins : ℕ → ℕ → Bool) (me : Replica) (i : ℕ) (r : Record) (sm
       → SoundStep me (deliverStep wins me i r sender m v)
   deliver-sound sender (Inv t) v h d b =
       let (p, q) = both (leb (t .tie) 15) (leb (length v) 192) b in
-      inv-sound t sender v (leb-true _ _ p) (omega (arith, has-small (me .view) sender h)) (leb-true _ _ q) (later wins t (r .timestamp))
+      inv-sound t sender v (leb-true _ _ p) (omega (arith, has-small (me .view) sender h)) (leb-true _ _ q) (later (under wins (me .settings)) t (r .timestamp))
   deliver-sound sender (Ack t) v h d b = go (completes me r sender)
     where
       other : Has (r .acks) (me .number) ⊎ (me .number ≡ sender) → ⊥
@@ -100,8 +101,8 @@ ack-about : (me : Replica) (i : ℕ) (r : Record) (sender : ℕ) (c : Bool) → 
 ack-about me i r sender true = search needs
 ack-about me i r sender false = search needs
 
-deliver-about : (wins : ℕ → ℕ → Bool) (me : Replica) (i : ℕ) (r : Record) (sender : ℕ) (m : Message) (v : List ℕ) → About i (deliverStep wins me i r sender m v .sent)
-deliver-about wins me i r sender (Inv t) v = inv-about me i r t sender v (later wins t (r .timestamp))
+deliver-about : (wins : Orders) (me : Replica) (i : ℕ) (r : Record) (sender : ℕ) (m : Message) (v : List ℕ) → About i (deliverStep wins me i r sender m v .sent)
+deliver-about wins me i r sender (Inv t) v = inv-about me i r t sender v (later (under wins (me .settings)) t (r .timestamp))
 deliver-about wins me i r sender (Ack t) v = ack-about me i r sender (completes me r sender)
 deliver-about wins me i r sender (Val t) v = tt
 
@@ -112,7 +113,7 @@ resent-about me i state.InvalidWrite t = tt
 resent-about me i state.Write t = refl
 resent-about me i state.Replay t = refl
 
-pub step-about : (wins : ℕ → ℕ → Bool) (me : Replica) (i : ℕ) (r : Record) (e : Event) (v : List ℕ) → About i (step wins me i r e v .sent)
+pub step-about : (wins : Orders) (me : Replica) (i : ℕ) (r : Record) (e : Event) (v : List ℕ) → About i (step wins me i r e v .sent)
 step-about wins me i r Read v = tt
 step-about wins me i r Ask v = tt
 step-about wins me i r Write v = refl

@@ -14,9 +14,11 @@ use Rattle.hermes_record.specs.declared.record.Record.{Record}
 use Rattle.hermes_record.specs.declared.record.State.{State}
 use Rattle.hermes_record.specs.declared.record.State.the-variants as state
 use Rattle.hermes.specs.declared.event.Replica.{Replica}
+use Rattle.hermes.specs.declared.event.Settings.{Settings}
 use Rattle.hermes.specs.declared.event.Event.the-variants.{Write}
 use Rattle.hermes_record.specs.Members.{has, countBelow, size, lowest, othersIn}
-use Rattle.hermes_record.specs.Order.{TieOrder, later, sameTimestamp}
+use Rattle.hermes_record.specs.Order.{Orders, TieOrder, later, sameTimestamp}
+use Rattle.hermes.specs.Settings.{under}
 use Rattle.hermes_record.specs.Record.{oneOf, freshRecord, nextTimestamp, writtenBy}
 use Rattle.hermes.specs.Guards.{AllYes}
 use Rattle.hermes.specs.Event.{own}
@@ -35,13 +37,13 @@ use Rattle.hermes.proofs.Log.{find-below}
 use Rattle.hermes.proofs.Start.{begun}
 use Rattle.hermes.proofs.Sound.{stay-sound}
 use Rattle.hermes.proofs.Along.{fresh-record}
-use Rattle.hermes.proofs.Progress.{Task, self, stepBy, Alive, Did, did}
+use Rattle.hermes.proofs.Progress.{Task, order, self, stepBy, Alive, Did, did}
 use Rattle.hermes.proofs.Drive.{other-yes, yes-other}
 use Rattle.hermes.proofs.Driver.{others-size}
 use Rattle.hermes.proofs.Missing.{asked, Falls, keeps, Saving, waits, done, Hears, unheard, heard, Stage, unaware, unshown, uncounted, missing}
 use Rattle.hermes.proofs.Mending.{apart, different, any-entry}
 
-module _ (T : Task) (inside : T .i < T .count) (ord : TieOrder (T .wins)) (d : ℕ) (hd : Has (T .set) d) (M t0 : Timestamp) (newer : later (T .wins) M t0 ≡ true) where
+module _ (T : Task) (inside : T .i < T .count) (ord : TieOrder (order T)) (d : ℕ) (hd : Has (T .set) d) (M t0 : Timestamp) (newer : later (order T) M t0 ≡ true) where
   open Task T using (wins, set, i, old)
 
   -- ---- lists of entries
@@ -101,20 +103,20 @@ module _ (T : Task) (inside : T .i < T .count) (ord : TieOrder (T .wins)) (d : �
 
 -- ---- the start, and the theorem
 
-module _ (wins : ℕ → ℕ → Bool) (ord : TieOrder wins) (member : ℕ → Bool) (count : ℕ) (issued : ℕ → ℕ) (g : Group) (s : Started member count issued g) (all : Gathered member issued 0 g)
+module _ (wins : Orders) (settings : Settings) (ord : TieOrder (under wins settings)) (member : ℕ → Bool) (count : ℕ) (issued : ℕ → ℕ) (g : Group) (s : Started member count issued settings g) (all : Gathered member issued 0 g)
     (i d : ℕ) (v : List ℕ) (inside : i < count) (hd : has (issued 0) d ≡ true) (ok : IsAccepted (result wins g (by d (run.write i v)))) where
   abbrev set : ℕ
   set = issued 0
 
   -- before the save, and after it
   abbrev first : Task
-  first = record { wins = wins; count = count; e = 0; set = set; i = i; old = 0 }
+  first = record { wins = wins; settings = settings; count = count; e = 0; set = set; i = i; old = 0 }
 
   abbrev g1 : Group
   g1 = saved wins g d i v
 
   abbrev task : Task
-  task = record { wins = wins; count = count; e = 0; set = set; i = i; old = nextNumber g1 }
+  task = record { wins = wins; settings = settings; count = count; e = 0; set = set; i = i; old = nextNumber g1 }
 
   abbrev t0 : Timestamp
   t0 = freshRecord (lowest set) .timestamp
@@ -122,18 +124,18 @@ module _ (wins : ℕ → ℕ → Bool) (ord : TieOrder wins) (member : ℕ → B
   abbrev M : Timestamp
   M = nextTimestamp t0 d
 
-  newer : later wins M t0 ≡ true
-  newer = greater-later wins M t0 (inl (omega arith))
+  newer : later (under wins settings) M t0 ≡ true
+  newer = greater-later (under wins settings) M t0 (inl (omega arith))
 
   begin : (u : ℕ) → Has set u → recordOf i (g .at u) ≡ freshRecord (lowest set)
-  begin u h = fresh-record member count issued g s i u inside (all u h .0)
+  begin u h = fresh-record member count issued settings g s i u inside (all u h .0)
 
   alive : Alive first g
   alive = record {
     live = λ u h. record {
-      sound = stay-sound wins member count issued g s [] tt u (all u h .0);
+      sound = stay-sound wins member count issued settings g s [] tt u (all u h .0);
       epoch = all u h .1;
-      view = ap (λ (me : Replica). me .view) (begun u set (s .fresh u (all u h .0) .table) (s .fresh u (all u h .0) .store) (g .at u .me) (s .fresh u (all u h .0) .accepted) .identity);
+      view = ap (λ (me : Replica). me .view) (begun u set settings (s .fresh u (all u h .0) .table) (s .fresh u (all u h .0) .store) (g .at u .me) (s .fresh u (all u h .0) .accepted) .identity);
     };
     since = omega arith;
   }
@@ -191,7 +193,7 @@ module _ (wins : ℕ → ℕ → Bool) (ord : TieOrder wins) (member : ℕ → B
       uncounted-all u = rw (here, has-zero u, and-true (other set d u))
 
   bound : (entries : List Entry) → AllHelp wins set i (nextNumber g1) g1 entries → ((m : ℕ) → has set m ≡ true → Shows (after wins g1 entries m) i) → 3 * size set ≤ length entries + 2
-  bound entries h shown = sum (countBelow 16 (other set d)) (n .near) all-missing (none-missing task inside ord d hd M t0 newer (n .sent′) (run wins g1 entries) (n .stage) two shown) (others-size wins set i g1 d hd)
+  bound entries h shown = sum (countBelow 16 (other set d)) (n .near) all-missing (none-missing task inside ord d hd M t0 newer (n .sent′) (run wins g1 entries) (n .stage) two shown) (others-size (under wins settings) set i g1 d hd)
     where
       n : Reaches task inside ord d hd M t0 newer false g1 entries
       n = reaches task inside ord d hd M t0 newer false g1 stage entries h
@@ -204,9 +206,9 @@ module _ (wins : ℕ → ℕ → Bool) (ord : TieOrder wins) (member : ℕ → B
 
 -- the bound 3k − 2 cannot be bettered
 pub tight : Tight
-tight wins ord member count issued g s all i d v inside hd ok entries h shown = omega (arith, bound wins ord member count issued g s all i d v inside hd ok entries h shown)
+tight wins ord member count issued settings g s all i d v inside hd ok entries h shown = omega (arith, bound wins settings (ord (settings .rule)) member count issued g s all i d v inside hd ok entries h shown)
 
 -- so a list that settles such a save has exactly so many entries
 pub exact : Exact
-exact wins ord member count issued g s all i d v inside hd ok entries x =
-    omega (arith, x .few, tight wins ord member count issued g s all i d v inside hd ok entries (x .help) (λ m h. x .shown m h .0))
+exact wins ord member count issued settings g s all i d v inside hd ok entries x =
+    omega (arith, x .few, tight wins ord member count issued settings g s all i d v inside hd ok entries (x .help) (λ m h. x .shown m h .0))

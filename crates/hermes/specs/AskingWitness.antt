@@ -8,7 +8,8 @@ use lib.ListN.{take, drop}
 use Rattle.hermes_record.specs.declared.timestamp.Timestamp.{Timestamp}
 use Rattle.hermes_record.specs.declared.record.State.{State}
 use Rattle.hermes_record.specs.declared.record.State.the-variants.{Valid}
-use Rattle.hermes_record.specs.Order.{higher, later, NotAfter}
+use Rattle.hermes_record.specs.Order.{ties, later, NotAfter}
+use Rattle.hermes.specs.Settings.{under, oldSettings}
 use Rattle.hermes.specs.Node.{Node, recordOf, valueOf}
 use Rattle.hermes.specs.Run.{read, ask, commit, deliver, Entry, by, result, run}
 use Rattle.hermes.specs.Agreement.{Entries, Shows, Alike, after}
@@ -59,7 +60,7 @@ held n = record { state = recordOf 0 n .state; timestamp = recordOf 0 n .timesta
 
 -- what laptop k has after the first entries of the list
 abbrev pub heldAfter : ℕ → ℕ → Held
-heldAfter j k = held (after higher group (take j together) k)
+heldAfter j k = held (after ties group (take j together) k)
 
 abbrev pub b1 : Held
 b1 = record { state = Valid; timestamp = stamp 1 1; value = 66 ∷ 49 ∷ [] }
@@ -74,12 +75,12 @@ behind j n = take n (drop (suc j) together)
 -- the premises of a claim of `Opened`: entry j is k's ask, which hands out t and text; after n further entries comes b, k's too, and answers this number
 pub record AsksThen (j n k : ℕ) (t : Timestamp) (text : List ℕ) (b : Entry) (number : ℕ) : Type 0 where
   pub apart : Apart together (upTo j) (behind j n) (by k (ask 0)) b
-  pub hands : HandsOut higher (run higher group (upTo j)) (by k (ask 0)) 0 t text
-  pub answers : RefusedBy number (result higher (run higher group (upTo j ++ by k (ask 0) ∷ behind j n)) b)
+  pub hands : HandsOut ties (run ties group (upTo j)) (by k (ask 0)) 0 t text
+  pub answers : RefusedBy number (result ties (run ties group (upTo j ++ by k (ask 0) ∷ behind j n)) b)
 
 -- 0's ask at 18, and the first m of what it finds until its commit at 21
 abbrev pub point : ℕ → Node
-point m = after higher group (upTo 18 ++ by 0 (ask 0) ∷ take m (behind 18 2)) 0
+point m = after ties group (upTo 18 ++ by 0 (ask 0) ∷ take m (behind 18 2)) 0
 
 -- what the list shows; `proofs/AskingPremises` computes it
 pub record AskingWitness : Type 0 where
@@ -91,14 +92,14 @@ pub record AskingWitness : Type 0 where
   pub saves : AsksThen 18 2 0 (stamp 1 1) (66 ∷ 49 ∷ []) (by 0 (commit 0 (stamp 1 1) (67 ∷ 50 ∷ []))) 0
   pub stampKept : (m : ℕ) → recordOf 0 (point m) .timestamp ≡ stamp 1 1
   pub shown : (m : ℕ) → Shows (point m) 0
-  pub bytesKept : (m : ℕ) → Alike 0 (point m) (after higher group (upTo 18) 0)
+  pub bytesKept : (m : ℕ) → Alike 0 (point m) (after ties group (upTo 18) 0)
   -- `newer`: 2 asks at 2, and its commit at 15 is refused by 26
   pub late : AsksThen 2 12 2 (stamp 0 0) [] (by 2 (commit 0 (stamp 0 0) (67 ∷ []))) 26
-  pub newer : later higher (recordOf 0 (after higher group (upTo 2 ++ by 2 (ask 0) ∷ behind 2 12) 2) .timestamp) (stamp 0 0) ≡ true
+  pub newer : later (under ties oldSettings) (recordOf 0 (after ties group (upTo 2 ++ by 2 (ask 0) ∷ behind 2 12) 2) .timestamp) (stamp 0 0) ≡ true
   -- `forward`: what 0 asks for at 0 and at 18 rises; and its read at 20, under the timestamp of 18, hands out that text and no other
   pub again : AsksThen 0 17 0 (stamp 0 0) [] (by 0 (ask 0)) 0
-  pub forward : NotAfter higher (stamp 0 0) (stamp 1 1)
-  pub rereads : HandsOut higher (run higher group (upTo 20)) (by 0 (read 0)) 0 (stamp 1 1) (66 ∷ 49 ∷ [])
-  pub oneText : (text : List ℕ) → HandsOut higher (run higher group (upTo 20)) (by 0 (read 0)) 0 (stamp 1 1) text → text ≡ 66 ∷ 49 ∷ []
+  pub forward : NotAfter (under ties oldSettings) (stamp 0 0) (stamp 1 1)
+  pub rereads : HandsOut ties (run ties group (upTo 20)) (by 0 (read 0)) 0 (stamp 1 1) (66 ∷ 49 ∷ [])
+  pub oneText : (text : List ℕ) → HandsOut ties (run ties group (upTo 20)) (by 0 (read 0)) 0 (stamp 1 1) text → text ≡ 66 ∷ 49 ∷ []
   -- and the premise of `NobodyWaits` of Wish 1: asks and commits are no views
   pub quiet : (k : ℕ) → NoView k together

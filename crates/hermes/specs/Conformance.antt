@@ -13,11 +13,13 @@ use Rattle.hermes.specs.declared.message.Message.{Message}
 use Rattle.hermes.specs.declared.message.Message.the-variants.{Inv, Ack, Val}
 use Rattle.hermes.specs.declared.message.Outgoing.the-variants.{None}
 use Rattle.hermes.specs.declared.message.Received.{Received}
+use Rattle.hermes.specs.declared.event.Settings.{Settings}
 use Rattle.hermes.specs.declared.event.Event.{Event}
 use Rattle.hermes.specs.declared.event.Event.the-variants.{Read, Ask, Write, Commit, Replay, Deliver, Validate, Resend}
 use Rattle.hermes.specs.declared.event.Admission.the-variants.{Admitted}
 use Rattle.hermes_record.specs.Members.{has}
-use Rattle.hermes_record.specs.Order.{higher}
+use Rattle.hermes_record.specs.Order.{Orders, ties}
+use Rattle.hermes.specs.Settings.{under}
 use Rattle.hermes.specs.Guards.{Question, AllYes, ask, question1, question2, question3, question4, question5, question8, question12}
 use Rattle.hermes.specs.Event.{numberOf, sentBy}
 use Rattle.hermes.specs.Node.{Node, recordOf, valueOf, apply, viewed, newcomer, start}
@@ -63,13 +65,13 @@ pub record ViewFollows (n : Node) (epoch alive : ℕ) : Type 0 where
   pub refused : numberOf (viewed n epoch alive .answer) ≢ 0 → (viewed n epoch alive .node ≡ n) × (sentBy (viewed n epoch alive .answer) ≡ None)
 
 -- a fresh start: 1, 2 and 3 are document 01's own, and every record is as HInit says
-pub record StartFollows (k view : ℕ) (table : List Record) (store : List ℕ) : Type 0 where
-  pub accepted : (start k view table store .admission ≡ Admitted (newcomer k view))
-      ↔ AllYes (question1 (newcomer k view) ∷ question2 (length table) (length store) ∷ question3 (newcomer k view) ∷ [])
-  pub does : start k view table store .admission ≡ Admitted (newcomer k view) → (i : ℕ) → i < length table
-      → HInit view (varsOf i (record { me = newcomer k view; table = start k view table store .table; store = start k view table store .store }))
+pub record StartFollows (k view : ℕ) (settings : Settings) (table : List Record) (store : List ℕ) : Type 0 where
+  pub accepted : (start k view settings table store .admission ≡ Admitted (newcomer k view settings))
+      ↔ AllYes (question1 (newcomer k view settings) ∷ question2 (length table) (length store) ∷ question3 (newcomer k view settings) ∷ [])
+  pub does : start k view settings table store .admission ≡ Admitted (newcomer k view settings) → (i : ℕ) → i < length table
+      → HInit view (varsOf i (record { me = newcomer k view settings; table = start k view settings table store .table; store = start k view settings table store .store }))
 
-module _ (wins : ℕ → ℕ → Bool) where
+module _ (wins : Orders) where
   -- demand 2, of one event: accepted exactly when permitted, and then the source's step
   pub record Follows (n : Node) (i : ℕ) (e : Event) (v : List ℕ) (own : List Question) (guard : Vars → Type 0) (action : Vars → Vars → Sending → Type 0) : Type 0 where
     pub accepted : (numberOf (apply wins n i e v .answer) ≡ 0) ↔ (AllYes own × guard (varsOf i n))
@@ -79,14 +81,14 @@ module _ (wins : ℕ → ℕ → Bool) where
 
   -- demand 2, of every event; that a refused start changes nothing stands in `Frame`, StartFrame
   pub record Demand2By : Type 0 where
-    pub start : (k view : ℕ) (table : List Record) (store : List ℕ) → StartFollows k view table store
+    pub start : (k view : ℕ) (settings : Settings) (table : List Record) (store : List ℕ) → StartFollows k view settings table store
     pub read : (n : Node) (i : ℕ) (v : List ℕ) → Follows n i Read v (fiveAnd n i []) HReadGuard HRead
     pub ask : (n : Node) (i : ℕ) (v : List ℕ) → Follows n i Ask v (fiveAnd n i []) HReadGuard HRead
     pub write : (n : Node) (i : ℕ) (v : List ℕ) → Follows n i Write v (fiveAnd n i (question8 (length v) ∷ [])) HWriteGuard (HWrite (n .me) i v)
     pub commit : (n : Node) (i : ℕ) (t : Timestamp) (v : List ℕ) → Follows n i (Commit t) v (fiveAnd n i (question8 (length v) ∷ [])) (HCommitGuard t) (HWrite (n .me) i v)
     pub replay : (n : Node) (i : ℕ) (v : List ℕ) → Follows n i Replay v (fiveAnd n i []) (HReplayWriteWidenedGuard (n .me)) (HReplayWrite (n .me) i)
     pub inv : (n : Node) (i sender epoch : ℕ) (t : Timestamp) (v : List ℕ)
-        → Follows n i (Deliver (message sender epoch (Inv t))) v (delivered n i (message sender epoch (Inv t)) v) (λ s. HRcvInvGuard (n .me) sender epoch) (HRcvInv wins (n .me) i sender t v)
+        → Follows n i (Deliver (message sender epoch (Inv t))) v (delivered n i (message sender epoch (Inv t)) v) (λ s. HRcvInvGuard (n .me) sender epoch) (HRcvInv (under wins (n .me .settings)) (n .me) i sender t v)
     pub ack : (n : Node) (i sender epoch : ℕ) (t : Timestamp) (v : List ℕ)
         → Follows n i (Deliver (message sender epoch (Ack t))) v (delivered n i (message sender epoch (Ack t)) v) (HRcvAckGuard (n .me) sender epoch t) (HRcvAckThenSendVals (n .me) i sender)
     pub val : (n : Node) (i sender epoch : ℕ) (t : Timestamp) (v : List ℕ)
@@ -95,6 +97,6 @@ module _ (wins : ℕ → ℕ → Bool) where
     pub resend : (n : Node) (i : ℕ) (v : List ℕ) → Follows n i Resend v (fiveAnd n i []) (ResendGuard (n .me)) (Resent (n .me) i)
     pub view : (n : Node) (epoch alive : ℕ) → ViewFollows n epoch alive
 
--- demand 2, with document 01's order of ties; `proofs/Conformance` proves it
+-- demand 2, with the papers' orders of ties; `proofs/Conformance` proves it
 abbrev pub Demand2 : Type 0
-Demand2 = Demand2By higher
+Demand2 = Demand2By ties

@@ -18,7 +18,8 @@ use Rattle.hermes.specs.declared.event.Answer.{Answer}
 use Rattle.hermes.specs.declared.event.Answer.the-variants.{Accepted, Refused}
 use Rattle.hermes.specs.declared.event.Moved.{Moved}
 use Rattle.hermes_record.specs.Members.{with, without}
-use Rattle.hermes_record.specs.Order.{later}
+use Rattle.hermes_record.specs.Order.{Orders, later}
+use Rattle.hermes.specs.Settings.{under}
 use Rattle.hermes_record.specs.Record.{writtenBy, replayed, invalidated, acknowledged, validated}
 use Rattle.hermes.specs.Store.{valueAt, place}
 use Rattle.hermes.specs.Guards.{
@@ -138,10 +139,10 @@ resent me i state.Replay t = send me i (Inv t)
 abbrev pub resendStep : Replica → ℕ → Record → Step
 resendStep me i r = record { after = r; stored = kept; sent = resent me i (r .state) (r .timestamp) }
 
-module _ (wins : ℕ → ℕ → Bool) where
-  -- 01, Deliver: the step of each kind of message
+module _ (wins : Orders) where
+  -- 01, Deliver: the step of each kind of message. 02, Wish 6: stamps are compared by the rule of the identity
   abbrev pub deliverStep : Replica → ℕ → Record → ℕ → Message → List ℕ → Step
-  deliverStep me i r sender (Inv t) v = invStep (later wins t (r .timestamp)) me i r t sender v
+  deliverStep me i r sender (Inv t) v = invStep (later (under wins (me .settings)) t (r .timestamp)) me i r t sender v
   deliverStep me i r sender (Ack t) v = ackStep (completes me r sender) me i r sender
   deliverStep me i r sender (Val t) v = valStep r
 
@@ -189,7 +190,7 @@ storedBy zero i store s = storing i (s .stored) store
 storedBy (suc k) i store s = store
 
 -- An event on record i, r, of replica me with so many records and bytes of store: the answer, and the record after. v is the value that comes with the event.
-unfoldable pub moved : (ℕ → ℕ → Bool) → Replica → ℕ → ℕ → ℕ → Record → Event → List ℕ → Moved
+unfoldable pub moved : Orders → Replica → ℕ → ℕ → ℕ → Record → Event → List ℕ → Moved
 moved wins me count bytes i r e v = movedBy (refusal me count bytes i r e (length v)) r (step wins me i r e v)
 
 -- the answer and the record, and the whole store
@@ -202,7 +203,7 @@ abbrev pub decide : ℕ → ℕ → Record → List ℕ → Step → Effect
 decide k i r store s = record { moved = movedBy k r s; store = storedBy k i store s }
 
 -- the same event with its store
-unfoldable pub effect : (ℕ → ℕ → Bool) → Replica → ℕ → ℕ → Record → List ℕ → Event → List ℕ → Effect
+unfoldable pub effect : Orders → Replica → ℕ → ℕ → Record → List ℕ → Event → List ℕ → Effect
 effect wins me count i r store e v =
     decide (refusal me count (length store) i r e (length v)) i r store (step wins me i r e v)
 

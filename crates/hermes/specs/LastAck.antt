@@ -12,8 +12,10 @@ use Rattle.hermes.specs.declared.message.Message.the-variants.{Ack, Val}
 use Rattle.hermes.specs.declared.message.Outgoing.the-variants.{None}
 use Rattle.hermes.specs.declared.message.Received.{Received}
 use Rattle.hermes.specs.declared.event.Replica.{Replica}
+use Rattle.hermes.specs.declared.event.Settings.{Settings}
 use Rattle.hermes.specs.declared.event.Event.the-variants.{Deliver}
 use Rattle.hermes_record.specs.Members.{has}
+use Rattle.hermes_record.specs.Order.{Orders}
 use Rattle.hermes.specs.Event.{send, numberOf, sentBy}
 use Rattle.hermes.specs.Node.{Node, Outcome, recordOf, apply}
 use Rattle.hermes.specs.Run.{Action, read, ask, write, commit, replay, deliver, validate, resend, view, Entry, Group}
@@ -46,7 +48,7 @@ pub record AckDone (n : Node) (i sender : ℕ) (o : Outcome) : Type 0 where
 
 -- every accepted ACK, on every laptop; `proofs/LastAck` proves it
 abbrev pub LastAckSettles : Type 0
-LastAckSettles = (wins : ℕ → ℕ → Bool) (n : Node) (i : ℕ) (m : Received) (t : Timestamp) (v : List ℕ) → m .message ≡ Ack t
+LastAckSettles = (wins : Orders) (n : Node) (i : ℕ) (m : Received) (t : Timestamp) (v : List ℕ) → m .message ≡ Ack t
     → numberOf (apply wins n i (Deliver m) v .answer) ≡ 0 → AckDone n i (m .sender) (apply wins n i (Deliver m) v)
 
 -- ---- lists of entries
@@ -75,7 +77,7 @@ NoView k (a ∷ rest) = (a .who ≡ k → IsView (a .what) → ⊥) × NoView k 
 -- No record waits although everyone has replied: not after a fresh start, and not after any list of entries in which its laptop gets no view, if
 -- it did not before. So the separate Validate "remains for a record whose last missing laptop was struck off"; `proofs/LastAck` proves it
 pub record NobodyWaits : Type 0 where
-  pub fresh : (member : ℕ → Bool) (count : ℕ) (issued : ℕ → ℕ) (g : Group) → Started member count issued g
+  pub fresh : (member : ℕ → Bool) (count : ℕ) (issued : ℕ → ℕ) (settings : Settings) (g : Group) → Started member count issued settings g
       → (i k : ℕ) → i < count → member k ≡ true → AllReplied i (g .at k) → ⊥
-  pub later : (wins : ℕ → ℕ → Bool) (g : Group) (i k : ℕ) → (AllReplied i (g .at k) → ⊥)
+  pub later : (wins : Orders) (g : Group) (i k : ℕ) → (AllReplied i (g .at k) → ⊥)
       → (entries : List Entry) → NoView k entries → AllReplied i (after wins g entries k) → ⊥

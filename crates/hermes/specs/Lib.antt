@@ -2,6 +2,7 @@
 pub mod Kind
 pub mod Store
 pub mod Guards
+pub mod Settings
 pub mod Event
 pub mod Node
 pub mod Run
@@ -24,6 +25,7 @@ pub mod Witness
 pub mod SecondWitness
 pub mod SettlingWitness
 pub mod AskingWitness
+pub mod TieWitness
 pub mod Worked
 pub mod Limits
 pub mod Rows

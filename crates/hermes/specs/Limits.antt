@@ -11,6 +11,7 @@ use Rattle.hermes.specs.declared.message.Message.the-variants.{Inv, Ack,
 use Rattle.hermes.specs.declared.event.Replica.{Replica}
 use Rattle.hermes.specs.declared.event.Event.{Event}
 use Rattle.hermes.specs.declared.event.Event.the-variants.{Read, Ask, Write, Commit, Replay, Deliver, Validate, Resend}
+use Rattle.hermes.specs.Settings.{oldSettings}
 use Rattle.hermes.specs.Worked.{Row, asks, asksStart, asksView}
 
 -- ---- who, what and by whom
@@ -20,9 +21,9 @@ abbrev set : List ℕ → ℕ
 set [] = 0
 set (k ∷ ks) = 2 ^ k + set ks
 
--- a laptop of this number and view, at epoch 7
+-- a laptop of this number and view, at epoch 7, in a group with the old rule: no question but 27 looks at the rule
 abbrev laptop : ℕ → ℕ → Replica
-laptop number view = record { number = number; epoch = 7; view = view }
+laptop number view = record { number = number; epoch = 7; view = view; settings = oldSettings }
 
 abbrev group : ℕ
 group = set (1 ∷ 2 ∷ 5 ∷ [])

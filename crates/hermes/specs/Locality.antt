@@ -1,20 +1,22 @@
 -- 01: "Two laptops equal in number, epoch, view, count, store length and one record with its 192 store bytes answer an event on that
--- record alike, however their other records differ."
+-- record alike, however their other records differ." 02, Wish 6: those "that document 01 counts as equal now also share this rule and each group
+-- setting added later".
 use Prim.Native.Nat.{ℕ}
 use mathlib.Core.Path.{_≡_}
 use mathlib.Core.Bool.{Bool}
 use mathlib.Core.List.{List}
 use lib.ListN.{length}
 use Rattle.hermes_record.specs.declared.record.Record.{Record}
+use Rattle.hermes.specs.declared.event.Settings.{Settings}
 use Rattle.hermes.specs.declared.event.Event.{Event}
-use Rattle.hermes_record.specs.Order.{higher}
+use Rattle.hermes_record.specs.Order.{Orders, ties}
 use Rattle.hermes.specs.Store.{slot}
 use Rattle.hermes.specs.Event.{sentBy}
 use Rattle.hermes.specs.Frame.{EventFrame, ViewFrame, StartFrame}
 use Rattle.hermes.specs.Node.{Node, Outcome, recordOf, leaving, apply, read, asked}
 
 pub record EqualAt (i : ℕ) (n m : Node) : Type 0 where
-  -- number, epoch and view
+  -- number, epoch, view and settings
   pub identity : n .me ≡ m .me
   pub count : length (n .table) ≡ length (m .table)
   pub room : length (n .store) ≡ length (m .store)
@@ -32,7 +34,7 @@ pub record AnswersAlike (i : ℕ) (o p : Outcome) : Type 0 where
   pub after : EqualAt i (o .node) (p .node)
 
 -- 01, "answer an event on that record alike", for every event and value
-abbrev pub Locality : (ℕ → ℕ → Bool) → Type 0
+abbrev pub Locality : Orders → Type 0
 Locality wins = (i : ℕ) (n m : Node) → EqualAt i n m → (e : Event) (v : List ℕ) → AnswersAlike i (apply wins n i e v) (apply wins m i e v)
 
 -- the same of the part that a read hands out
@@ -44,14 +46,14 @@ abbrev pub AskLocality : Type 0
 AskLocality = (i : ℕ) (n m : Node) → EqualAt i n m → asked n i ≡ asked m i
 
 -- demand 1: what an event changes, and what it looks at
-pub record Demand1By (wins : ℕ → ℕ → Bool) : Type 0 where
+pub record Demand1By (wins : Orders) : Type 0 where
   pub event : (n : Node) (i : ℕ) (e : Event) (v : List ℕ) → EventFrame wins n i e v
   pub view : (n : Node) (epoch set : ℕ) → ViewFrame n epoch set
-  pub start : (k set : ℕ) (table : List Record) (store : List ℕ) → StartFrame k set table store
+  pub start : (k set : ℕ) (settings : Settings) (table : List Record) (store : List ℕ) → StartFrame k set settings table store
   pub locality : Locality wins
   pub readLocality : ReadLocality
   pub askLocality : AskLocality
 
--- demand 1, with document 01's order of ties; `proofs/Locality` proves it
+-- demand 1, with the papers' orders of ties; `proofs/Locality` proves it
 abbrev pub Demand1 : Type 0
-Demand1 = Demand1By higher
+Demand1 = Demand1By ties

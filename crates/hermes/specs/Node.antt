@@ -7,11 +7,13 @@ use Rattle.hermes_record.specs.declared.record.Record.{Record}
 use Rattle.hermes.specs.declared.message.Outgoing.{Outgoing}
 use Rattle.hermes.specs.declared.message.Outgoing.the-variants.{None, Sent}
 use Rattle.hermes.specs.declared.event.Replica.{Replica}
+use Rattle.hermes.specs.declared.event.Settings.{Settings}
 use Rattle.hermes.specs.declared.event.Event.{Event}
 use Rattle.hermes.specs.declared.event.Answer.{Answer}
 use Rattle.hermes.specs.declared.event.Admission.{Admission}
 use Rattle.hermes.specs.declared.event.Admission.the-variants.{Admitted, Refused}
 use Rattle.hermes_record.specs.Members.{lowest}
+use Rattle.hermes_record.specs.Order.{Orders}
 use Rattle.hermes_record.specs.Record.{freshRecord}
 use Rattle.hermes.specs.Store.{valueAt}
 use Rattle.hermes.specs.Guards.{Question, firstNo, question1, question2, question3, question18, question19}
@@ -56,11 +58,11 @@ pub record Outcome : Type 0 where
 -- ---- the events on one record
 
 -- 01, an event's questions and step, on record i of a replica
-abbrev pub effectOf : (ℕ → ℕ → Bool) → Node → ℕ → Event → List ℕ → Effect
+abbrev pub effectOf : Orders → Node → ℕ → Event → List ℕ → Effect
 effectOf wins n i e v = effect wins (n .me) (length (n .table)) i (recordOf i n) (n .store) e v
 
 -- an event on record i, with the value v: the moved record is put back into the table
-unfoldable pub apply : (ℕ → ℕ → Bool) → Node → ℕ → Event → List ℕ → Outcome
+unfoldable pub apply : Orders → Node → ℕ → Event → List ℕ → Outcome
 apply wins n i e v = record {
   answer = effectOf wins n i e v .moved .answer;
   node = record { me = n .me; table = set (n .table) i (effectOf wins n i e v .moved .after); store = effectOf wins n i e v .store };
@@ -91,9 +93,10 @@ abbrev pub admissionNumber : Admission → ℕ
 admissionNumber (Admitted me) = 0
 admissionNumber (Refused k) = k
 
--- 01, "A fresh start takes number, view and lent memory, and asks questions 1, 2 and 3 below. It sets epoch 0"
-abbrev pub newcomer : ℕ → ℕ → Replica
-newcomer number view = record { number = number; epoch = 0; view = view }
+-- 01, "A fresh start takes number, view and lent memory, and asks questions 1, 2 and 3 below. It sets epoch 0". 02, Wish 6: the
+-- settings are "fixed at a group's start"
+abbrev pub newcomer : ℕ → ℕ → Settings → Replica
+newcomer number view settings = record { number = number; epoch = 0; view = view; settings = settings }
 
 -- 01, fresh start: "asks questions 1, 2 and 3"
 abbrev pub startQuestions : Replica → ℕ → ℕ → List Question
@@ -106,12 +109,12 @@ pub record Start : Type 0 where
   pub store : List ℕ
 
 -- a fresh start with so many records and bytes of store: the number of its first no
-abbrev pub startRefusal : ℕ → ℕ → ℕ → ℕ → ℕ
-startRefusal number view count bytes = firstNo (startQuestions (newcomer number view) count bytes)
+abbrev pub startRefusal : ℕ → ℕ → Settings → ℕ → ℕ → ℕ
+startRefusal number view settings count bytes = firstNo (startQuestions (newcomer number view settings) count bytes)
 
 -- the admission of that start
-abbrev pub admit : ℕ → ℕ → ℕ → ℕ → Admission
-admit number view count bytes = admissionOf (startRefusal number view count bytes) (newcomer number view)
+abbrev pub admit : ℕ → ℕ → Settings → ℕ → ℕ → Admission
+admit number view settings count bytes = admissionOf (startRefusal number view settings count bytes) (newcomer number view settings)
 
 -- 01, fresh start: "both stamps version 0 with the lowest number in the view; that number as last writer"
 abbrev pub firstRecord : ℕ → Record
@@ -127,17 +130,17 @@ begin zero me table store = record {
 begin (suc k) me table store = record { admission = admissionOf (suc k) me; table = table; store = store }
 
 -- 01, "A fresh start takes number, view and lent memory"
-unfoldable pub start : ℕ → ℕ → List Record → List ℕ → Start
-start number view table store =
-    begin (startRefusal number view (length table) (length store)) (newcomer number view) table store
+unfoldable pub start : ℕ → ℕ → Settings → List Record → List ℕ → Start
+start number view settings table store =
+    begin (startRefusal number view settings (length table) (length store)) (newcomer number view settings) table store
 
 -- 01, "A view event asks only 1 and 3 of these", then 18 and 19
 abbrev pub viewQuestions : Replica → ℕ → ℕ → List Question
 viewQuestions me epoch view = question1 me ∷ question3 me ∷ question18 me epoch ∷ question19 me view ∷ []
 
--- 01, View: epoch and view are replaced
+-- 01, View: epoch and view are replaced; the settings stay
 unfoldable pub view : Replica → ℕ → ℕ → Admission
-view me epoch set = admissionOf (firstNo (viewQuestions me epoch set)) (record { number = me .number; epoch = epoch; view = set })
+view me epoch set = admissionOf (firstNo (viewQuestions me epoch set)) (record { number = me .number; epoch = epoch; view = set; settings = me .settings })
 
 -- 01, View: records, with acknowledgements already in, are untouched
 unfoldable pub viewed : Node → ℕ → ℕ → Outcome

@@ -9,8 +9,10 @@ use Rattle.hermes_record.specs.declared.timestamp.Timestamp.{Timestamp}
 use Rattle.hermes_record.specs.declared.record.State.the-variants.{InvalidWrite}
 use Rattle.hermes.specs.declared.message.Message.the-variants.{Inv, Ack, Val}
 use Rattle.hermes.specs.declared.message.Received.{Received}
+use Rattle.hermes.specs.declared.event.Settings.{Settings}
 use Rattle.hermes.specs.declared.event.Event.the-variants.{Read, Replay, Deliver, Validate, Resend}
-use Rattle.hermes_record.specs.Order.{TieOrder, later}
+use Rattle.hermes_record.specs.Order.{Orders, TieOrders, later}
+use Rattle.hermes.specs.Settings.{under}
 use Rattle.hermes.specs.Event.{send, numberOf, sentBy}
 use Rattle.hermes.specs.Node.{Node, recordOf, apply}
 use Rattle.hermes.specs.Run.{Entry, Group, replay, result, advance, run}
@@ -21,12 +23,12 @@ use Rattle.hermes.specs.LastAck.{AllReplied}
 abbrev pub replayOf : ℕ → ℕ → Entry
 replayOf k i = record { who = k; what = replay i }
 
-module _ (wins : ℕ → ℕ → Bool) where
+module _ (wins : Orders) where
   -- ---- "The laptop's own overtaken save is given up"
 
   -- the save of timestamp t is given up for record i of n: the record is past it, and no ACK of it is accepted
   pub record Past (i : ℕ) (t : Timestamp) (n : Node) : Type 0 where
-    pub overtaken : later wins (recordOf i n .timestamp) t ≡ true
+    pub overtaken : later (under wins (n .me .settings)) (recordOf i n .timestamp) t ≡ true
     pub uncounted : (m : Received) (v : List ℕ) → m .message ≡ Ack t → numberOf (apply wins n i (Deliver m) v .answer) ≢ 0
 
   -- laptop k, whose own save of record i was overtaken in these entries, replays the record
@@ -36,7 +38,7 @@ module _ (wins : ℕ → ℕ → Bool) where
 
   -- then that save, the one of its last-write timestamp, is given up, and stays so after whatever follows
   abbrev pub GivenUpBy : Type 0
-  GivenUpBy = (member : ℕ → Bool) (count : ℕ) (issued : ℕ → ℕ) (g : Group) → Started member count issued g
+  GivenUpBy = (member : ℕ → Bool) (count : ℕ) (issued : ℕ → ℕ) (settings : Settings) (g : Group) → Started member count issued settings g
       → (before : List Entry) (i k : ℕ) → i < count → member k ≡ true → GivesUp g before i k
       → (rest : List Entry) → Past i (recordOf i (after wins g before k) .written) (after wins (advance wins (run wins g before) (replayOf k i)) rest k)
 
@@ -53,13 +55,13 @@ module _ (wins : ℕ → ℕ → Bool) where
 
   -- one of these holds of every record of a laptop in its own view: none hangs on a laptop outside it, or on the own overtaken save
   abbrev pub NobodyHangsBy : Type 0
-  NobodyHangsBy = (member : ℕ → Bool) (count : ℕ) (issued : ℕ → ℕ) (g : Group) → Started member count issued g
+  NobodyHangsBy = (member : ℕ → Bool) (count : ℕ) (issued : ℕ → ℕ) (settings : Settings) (g : Group) → Started member count issued settings g
       → (entries : List Entry) → Entries member issued entries
       → (i k : ℕ) → i < count → member k ≡ true → Sees (after wins g entries k) k → Turn (after wins g entries k) i
 
--- both, over every strict total order of ties, of which the second asks nothing; `proofs/Overtaken` proves them
+-- both, over every strict total order of ties for each rule, of which the second asks nothing; `proofs/Overtaken` proves them
 abbrev pub GivenUp : Type 0
-GivenUp = (wins : ℕ → ℕ → Bool) → TieOrder wins → GivenUpBy wins
+GivenUp = (wins : Orders) → TieOrders wins → GivenUpBy wins
 
 abbrev pub NobodyHangs : Type 0
-NobodyHangs = (wins : ℕ → ℕ → Bool) → NobodyHangsBy wins
+NobodyHangs = (wins : Orders) → NobodyHangsBy wins

@@ -7,8 +7,10 @@ use lib.Dec.{ltb}
 use lib.ListN.{replicate}
 use Rattle.hermes_record.specs.declared.timestamp.Timestamp.{Timestamp}
 use Rattle.hermes_record.specs.declared.record.Record.{Record}
-use Rattle.hermes_record.specs.Order.{higher}
+use Rattle.hermes.specs.declared.event.Settings.{Settings}
+use Rattle.hermes_record.specs.Order.{ties}
 use Rattle.hermes_record.specs.Record.{freshRecord}
+use Rattle.hermes.specs.Settings.{oldSettings}
 use Rattle.hermes.specs.Event.{numberOf}
 use Rattle.hermes.specs.Node.{Node, newcomer, start}
 use Rattle.hermes.specs.Run.{Action, read, ask, write, commit, replay, deliver, validate, resend, view, Entry, by, Group, Result, nothing, event, result, advance}
@@ -26,13 +28,21 @@ issued (suc epoch) = 3
 abbrev pub lentTable : List Record
 lentTable = freshRecord 9 ∷ []
 
--- laptop k as its start leaves it there
-abbrev pub fresh : ℕ → Node
-fresh k = record { me = newcomer k 7; table = start k 7 lentTable (replicate 192 0) .table; store = start k 7 lentTable (replicate 192 0) .store }
+-- laptop k as its start leaves it there, in a group with these settings
+abbrev pub fresh : Settings → ℕ → Node
+fresh settings k = record {
+  me = newcomer k 7 settings;
+  table = start k 7 settings lentTable (replicate 192 0) .table;
+  store = start k 7 settings lentTable (replicate 192 0) .store;
+}
 
 -- all of them, with nothing sent
+abbrev pub groupWith : Settings → Group
+groupWith settings = record { at = fresh settings; log = [] }
+
+-- the group of these lists: 02, Wish 6, the "playing program keep[s] the old rule"
 abbrev pub group : Group
-group = record { at = fresh; log = [] }
+group = groupWith oldSettings
 
 -- 01, "The playing program": write 0 A1, deliver 1 0, deliver 2 0, deliver 0 1, deliver 0 2, validate 0, deliver 1 3, read 1, read 2
 abbrev pub played : List Entry
@@ -48,7 +58,7 @@ told (event o) = numberOf (o .answer) ∷ []
 -- the numbers that a list of entries answers
 abbrev pub answers : Group → List Entry → List ℕ
 answers g [] = []
-answers g (a ∷ rest) = told (result higher g a) ++ answers (advance higher g a) rest
+answers g (a ∷ rest) = told (result ties g a) ++ answers (advance ties g a) rest
 
 -- ---- every kind of entry, accepted and refused
 

@@ -11,8 +11,9 @@ use Rattle.hermes_record.specs.declared.record.Record.{Record}
 use Rattle.hermes_record.specs.declared.record.State.{State}
 use Rattle.hermes_record.specs.declared.record.State.the-variants.{Valid, Invalid, InvalidWrite, Write, Replay}
 use Rattle.hermes_record.specs.Members.{has, allBelow, countBelow, othersIn}
-use Rattle.hermes_record.specs.Order.{TieOrder, later}
+use Rattle.hermes_record.specs.Order.{Orders, TieOrders, later}
 use Rattle.hermes_record.specs.Record.{oneOf}
+use Rattle.hermes.specs.Settings.{under}
 use Rattle.hermes.specs.Node.{recordOf}
 use Rattle.hermes.specs.Run.{replay, deliver, validate, resend, Entry, by, Group}
 use Rattle.hermes.specs.Settling.{Settled, FromEvery}
@@ -63,7 +64,7 @@ other set d u = has set u && not (eqb u d)
 abbrev pub due : (set d acks : ℕ) → ℕ → Bool
 due set d acks u = other set d u && not (has acks u)
 
--- ---- the recipe, for record i of the laptops of the view `set`, which stand as in g
+-- ---- the recipe, for record i of the laptops of the view `set`, which stand as in g; `wins` is their group's order of ties
 
 module _ (wins : ℕ → ℕ → Bool) (set i : ℕ) (g : Group) where
   -- record i of laptop u
@@ -133,9 +134,10 @@ module _ (wins : ℕ → ℕ → Bool) (set i : ℕ) (g : Group) where
 
 -- it settles the record, so that the list of `Settling` can be computed
 abbrev pub RecipeSettles : Type 0
-RecipeSettles = (wins : ℕ → ℕ → Bool) → TieOrder wins → FromEvery wins (λ set i g. Settled wins set i g (recipe wins set i g))
+RecipeSettles = (wins : Orders) → TieOrders wins → FromEvery wins (λ settings set i g. Settled wins settings set i g (recipe (under wins settings) set i g))
 
 -- and so does any other driver's list; `proofs/Settling` proves both
 abbrev pub AnyDriverSettles : Type 0
-AnyDriverSettles = (wins : ℕ → ℕ → Bool) → TieOrder wins → FromEvery wins (λ set i g. (d : ℕ)
-    → (goesOn wins set i g d || (saysAgain wins set i g d || takesOver wins set i g d)) ≡ true → Settled wins set i g (drive wins set i g d (recordOf i (g .at d) .state)))
+AnyDriverSettles = (wins : Orders) → TieOrders wins → FromEvery wins (λ settings set i g. (d : ℕ)
+    → (goesOn (under wins settings) set i g d || (saysAgain (under wins settings) set i g d || takesOver (under wins settings) set i g d)) ≡ true
+    → Settled wins settings set i g (drive (under wins settings) set i g d (recordOf i (g .at d) .state)))

@@ -13,6 +13,7 @@ use Rattle.hermes.specs.declared.event.Replica.{Replica}
 use Rattle.hermes.specs.declared.event.Event.{Event}
 use Rattle.hermes.specs.declared.event.Event.the-variants.{Deliver}
 use Rattle.hermes_record.specs.Members.{has}
+use Rattle.hermes_record.specs.Order.{Orders}
 use Rattle.hermes.specs.Event.{sentBy, recipients}
 use Rattle.hermes.specs.Node.{Node, apply}
 
@@ -41,15 +42,15 @@ GoesTo me e (Sent (Ack t) h) to = ForItsSender me e t to
 GoesTo me e (Sent (Val t) h) to = Exactly to (Other me)
 
 -- what leaves an event on record i, with the value v
-abbrev pub leaves : (ℕ → ℕ → Bool) → Node → ℕ → Event → List ℕ → Outgoing
+abbrev pub leaves : Orders → Node → ℕ → Event → List ℕ → Outgoing
 leaves wins n i e v = sentBy (apply wins n i e v .answer)
 
 -- for every replica, sound or not, and every input
 abbrev pub WhoGets : Type 0
-WhoGets = (wins : ℕ → ℕ → Bool) (n : Node) (i : ℕ) (e : Event) (v : List ℕ)
+WhoGets = (wins : Orders) (n : Node) (i : ℕ) (e : Event) (v : List ℕ)
     → GoesTo (n .me) e (leaves wins n i e v) (recipients (n .me) e (leaves wins n i e v))
 
 -- so nothing goes to the replica itself, or to one outside its view
 abbrev pub OthersOnly : Type 0
-OthersOnly = (wins : ℕ → ℕ → Bool) (n : Node) (i : ℕ) (e : Event) (v : List ℕ) (m : ℕ)
+OthersOnly = (wins : Orders) (n : Node) (i : ℕ) (e : Event) (v : List ℕ) (m : ℕ)
     → has (recipients (n .me) e (leaves wins n i e v)) m ≡ true → Other (n .me) m

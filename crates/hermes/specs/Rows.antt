@@ -2,19 +2,21 @@
 use Prim.Native.Nat.{ℕ}
 use mathlib.Core.List.{List, [], _∷_, _++_}
 use lib.ListN.{replicate}
+use Rattle.hermes_record.specs.declared.timestamp.Rule.the-variants.{Higher, Lower}
 use Rattle.hermes_record.specs.declared.record.Record.{Record}
 use Rattle.hermes.specs.declared.message.Message.{Message}
 use Rattle.hermes.specs.declared.message.Message.the-variants.{Inv, Ack, Val}
 use Rattle.hermes_record.specs.declared.record.State.the-variants as state
 use Rattle.hermes.specs.declared.event.Event.the-variants.{Read, Ask, Write, Commit, Replay, Deliver, Validate}
 use Rattle.hermes_record.specs.Record.{freshRecord}
+use Rattle.hermes.specs.Settings.{oldSettings, newSettings}
 use Rattle.hermes.specs.Node.{Node, newcomer}
-use Rattle.hermes.specs.Worked.{Deed, starts, lays, does, turns, answers, leaves, stamps, lastWriter, lastWrite, acknowledgedBy, holding, sends, handsOut, silent, unchanged, Row, row}
+use Rattle.hermes.specs.Worked.{Deed, starts, lays, does, turns, answers, leaves, stamps, lastWriter, tiesBy, lastWrite, acknowledgedBy, holding, sends, handsOut, silent, unchanged, Row, row}
 use Rattle.hermes.specs.Limits.{limits}
 
 -- the laptop before its start: one record, and memory that holds something else
 unfoldable pub unstarted : Node
-unstarted = record { me = newcomer 9 0; table = freshRecord 9 ∷ []; store = replicate 192 7 }
+unstarted = record { me = newcomer 9 0 oldSettings; table = freshRecord 9 ∷ []; store = replicate 192 7 }
 
 -- views, as 16-bit sets: {1,2,5} is 38, {1,2} is 6, {1,5} is 34, {1} is 2 and {1,2,5,7} is 166
 abbrev group : ℕ
@@ -55,7 +57,11 @@ valOf v t = Val (record { version = v; tie = t })
 
 -- a fresh start, then the deeds
 abbrev fresh : List Deed → List Deed
-fresh ds = starts 2 group ∷ ds
+fresh ds = starts 2 group oldSettings ∷ ds
+
+-- the same in a group with the new rule (02, Wish 6)
+abbrev freshLower : List Deed → List Deed
+freshLower ds = starts 2 group newSettings ∷ ds
 
 -- a replay of 5's save (1,5) by this laptop, one byte long
 abbrev replaying : Record
@@ -72,7 +78,7 @@ replaying = record {
 unfoldable pub ringing : List Row
 ringing =
     -- fresh: (0,1), valid
-    row [] (starts 2 group) (answers 0 ∷ leaves state.Valid ∷ stamps 0 1 ∷ lastWriter 1 ∷ lastWrite 0 1 ∷ acknowledgedBy 0 ∷ holding [] ∷ silent ∷ [])
+    row [] (starts 2 group oldSettings) (answers 0 ∷ leaves state.Valid ∷ stamps 0 1 ∷ lastWriter 1 ∷ lastWrite 0 1 ∷ acknowledgedBy 0 ∷ holding [] ∷ silent ∷ [])
     -- write: (1,2), state write
     ∷ row (fresh []) save (answers 0 ∷ leaves state.Write ∷ stamps 1 2 ∷ lastWriter 2 ∷ lastWrite 1 2 ∷ acknowledgedBy 0 ∷ holding saved ∷ sends (invOf 1 2) ∷ [])
     -- no row of the paper: after a finished one a write of 1 byte, which empties the acknowledgements and leaves none of the 2 bytes
@@ -110,7 +116,7 @@ ringing =
     ∷ row (fresh (save ∷ turns 1 6 ∷ [])) (ack 1 2 1 1) (answers 0 ∷ leaves state.Valid ∷ stamps 1 2 ∷ lastWriter 2 ∷ lastWrite 1 2 ∷ acknowledgedBy 2 ∷ holding saved ∷ sends (valOf 1 2) ∷ [])
     ∷ row (fresh (save ∷ ack 1 2 5 0 ∷ turns 1 6 ∷ [])) (ack 1 2 1 1) (answers 0 ∷ leaves state.Valid ∷ stamps 1 2 ∷ lastWriter 2 ∷ lastWrite 1 2 ∷ acknowledgedBy 34 ∷ holding saved ∷ sends (valOf 1 2) ∷ [])
     -- nor does that of 7, struck off from {1,2,5,7}, stand for 5's: as many are counted as there are others
-    ∷ row (starts 2 166 ∷ save ∷ ack 1 2 7 0 ∷ turns 1 group ∷ []) (ack 1 2 1 1) (answers 0 ∷ leaves state.Write ∷ stamps 1 2 ∷ lastWriter 2 ∷ lastWrite 1 2 ∷ acknowledgedBy 130 ∷ holding saved ∷ silent ∷ [])
+    ∷ row (starts 2 166 oldSettings ∷ save ∷ ack 1 2 7 0 ∷ turns 1 group ∷ []) (ack 1 2 1 1) (answers 0 ∷ leaves state.Write ∷ stamps 1 2 ∷ lastWriter 2 ∷ lastWrite 1 2 ∷ acknowledgedBy 130 ∷ holding saved ∷ silent ∷ [])
     -- invalid-write (1,5): VAL (1,5) valid, VAL (1,2) 14
     ∷ row (fresh (save ∷ inv 1 5 5 0 ∷ [])) (val 1 5 5 0) (answers 0 ∷ leaves state.Valid ∷ stamps 1 5 ∷ lastWriter 5 ∷ lastWrite 1 2 ∷ acknowledgedBy 0 ∷ holding brought ∷ silent ∷ [])
     ∷ row (fresh (save ∷ inv 1 5 5 0 ∷ [])) (val 1 2 5 0) (answers 14 ∷ unchanged ∷ silent ∷ [])
@@ -141,6 +147,21 @@ ringing =
     ∷ row (fresh (inv 1 5 5 0 ∷ val 1 5 5 0 ∷ [])) (saveOver 1 5) (answers 0 ∷ leaves state.Write ∷ stamps 2 2 ∷ lastWriter 2 ∷ lastWrite 2 2 ∷ acknowledgedBy 0 ∷ holding saved ∷ sends (invOf 2 2) ∷ [])
     ∷ row (fresh (save ∷ [])) (saveOver 1 2) (answers 26 ∷ unchanged ∷ silent ∷ [])
     ∷ row (fresh (save ∷ inv 1 5 5 0 ∷ val 1 5 5 0 ∷ [])) (saveOver 1 2) (answers 26 ∷ unchanged ∷ silent ∷ [])
+    -- 02, Wish 6: a start under each rule, the lowest number of the view under both; a view keeps the rule, also a refused one
+    ∷ row [] (starts 2 group newSettings) (answers 0 ∷ tiesBy Lower ∷ leaves state.Valid ∷ stamps 0 1 ∷ lastWriter 1 ∷ lastWrite 0 1 ∷ acknowledgedBy 0 ∷ holding [] ∷ silent ∷ [])
+    ∷ row [] (starts 2 group oldSettings) (answers 0 ∷ tiesBy Higher ∷ [])
+    ∷ row (freshLower []) (turns 1 6) (answers 0 ∷ tiesBy Lower ∷ [])
+    ∷ row (fresh []) (turns 1 6) (answers 0 ∷ tiesBy Higher ∷ [])
+    ∷ row (freshLower []) (turns 0 6) (answers 18 ∷ tiesBy Lower ∷ unchanged ∷ [])
+    -- under the new rule the rows of the two INVs are the other way round: (1,5) is not greater than (1,2), and (1,1) is
+    ∷ row (freshLower (save ∷ [])) (inv 1 5 5 0) (answers 0 ∷ sends (ackOf 1 5) ∷ unchanged ∷ [])
+    ∷ row (freshLower (save ∷ [])) (inv 1 1 1 0) (answers 0 ∷ leaves state.InvalidWrite ∷ stamps 1 1 ∷ lastWriter 1 ∷ lastWrite 1 2 ∷ acknowledgedBy 0 ∷ holding brought ∷ sends (ackOf 1 1) ∷ [])
+    -- the version comes first under both: (2,5) is greater than (1,2), and (0,1), as at the start, is not; nor is a stamp greater than itself
+    ∷ row (freshLower (save ∷ [])) (inv 2 5 5 0) (answers 0 ∷ leaves state.InvalidWrite ∷ stamps 2 5 ∷ lastWriter 5 ∷ lastWrite 1 2 ∷ acknowledgedBy 0 ∷ holding brought ∷ sends (ackOf 2 5) ∷ [])
+    ∷ row (freshLower (save ∷ [])) (inv 0 1 1 0) (answers 0 ∷ sends (ackOf 0 1) ∷ unchanged ∷ [])
+    ∷ row (freshLower (inv 1 5 5 0 ∷ [])) (inv 1 5 5 0) (answers 0 ∷ sends (ackOf 1 5) ∷ unchanged ∷ [])
+    -- and the rule stays after a view: (1,1) is greater than (1,2) in epoch 1 too
+    ∷ row (freshLower (save ∷ turns 1 6 ∷ [])) (inv 1 1 1 1) (answers 0 ∷ leaves state.InvalidWrite ∷ stamps 1 1 ∷ lastWriter 1 ∷ lastWrite 1 2 ∷ acknowledgedBy 0 ∷ holding brought ∷ sends (ackOf 1 1) ∷ [])
     -- epoch 1's VAL at epoch 0: 10
     ∷ row (fresh (inv 1 5 5 0 ∷ [])) (val 1 5 5 1) (answers 10 ∷ unchanged ∷ silent ∷ [])
     ∷ []

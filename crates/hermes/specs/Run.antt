@@ -10,6 +10,7 @@ use Rattle.hermes.specs.declared.message.Outgoing.{Outgoing}
 use Rattle.hermes.specs.declared.message.Outgoing.the-variants.{None, Sent}
 use Rattle.hermes.specs.declared.message.Received.{Received}
 use Rattle.hermes.specs.declared.event.Event.the-variants.{Read, Ask, Write, Commit, Replay, Deliver, Validate, Resend}
+use Rattle.hermes_record.specs.Order.{Orders}
 use Rattle.hermes.specs.Event.{sentBy}
 use Rattle.hermes.specs.Node.{Node, Outcome, leaving, apply, viewed}
 
@@ -71,7 +72,7 @@ find (x ∷ xs) (suc k) = find xs k
 abbrev pub received : Logged → Received
 received x = record { sender = x .header .sender; epoch = x .header .epoch; message = x .message }
 
-module _ (wins : ℕ → ℕ → Bool) where
+module _ (wins : Orders) where
   -- 01, "a delivery names its message's record and brings its message's bytes"
   abbrev pub delivery : Found → Node → Result
   delivery missing n = nothing
@@ -106,7 +107,7 @@ logAfter (event o) log = logged log (o .node) (sentBy (o .answer))
 
 -- ---- lists of entries
 
-module _ (wins : ℕ → ℕ → Bool) where
+module _ (wins : Orders) where
   -- 01, "Each entry gets its laptop's number, epoch, view, table and store as the laptop's last entry, or its start, left them"
   unfoldable pub result : Group → Entry → Result
   result g a = perform wins (a .what) (g .log) (g .at (a .who))

@@ -1,21 +1,24 @@
--- Demand 3 a second time, written from DEMANDS.md, document 01 and document 02's Wishes 1 and 5 alone.
+-- Demand 3 a second time, written from DEMANDS.md, document 01 and document 02's Wishes 1, 5 and 6 alone.
 -- What one laptop does to one event (Event, Node) is taken as given.
 use Prim.Native.Nat.{ℕ, _+_, _*_, _/_, _%_, _^_, _<_}
 use mathlib.Core.Path.{_≡_}
 use mathlib.Core.Logic.{_≢_, _⊎_}
 use mathlib.Core.List.{List, [], _∷_}
 use lib.ListN.{length, getD, take, drop}
+use Rattle.hermes_record.specs.declared.timestamp.Rule.{Rule}
+use Rattle.hermes_record.specs.declared.timestamp.Rule.the-variants.{Higher, Lower}
 use Rattle.hermes_record.specs.declared.timestamp.Timestamp.{Timestamp}
 use Rattle.hermes_record.specs.declared.record.Record.{Record}
 use Rattle.hermes_record.specs.declared.record.State.the-variants.{Valid}
 use Rattle.hermes_record.specs.declared.record.State.the-variants as state
-use Rattle.hermes_record.specs.Order.{higher}
+use Rattle.hermes_record.specs.Order.{ties}
 use Rattle.hermes.specs.declared.message.Message.{Message}
 use Rattle.hermes.specs.declared.message.Message.the-variants.{Inv, Ack, Val}
 use Rattle.hermes.specs.declared.message.Outgoing.{Outgoing}
 use Rattle.hermes.specs.declared.message.Outgoing.the-variants.{None, Sent}
 use Rattle.hermes.specs.declared.event.Event.the-variants.{Read, Ask, Write, Commit, Replay, Deliver, Validate, Resend}
 use Rattle.hermes.specs.declared.event.Admission.the-variants.{Admitted}
+use Rattle.hermes.specs.declared.event.Settings.{Settings}
 use Rattle.hermes.specs.Event.{numberOf, sentBy}
 use Rattle.hermes.specs.Node.{Node, Outcome, recordOf, apply, viewed, start}
 
@@ -25,15 +28,21 @@ use Rattle.hermes.specs.Node.{Node, Outcome, recordOf, apply, viewed, st
 abbrev pub InView : ℕ → ℕ → Type 0
 InView k s = (k < 16) × (s / 2 ^ k % 2 ≡ 1)
 
--- 01, "The greater stamp has the greater version or, versions equal, the greater tie-breaker": s is greater than t
-pub data Greater (s t : Timestamp) : Type 0 where
-  byVersion : t .version < s .version → Greater s t
-  byTie : s .version ≡ t .version → t .tie < s .tie → Greater s t
+-- 01, "the greater tie-breaker", and 02, Wish 6, "a tie to the lower laptop number", where "both rules live on": by the rule, tie-breaker a wins over b
+abbrev pub WinsTie : Rule → ℕ → ℕ → Type 0
+WinsTie Higher a b = b < a
+WinsTie Lower a b = a < b
 
--- DEMANDS 3, "shows the validated stamp or a later one"; 01, "A later stamp is a greater one"
-pub data SameOrLater (validated shown : Timestamp) : Type 0 where
-  same : shown ≡ validated → SameOrLater validated shown
-  greater : Greater shown validated → SameOrLater validated shown
+-- 01, "The greater stamp has the greater version or, versions equal, the greater tie-breaker";
+-- 02, Wish 6, "Comparing two stamps now depends on the rule": by the rule, s is greater than t
+pub data Greater (rule : Rule) (s t : Timestamp) : Type 0 where
+  byVersion : t .version < s .version → Greater rule s t
+  byTie : s .version ≡ t .version → WinsTie rule (s .tie) (t .tie) → Greater rule s t
+
+-- DEMANDS 3, "shows the validated stamp or a later one"; 01, "A later stamp is a greater one"; 02, Wish 6, "all that rests on it follows"
+pub data SameOrLater (rule : Rule) (validated shown : Timestamp) : Type 0 where
+  same : shown ≡ validated → SameOrLater rule validated shown
+  greater : Greater rule shown validated → SameOrLater rule validated shown
 
 -- x is one of the list
 pub data Among {A : Type 0} (x : A) : List A → Type 0 where
@@ -64,17 +73,18 @@ pub data Happening : Type 0 where
   commit : ℕ → Timestamp → List ℕ → Happening
 
 -- 01, "a delivery names its message's record and brings its message's bytes"; every other event is simply done
+-- (a laptop compares by its own rule, the one that it was started with)
 abbrev pub perform : Happening → Node → Outcome
-perform (read i) n = apply higher n i Read []
-perform (write i value) n = apply higher n i Write value
-perform (replay i) n = apply higher n i Replay []
+perform (read i) n = apply ties n i Read []
+perform (write i value) n = apply ties n i Write value
+perform (replay i) n = apply ties n i Replay []
 perform (delivery m) n =
-    apply higher n (m .number) (Deliver (record { sender = m .sender; epoch = m .epoch; message = m .kind })) (m .bytes)
-perform (validation i) n = apply higher n i Validate []
-perform (resend i) n = apply higher n i Resend []
+    apply ties n (m .number) (Deliver (record { sender = m .sender; epoch = m .epoch; message = m .kind })) (m .bytes)
+perform (validation i) n = apply ties n i Validate []
+perform (resend i) n = apply ties n i Resend []
 perform (change epoch set) n = viewed n epoch set
-perform (ask i) n = apply higher n i Ask []
-perform (commit i t value) n = apply higher n i (Commit t) value
+perform (ask i) n = apply ties n i Ask []
+perform (commit i t value) n = apply ties n i (Commit t) value
 
 -- 01, "accepted or refused, of any laptop of the group": the laptop as the entry finds it, and what is done there
 pub record Entry : Type 0 where
@@ -134,24 +144,26 @@ pub data History (issued : ℕ → ℕ) (begun : List Node) : List Entry → Lis
 
 -- ---- the group at its start
 
--- 01, "start fresh once with one first view": an accepted start with so many records, on lent memory that may hold anything, left n
-pub record FreshStart (first count : ℕ) (n : Node) : Type 0 where
+-- 01, "start fresh once with one first view": an accepted start with so many records, on lent memory that may hold anything, left n;
+-- 02, Wish 6, the rule is "fixed at a group's start": the start is told it, among the settings
+pub record FreshStart (first count : ℕ) (settings : Settings) (n : Node) : Type 0 where
   pub number : ℕ
   pub table : List Record
   pub store : List ℕ
   pub records : length table ≡ count
-  pub accepted : start number first table store ≡ record { admission = Admitted (n .me); table = n .table; store = n .store }
+  pub accepted : start number first settings table store ≡ record { admission = Admitted (n .me); table = n .table; store = n .store }
 
 -- 01, "The laptops of a group have different numbers"
 abbrev pub Different : List Node → Type 0
 Different [] = Unit
 Different (n ∷ rest) = ((m : Node) → Among m rest → m .me .number ≢ n .me .number) × Different rest
 
--- 01, "Premises of agreement": the group as it starts; one view per epoch number, the first for epoch 0, "each within all lower-numbered ones"
-pub record Premises (issued : ℕ → ℕ) (begun : List Node) : Type 0 where
+-- 01, "Premises of agreement": the group as it starts; one view per epoch number, the first for epoch 0, "each within all lower-numbered ones";
+-- 02, Wish 6, "fixed at a group's start", "and each group setting added later, fixed likewise": all its laptops start with the group's one settings
+pub record Premises (issued : ℕ → ℕ) (settings : Settings) (begun : List Node) : Type 0 where
   pub different : Different begun
   pub count : ℕ
-  pub fresh : (n : Node) → Among n begun → FreshStart (issued 0) count n
+  pub fresh : (n : Node) → Among n begun → FreshStart (issued 0) count settings n
   pub nested : (low high k : ℕ) → low < high → InView k (issued high) → InView k (issued low)
 
 -- ---- what is demanded
@@ -203,15 +215,17 @@ Validates (change epoch set) i n = ⊥
 Validates (ask j) i n = ⊥
 Validates (commit j t value) i n = ⊥
 
--- DEMANDS 3, second half: "for every accepted validation in the list", the finisher as it was found, "each laptop then in the finisher's view"
-abbrev pub Kept : List Entry → List Node → Type 0
-Kept list group = (i : ℕ) (done : Happening) (finisher a : Node) → Among (record { found = finisher; event = done }) list
+-- DEMANDS 3, second half: "for every accepted validation in the list", the finisher as it was found, "each laptop then in the finisher's view";
+-- 02, Wish 6, "Comparing two stamps now depends on the rule": here on the group's
+abbrev pub Kept : Rule → List Entry → List Node → Type 0
+Kept rule list group = (i : ℕ) (done : Happening) (finisher a : Node) → Among (record { found = finisher; event = done }) list
     → Validates done i finisher → numberOf (perform done finisher .answer) ≡ 0
     → Among a group → InView (a .me .number) (finisher .me .view) → ShowsValid i a
-    → SameOrLater (recordOf i finisher .timestamp) (recordOf i a .timestamp)
+    → SameOrLater rule (recordOf i finisher .timestamp) (recordOf i a .timestamp)
 
--- DEMANDS 3, whole: every group that has just started fresh, every list of entries, the group after it
+-- DEMANDS 3, whole: every group that has just started fresh, every list of entries, the group after it;
+-- 02, Wish 6, "both rules live on", "then used for these two": whichever rule the group has, and by that one its later stamps are later
 abbrev pub SecondDemand3 : Type 0
-SecondDemand3 = (issued : ℕ → ℕ) (begun : List Node) → Premises issued begun
+SecondDemand3 = (issued : ℕ → ℕ) (settings : Settings) (begun : List Node) → Premises issued settings begun
     → (list : List Entry) (group : List Node) → History issued begun list group
-    → Agreement group × Kept list group
+    → Agreement group × Kept (settings .rule) list group

@@ -7,7 +7,8 @@ use mathlib.Core.Logic.{_⊎_}
 use mathlib.Core.List.{List, [], _∷_, _++_, List·Memᴰ}
 use lib.ListN.{length, take}
 use Rattle.hermes_record.specs.Members.{has, size}
-use Rattle.hermes_record.specs.Order.{higher}
+use Rattle.hermes_record.specs.Order.{Orders, ties}
+use Rattle.hermes.specs.Settings.{under, oldSettings}
 use Rattle.hermes.specs.Node.{recordOf, valueOf}
 use Rattle.hermes.specs.Run.{write, replay, deliver, validate, resend, view, Entry, by, Group, run}
 use Rattle.hermes.specs.Agreement.{Entries, Shows, Alike, after}
@@ -71,15 +72,15 @@ vainSaveRecipe = by 1 (validate 0) ∷ by 0 (deliver 2) ∷ []
 
 -- after these entries all laptops of epoch e's view are at that epoch, the recipe is that list, and after it they all show the record valid with that text
 pub record Computed (before : List Entry) (e : ℕ) (list : List Entry) (text : List ℕ) : Type 0 where
-  pub gathered : Gathered three issued e (run higher group before)
-  pub gives : recipe higher (issued e) 0 (run higher group before) ≡ list
-  pub shown : (m : ℕ) → has (issued e) m ≡ true → Shows (after higher (run higher group before) list m) 0 × (valueOf 0 (after higher (run higher group before) list m) ≡ text)
+  pub gathered : Gathered three issued e (run ties group before)
+  pub gives : recipe (under ties oldSettings) (issued e) 0 (run ties group before) ≡ list
+  pub shown : (m : ℕ) → has (issued e) m ≡ true → Shows (after ties (run ties group before) list m) 0 × (valueOf 0 (after ties (run ties group before) list m) ≡ text)
 
 -- and so that list is one of which Wish 3 speaks
 pub record Brings (before : List Entry) (e : ℕ) (list : List Entry) (text : List ℕ) : Type 0 where
   pub entries : Entries three issued before
   pub computed : Computed before e list text
-  pub settled : Settled higher (issued e) 0 (run higher group before) list
+  pub settled : Settled ties oldSettings (issued e) 0 (run ties group before) list
 
 -- an entry that helps, in other words: one of a laptop of the view; no write, no view, no read; and what it delivers was not there at the outset
 abbrev pub Only : (set i old : ℕ) → Entry → Type 0
@@ -97,19 +98,19 @@ pub record SettlingWitness : Type 0 where
   pub told : Brings halfTold 0 halfToldRecipe (66 ∷ 50 ∷ [])
   pub heard : Brings halfHeard 0 halfHeardRecipe (65 ∷ 48 ∷ [])
   -- another driver than the recipe's
-  pub other : (drive higher (issued 1) 0 (run higher group deadWinner) 1 (recordOf 0 (run higher group deadWinner .at 1) .state) ≡ deadWinnerByOther)
-      × Settled higher (issued 1) 0 (run higher group deadWinner) deadWinnerByOther
+  pub other : (drive (under ties oldSettings) (issued 1) 0 (run ties group deadWinner) 1 (recordOf 0 (run ties group deadWinner .at 1) .state) ≡ deadWinnerByOther)
+      × Settled ties oldSettings (issued 1) 0 (run ties group deadWinner) deadWinnerByOther
   -- 3k − 2 is reached, with two laptops and with three
   pub reachedByTwo : length deadWinnerRecipe + 2 ≡ 3 * size (issued 1)
   pub reachedByThree : length lostSaveRecipe + 2 ≡ 3 * size (issued 0)
   -- and of 0's lost save no shorter list makes all three show it
-  pub noFewer : (entries : List Entry) → AllHelp higher (issued 0) 0 (length (run higher group lostSave .log)) (run higher group lostSave) entries
-      → ((m : ℕ) → has (issued 0) m ≡ true → Shows (after higher (run higher group lostSave) entries m) 0) → length lostSaveRecipe ≤ length entries
+  pub noFewer : (entries : List Entry) → AllHelp ties (issued 0) 0 (length (run ties group lostSave .log)) (run ties group lostSave) entries
+      → ((m : ℕ) → has (issued 0) m ≡ true → Shows (after ties (run ties group lostSave) entries m) 0) → length lostSaveRecipe ≤ length entries
   -- what `Settled` claims of any list: after each that settles 0's lost save all three show what 0 had
-  pub claims : (entries : List Entry) → Settled higher (issued 0) 0 (run higher group lostSave) entries
-      → (m : ℕ) → has (issued 0) m ≡ true → Shows (after higher (run higher group lostSave) entries m) 0 × Alike 0 (after higher (run higher group lostSave) entries m) (run higher group lostSave .at 0)
+  pub claims : (entries : List Entry) → Settled ties oldSettings (issued 0) 0 (run ties group lostSave) entries
+      → (m : ℕ) → has (issued 0) m ≡ true → Shows (after ties (run ties group lostSave) entries m) 0 × Alike 0 (after ties (run ties group lostSave) entries m) (run ties group lostSave .at 0)
   -- the premises can be met by every kind of entry: 1's last save of `struckOff`, before anybody hears of it
-  pub met : Gathered three issued 1 (run higher group (take 36 story))
-      × Settled higher (issued 1) 0 (run higher group (take 36 story)) (recipe higher (issued 1) 0 (run higher group (take 36 story)))
+  pub met : Gathered three issued 1 (run ties group (take 36 story))
+      × Settled ties oldSettings (issued 1) 0 (run ties group (take 36 story)) (recipe (under ties oldSettings) (issued 1) 0 (run ties group (take 36 story)))
   -- nothing else is done
-  pub only : (wins : ℕ → ℕ → Bool) (set i old : ℕ) (g : Group) (entries : List Entry) → AllHelp wins set i old g entries → (a : Entry) → List·Memᴰ a entries → Only set i old a
+  pub only : (wins : Orders) (set i old : ℕ) (g : Group) (entries : List Entry) → AllHelp wins set i old g entries → (a : Entry) → List·Memᴰ a entries → Only set i old a

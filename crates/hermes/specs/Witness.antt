@@ -8,7 +8,8 @@ use mathlib.Core.List.{List, [], _∷_, _++_}
 use lib.Dec.{eqb}
 use lib.ListN.{length, take, drop}
 use Rattle.hermes_record.specs.Members.{has}
-use Rattle.hermes_record.specs.Order.{higher}
+use Rattle.hermes_record.specs.Order.{ties}
+use Rattle.hermes.specs.Settings.{under, oldSettings}
 use Rattle.hermes.specs.Node.{Node, recordOf, valueOf}
 use Rattle.hermes.specs.Run.{Action, read, ask, write, commit, replay, deliver, validate, resend, view, by, advance, run}
 use Rattle.hermes.specs.Agreement.{Started, Entries, Sees, Shows, Validation, after, Agreement}
@@ -57,7 +58,7 @@ delivers k (view epoch set) = false
 
 -- replica k after the list `struckOff`
 abbrev pub end : ℕ → Node
-end k = after higher group story k
+end k = after ties group story k
 
 -- the premises of `alike`: two replicas are in each other's view, and both show the record valid
 pub record TwoScreens (k m : ℕ) : Type 0 where
@@ -74,21 +75,21 @@ pub record FinishedSave (j k : ℕ) (action : Action) (m : ℕ) : Type 0 where
   pub members : (three k ≡ true) × (three m ≡ true)
   pub apart : k ≢ m
   pub split : story ≡ take j story ++ by k action ∷ drop (suc j) story
-  pub validation : Validation higher (run higher group (take j story)) (by k action) 0
-  pub sees : Sees (after higher group (take j story) k) m
+  pub validation : Validation ties (run ties group (take j story)) (by k action) 0
+  pub sees : Sees (after ties group (take j story) k) m
   pub shown : Shows (end m) 0
 
 -- the premises of `GivenUp`, and its claim: entry j, counted from 0, is k's accepted replay in invalid-write; its own save is that of version 1
 pub record GivenUpSave (j k : ℕ) : Type 0 where
   pub member : three k ≡ true
   pub split : story ≡ take j story ++ replayOf k 0 ∷ drop (suc j) story
-  pub given : GivesUp higher group (take j story) 0 k
-  pub save : recordOf 0 (after higher group (take j story) k) .written ≡ record { version = 1; tie = k }
-  pub past : Past higher 0 (recordOf 0 (after higher group (take j story) k) .written) (after higher (advance higher (run higher group (take j story)) (replayOf k 0)) (drop (suc j) story) k)
+  pub given : GivesUp ties group (take j story) 0 k
+  pub save : recordOf 0 (after ties group (take j story) k) .written ≡ record { version = 1; tie = k }
+  pub past : Past ties 0 (recordOf 0 (after ties group (take j story) k) .written) (after ties (advance ties (run ties group (take j story)) (replayOf k 0)) (drop (suc j) story) k)
 
 -- 2, struck off amid a save
 abbrev pub leftOut : Node
-leftOut = after higher group (by 2 (write 0 (66 ∷ [])) ∷ by 2 (view 1 3) ∷ []) 2
+leftOut = after ties group (by 2 (write 0 (66 ∷ [])) ∷ by 2 (view 1 3) ∷ []) 2
 
 -- replica n holds C3 under the timestamp of 1's last save
 pub record Holds (n : Node) : Type 0 where
@@ -98,14 +99,14 @@ pub record Holds (n : Node) : Type 0 where
 -- what the list `struckOff` of `Played` shows; `proofs/Premises` computes it
 pub record Witness : Type 0 where
   -- the premises of demand 3, and so its claim
-  pub started : Started three 1 issued group
+  pub started : Started three 1 issued oldSettings group
   pub entries : Entries three issued story
-  pub agreed : Agreement higher three 1 group story
+  pub agreed : Agreement ties three 1 oldSettings group story
   -- each entry answers the number beside it, and every kind of entry is there
   pub numbers : answers group story ≡ numbersOf struckOff
   pub kinds : (a : Action) → BothWays (kind a) struckOff
   -- message 4 left, and is lost
-  pub left : 4 < length (run higher group story .log)
+  pub left : 4 < length (run ties group story .log)
   pub lost : some (λ x. delivers 4 (x .entry .what)) struckOff ≡ false
   -- message 9 is repeated: 1 takes it twice; message 3 is late: its epoch is over
   pub repeated : many (λ x. delivers 9 (x .entry .what) && (eqb (x .entry .who) 1 && eqb (x .number) 0)) struckOff ≡ 2
@@ -120,11 +121,11 @@ pub record Witness : Type 0 where
   -- the premise of `NobodyWaits`: 0 and 1 get no view at first, and do all else; and after its view 1 waits in vain
   pub quiet0 : NoView 0 (take 21 story)
   pub quiet1 : NoView 1 (take 17 story)
-  pub vain : AllReplied 0 (after higher group (take 19 story) 1)
+  pub vain : AllReplied 0 (after ties group (take 19 story) 1)
   -- those of `GivenUp`: 0 gives Z0 up
   pub overtaken : GivenUpSave 24 0
   -- the claim of `NobodyHangs`; and that it claims something: for a laptop that is struck off amid a save nothing can be done
-  pub turns : (k : ℕ) → three k ≡ true → Sees (end k) k → Turn higher (end k) 0
-  pub stuck : Turn higher leftOut 0 → ⊥
+  pub turns : (k : ℕ) → three k ≡ true → Sees (end k) k → Turn ties (end k) 0
+  pub stuck : Turn ties leftOut 0 → ⊥
   pub first : Holds (end 0)
   pub second : Holds (end 1)

@@ -3,13 +3,16 @@ use Prim.Native.Nat.{ℕ, _-_}
 use mathlib.Core.Path.{_≡_}
 use mathlib.Core.List.{List, [], _∷_, _++_}
 use lib.ListN.{length, set, replicate}
+use Rattle.hermes_record.specs.declared.timestamp.Rule.{Rule}
 use Rattle.hermes_record.specs.declared.record.Record.{Record}
 use Rattle.hermes_record.specs.declared.record.State.{State}
 use Rattle.hermes.specs.declared.message.Message.{Message}
 use Rattle.hermes.specs.declared.message.Outgoing.the-variants.{None}
 use Rattle.hermes.specs.declared.event.Replica.{Replica}
+use Rattle.hermes.specs.declared.event.Settings.{Settings}
 use Rattle.hermes.specs.declared.event.Event.{Event}
-use Rattle.hermes_record.specs.Order.{higher}
+use Rattle.hermes_record.specs.Order.{ties}
+use Rattle.hermes.specs.Settings.{oldSettings}
 use Rattle.hermes.specs.Store.{place}
 use Rattle.hermes.specs.Event.{answerOf, numberOf, sentBy, send, refusal}
 use Rattle.hermes.specs.Node.{Node, Outcome, Start, recordOf, apply, asked, admit, start, view, viewed, identity, admissionNumber}
@@ -17,8 +20,8 @@ use Rattle.hermes.specs.Node.{Node, Outcome, Start, recordOf, apply, ask
 -- ---- a row of deeds: what happens to a laptop, on its one record, and what is said of it
 
 pub data Deed : Type 0 where
-  -- a fresh start with this number and view
-  starts : ℕ → ℕ → Deed
+  -- a fresh start with this number, view and settings
+  starts : ℕ → ℕ → Settings → Deed
   -- no event: the record is laid down as it stands here, with its value
   lays : Record → List ℕ → Deed
   -- an event with the bytes that come with it
@@ -33,10 +36,10 @@ startOutcome n s = record {
 }
 
 abbrev pub outcome : Node → Deed → Outcome
-outcome n (starts number view) = startOutcome n (start number view (n .table) (n .store))
+outcome n (starts number view settings) = startOutcome n (start number view settings (n .table) (n .store))
 outcome n (lays r v) =
     record { answer = answerOf 0 None; node = record { me = n .me; table = set (n .table) 0 r; store = place 0 v (n .store) } }
-outcome n (does e v) = apply higher n 0 e v
+outcome n (does e v) = apply ties n 0 e v
 outcome n (turns epoch view) = viewed n epoch view
 
 -- the laptop after the deeds that come before the row's own
@@ -50,6 +53,8 @@ pub data Claim : Type 0 where
   leaves : State → Claim
   stamps : ℕ → ℕ → Claim
   lastWriter : ℕ → Claim
+  -- the rule of ties that the laptop then has
+  tiesBy : Rule → Claim
   lastWrite : ℕ → ℕ → Claim
   acknowledgedBy : ℕ → Claim
   -- the value, and with it its length
@@ -70,6 +75,7 @@ Says (answers k) n o = numberOf (o .answer) ≡ k
 Says (leaves s) n o = recordOf 0 (o .node) .state ≡ s
 Says (stamps v t) n o = recordOf 0 (o .node) .timestamp ≡ record { version = v; tie = t }
 Says (lastWriter k) n o = recordOf 0 (o .node) .writer ≡ k
+Says (tiesBy rule) n o = o .node .me .settings .rule ≡ rule
 Says (lastWrite v t) n o = recordOf 0 (o .node) .written ≡ record { version = v; tie = t }
 Says (acknowledgedBy set) n o = recordOf 0 (o .node) .acks ≡ set
 Says (holding v) n o = (recordOf 0 (o .node) .len ≡ length v) × (o .node .store ≡ storeOf v)
@@ -90,7 +96,7 @@ pub data Row : Type 0 where
   -- an event: the laptop, its count of records and bytes of store, the record's number and the record, the event and how many bytes come
   -- with it; the number answered
   asks : Replica → ℕ → ℕ → ℕ → Record → Event → ℕ → ℕ → Row
-  -- a fresh start: number, view, count of records and bytes of store; the number answered
+  -- a fresh start in a group with the old rule: number, view, count of records and bytes of store; the number answered
   asksStart : ℕ → ℕ → ℕ → ℕ → ℕ → Row
   -- a view event: the laptop, the new epoch and view; the number answered
   asksView : Replica → ℕ → ℕ → ℕ → Row
@@ -99,5 +105,5 @@ pub data Row : Type 0 where
 abbrev pub Holds : Node → Row → Type 0
 Holds n (row earlier deed claims) = SaysAll claims (before n earlier) (outcome (before n earlier) deed)
 Holds n (asks me count bytes i r e m k) = refusal me count bytes i r e m ≡ k
-Holds n (asksStart number view count bytes k) = admissionNumber (admit number view count bytes) ≡ k
+Holds n (asksStart number view count bytes k) = admissionNumber (admit number view oldSettings count bytes) ≡ k
 Holds n (asksView me epoch set k) = admissionNumber (view me epoch set) ≡ k

@@ -2,13 +2,20 @@
 use crate::message::Outgoing;
 use crate::message::Received;
 use hermes_record::Record;
+use hermes_record::Rule;
 use hermes_record::Timestamp;
 
-// The identity of a replica (document 01's laptop): its number, its epoch, and its view, a set of numbers in 16 bits.
+// What is fixed at a group's start, the same for all of its replicas (document 02): the rule of ties.
+pub struct Settings {
+    pub rule: Rule,
+}
+
+// The identity of a replica (document 01's laptop): its number, its epoch, its view, a set of numbers in 16 bits, and its group's settings.
 pub struct Replica {
     pub number: u8,
     pub epoch: u32,
     pub view: u16,
+    pub settings: Settings,
 }
 
 // An event on one record. A write, a commit and an invalidation bring a value with them, beside the event; a commit also the

@@ -8,6 +8,7 @@ pub use event::Answer;
 pub use event::Event;
 pub use event::Moved;
 pub use event::Replica;
+pub use event::Settings;
 pub use hermes_record::Record;
 pub use hermes_record::Rule;
 pub use hermes_record::State;
