@@ -10,7 +10,7 @@ use lib.ListN.{length, replicate}
 use Rattle.hermes.specs.declared.event.Admission.{Admission}
 use Rattle.hermes.specs.declared.event.Admission.the-variants.{Admitted}
 use Rattle.hermes_record.specs.Members.{has, size, lowest}
-use Rattle.hermes_record.specs.Order.{higher}
+use Rattle.hermes_record.specs.Order.{ties}
 use Rattle.hermes_record.specs.Record.{freshRecord}
 use Rattle.hermes.specs.Event.{sentBy}
 use Rattle.hermes.specs.Node.{newcomer, identity, start}
@@ -32,7 +32,7 @@ use Rattle.play_game.specs.Agreed.{Issued, OfLine, OneViewEach, playedOn
 pub played-is-run : PlayedIsRun
 unfolding playedOn entriesOf
 played-is-run n g [] = refl
-played-is-run n g (s ∷ rest) = played-is-run n (after n g s) rest ∙ sym (run-append higher g (turn n g s .entries) (entriesOf n (after n g s) rest))
+played-is-run n g (s ∷ rest) = played-is-run n (after n g s) rest ∙ sym (run-append ties g (turn n g s .entries) (entriesOf n (after n g s) rest))
 
 -- ---- the entries
 
@@ -62,8 +62,8 @@ unfolding entryTurn
 of-entry n issued g a h = go (ltb (a .who) n) refl
   where
     go : (t : Bool) → ltb (a .who) n ≡ t
-        → Entries (λ k. ltb k n) issued (cond t (record { entries = played (length (g .log)) a (result higher g a); text = reply (length (g .log)) (result higher g a) }) unknown .entries)
-    go true e = of-result n issued (length (g .log)) a (result higher g a) e h
+        → Entries (λ k. ltb k n) issued (cond t (record { entries = played (length (g .log)) a (result ties g a); text = reply (length (g .log)) (result ties g a) }) unknown .entries)
+    go true e = of-result n issued (length (g .log)) a (result ties g a) e h
     go false e = tt
 
 of-line : (n : ℕ) (issued : ℕ → ℕ) (g : Group) (s : List ℕ) (l : Line) → OfLine issued l → Entries (λ k. ltb k n) issued (turnOf n g s l .entries)

@@ -14,7 +14,7 @@ use Rattle.play_script.specs.Command.{lineOf, sizeOf}
 use Rattle.play_script.specs.declared.command.Line.{Line}
 use Rattle.play_script.specs.declared.line.Size.{Size}
 use Rattle.play_script.proofs.Words.{size-empty}
-use Rattle.hermes_record.specs.Order.{higher}
+use Rattle.hermes_record.specs.Order.{ties}
 use Rattle.hermes.specs.Run.{Group, run}
 use Rattle.hermes_record.proofs.Tests.{both}
 use Rattle.play_member.specs.declared.member.Member.{Member}
@@ -93,7 +93,7 @@ module _ (c : Cluster) (heads bodies s : List ℕ) (l : Line) (who : ℕ) (m₀ 
   unfolding turn
   after-line =
       group-set c heads bodies who low (sound .four) (d .member) (d .sent) heads′ bodies′ ∙ (λ i. record { at = λ k. cond (eqb k who) (node i) (g .at k); log = log i })
-      ∙ ap (λ (k : ℕ). commit g k (lineResult (c .count) s l (g .log) (g .at k))) named ∙ sym (line-group (c .count) g s l) ∙ ap (λ (x : Line). run higher g (turnOf (c .count) g s x .entries)) read
+      ∙ ap (λ (k : ℕ). commit g k (lineResult (c .count) s l (g .log) (g .at k))) named ∙ sym (line-group (c .count) g s l) ∙ ap (λ (x : Line). run ties g (turnOf (c .count) g s x .entries)) read
     where
       node : nodeOf (d .member) ≡ nodeBy (length (g .log)) (lineResult (c .count) s l (g .log) (g .at who)) (g .at who)
       node = done .node ∙ (λ i. nodeBy (log-length c heads bodies i) (came i) (node-at c heads bodies who low (sound .four) m₀ i))

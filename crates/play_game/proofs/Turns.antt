@@ -14,7 +14,7 @@ use Rattle.hermes.specs.declared.message.Message.the-variants.{Inv, Ack, Val}
 use Rattle.hermes.specs.declared.message.Outgoing.{Outgoing}
 use Rattle.hermes.specs.declared.message.Outgoing.the-variants.{None, Sent}
 use Rattle.hermes.specs.declared.event.Event.the-variants.{Deliver}
-use Rattle.hermes_record.specs.Order.{higher}
+use Rattle.hermes_record.specs.Order.{ties}
 use Rattle.hermes_record.specs.Record.{freshRecord}
 use Rattle.hermes.specs.Store.{valueAt}
 use Rattle.hermes.specs.Event.{numberOf, sentBy, bodyOf, leavingBody}
@@ -42,16 +42,16 @@ use Rattle.play_log.proofs.Logs.{find-known, find-unknown, place-full, log-more
 
 -- the body of a logged message is the part of the bytes that the code lends
 pub deliver-is : (m : Member) (heads bodies : List ℕ) (sent k : ℕ) (e : Envelope) (j : Judged) → k < sent → e ≡ envelopeAt heads k
-    → resultOf j ≡ event (apply higher (nodeOf m) 0 (Deliver (record { sender = e .sender; epoch = e .epoch; message = e .message })) (take (192 * k + e .len - 192 * k) (drop (192 * k) bodies)))
-    → resultOf j ≡ delivery higher (find (logOf heads bodies sent) k) (nodeOf m)
+    → resultOf j ≡ event (apply ties (nodeOf m) 0 (Deliver (record { sender = e .sender; epoch = e .epoch; message = e .message })) (take (192 * k + e .len - 192 * k) (drop (192 * k) bodies)))
+    → resultOf j ≡ delivery ties (find (logOf heads bodies sent) k) (nodeOf m)
 deliver-is m heads bodies sent k e j h at r =
     let q : 192 * k + e .len - 192 * k ≡ e .len = omega arith in
-    r ∙ ap (λ (n : ℕ). event (apply higher (nodeOf m) 0 (Deliver (record { sender = e .sender; epoch = e .epoch; message = e .message })) (take n (drop (192 * k) bodies)))) q
-    ∙ ap (λ (x : Envelope). event (apply higher (nodeOf m) 0 (Deliver (record { sender = x .sender; epoch = x .epoch; message = x .message })) (take (x .len) (drop (192 * k) bodies)))) at
-    ∙ ap (λ (x : Found). delivery higher x (nodeOf m)) (sym (find-known heads bodies sent k h))
+    r ∙ ap (λ (n : ℕ). event (apply ties (nodeOf m) 0 (Deliver (record { sender = e .sender; epoch = e .epoch; message = e .message })) (take n (drop (192 * k) bodies)))) q
+    ∙ ap (λ (x : Envelope). event (apply ties (nodeOf m) 0 (Deliver (record { sender = x .sender; epoch = x .epoch; message = x .message })) (take (x .len) (drop (192 * k) bodies)))) at
+    ∙ ap (λ (x : Found). delivery ties x (nodeOf m)) (sym (find-known heads bodies sent k h))
 
-pub deliver-none : (m : Member) (heads bodies : List ℕ) (sent k : ℕ) → sent ≤ k → nothing ≡ delivery higher (find (logOf heads bodies sent) k) (nodeOf m)
-deliver-none m heads bodies sent k h = ap (λ (x : Found). delivery higher x (nodeOf m)) (sym (find-unknown heads bodies sent k h))
+pub deliver-none : (m : Member) (heads bodies : List ℕ) (sent k : ℕ) → sent ≤ k → nothing ≡ delivery ties (find (logOf heads bodies sent) k) (nodeOf m)
+deliver-none m heads bodies sent k h = ap (λ (x : Found). delivery ties x (nodeOf m)) (sym (find-unknown heads bodies sent k h))
 
 -- ---- the bytes that a message takes along
 
@@ -165,7 +165,7 @@ module _ (m : Member) (heads bodies : List ℕ) (sent at : ℕ) (out : List ℕ)
 -- ---- what a line comes to at its member
 
 module _ (n : ℕ) (s : List ℕ) (l : Line) (log : List Logged) (node : Node) where
-  pub line-entry : (who : ℕ) (c : Command) (x : Result) → l ≡ line.Entry who c → inGroup n who ≡ true → x ≡ perform higher (actionOf c (textOf s)) log node → x ≡ lineResult n s l log node
+  pub line-entry : (who : ℕ) (c : Command) (x : Result) → l ≡ line.Entry who c → inGroup n who ≡ true → x ≡ perform ties (actionOf c (textOf s)) log node → x ≡ lineResult n s l log node
   line-entry who c x e h r = rw (e, h) r
 
   pub line-stranger : (who : ℕ) (c : Command) → l ≡ line.Entry who c → inGroup n who ≡ false → nothing ≡ lineResult n s l log node
@@ -180,8 +180,8 @@ done-as {m} {heads} {bodies} {sent} {x} {y} {at} {out} {d} {heads′} {bodies′
 
 -- ---- a line that is played is an entry of the run
 
-advanced : (g : Group) (a : Entry) (o : Outcome) → result higher g a ≡ event o
-    → advance higher g a ≡ record { at = λ k. cond (eqb k (a .who)) (o .node) (g .at k); log = logged (g .log) (o .node) (sentBy (o .answer)) }
+advanced : (g : Group) (a : Entry) (o : Outcome) → result ties g a ≡ event o
+    → advance ties g a ≡ record { at = λ k. cond (eqb k (a .who)) (o .node) (g .at k); log = logged (g .log) (o .node) (sentBy (o .answer)) }
 unfolding advance
 advanced g a o e = λ i. record { at = λ k. cond (eqb k (a .who)) (nodeAfter (e i) (g .at k)) (g .at k); log = logAfter (e i) (g .log) }
 
@@ -193,11 +193,11 @@ unmoved g who = λ i. record { at = λ k. same k (eqb k who) refl i; log = g .lo
     same k true e = ap (g .at) (eqb-true k who e)
     same k false e = refl
 
-commit-run : (g : Group) (a : Entry) (r : Result) → result higher g a ≡ r → run higher g (played (length (g .log)) a r) ≡ commit g (a .who) r
+commit-run : (g : Group) (a : Entry) (r : Result) → result ties g a ≡ r → run ties g (played (length (g .log)) a r) ≡ commit g (a .who) r
 commit-run g a nothing e = unmoved g (a .who)
 commit-run g a (event o) e = go (hasRoom (length (g .log)) (sentBy (o .answer)))
   where
-    go : (t : Bool) → run higher g (cond t (a ∷ []) [])
+    go : (t : Bool) → run ties g (cond t (a ∷ []) [])
         ≡ record { at = λ k. cond (eqb k (a .who)) (cond t (o .node) (g .at (a .who))) (g .at k); log = cond t (logged (g .log) (o .node) (sentBy (o .answer))) (g .log) }
     go true = advanced g a o e
     go false = unmoved g (a .who)
@@ -206,15 +206,15 @@ module _ (n : ℕ) (g : Group) (s : List ℕ) where
   -- what a line of a laptop does, and what it comes to
   known : Command → ℕ → Turn
   known c who = let a : Entry = record { who = who; what = actionOf c (textOf s) } in
-      record { entries = played (length (g .log)) a (result higher g a); text = reply (length (g .log)) (result higher g a) }
+      record { entries = played (length (g .log)) a (result ties g a); text = reply (length (g .log)) (result ties g a) }
 
-  pub line-group : (l : Line) → run higher g (turnOf n g s l .entries) ≡ commit g (whoOf n l) (lineResult n s l (g .log) (g .at (whoOf n l)))
+  pub line-group : (l : Line) → run ties g (turnOf n g s l .entries) ≡ commit g (whoOf n l) (lineResult n s l (g .log) (g .at (whoOf n l)))
   unfolding entryTurn result known
   line-group (line.Entry who c) = go (ltb who n)
     where
-      go : (t : Bool) → run higher g (cond t (known c who) unknown .entries)
-          ≡ commit g (cond t who 0) (cond t (perform higher (actionOf c (textOf s)) (g .log) (g .at (cond t who 0))) nothing)
-      go true = commit-run g (record { who = who; what = actionOf c (textOf s) }) (perform higher (actionOf c (textOf s)) (g .log) (g .at who)) refl
+      go : (t : Bool) → run ties g (cond t (known c who) unknown .entries)
+          ≡ commit g (cond t who 0) (cond t (perform ties (actionOf c (textOf s)) (g .log) (g .at (cond t who 0))) nothing)
+      go true = commit-run g (record { who = who; what = actionOf c (textOf s) }) (perform ties (actionOf c (textOf s)) (g .log) (g .at who)) refl
       go false = unmoved g 0
   line-group line.Unknown = unmoved g 0
 
@@ -222,7 +222,7 @@ module _ (n : ℕ) (g : Group) (s : List ℕ) where
   unfolding entryTurn result known
   line-text (line.Entry who c) = go (ltb who n)
     where
-      go : (t : Bool) → cond t (known c who) unknown .text ≡ reply (length (g .log)) (cond t (perform higher (actionOf c (textOf s)) (g .log) (g .at (cond t who 0))) nothing)
+      go : (t : Bool) → cond t (known c who) unknown .text ≡ reply (length (g .log)) (cond t (perform ties (actionOf c (textOf s)) (g .log) (g .at (cond t who 0))) nothing)
       go true = refl
       go false = refl
   line-text line.Unknown = refl

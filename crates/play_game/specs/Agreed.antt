@@ -3,7 +3,7 @@ use Prim.Native.Nat.{ℕ, _-_, _^_, _≤_}
 use mathlib.Core.Path.{_≡_}
 use mathlib.Core.List.{List, [], _∷_}
 use lib.Dec.{ltb}
-use Rattle.hermes_record.specs.Order.{higher}
+use Rattle.hermes_record.specs.Order.{ties}
 use Rattle.hermes.specs.Run.{Group, run}
 use Rattle.hermes.specs.Agreement.{Agreement}
 use Rattle.play_script.specs.Command.{lineOf}
@@ -38,9 +38,9 @@ playedOn n g (s ∷ rest) = playedOn n (after n g s) rest
 
 -- the group that is played is the run of the script's entries; lines that print `?` are none
 abbrev pub PlayedIsRun : Type 0
-PlayedIsRun = (n : ℕ) (g : Group) (ls : List (List ℕ)) → playedOn n g ls ≡ run higher g (entriesOf n g ls)
+PlayedIsRun = (n : ℕ) (g : Group) (ls : List (List ℕ)) → playedOn n g ls ≡ run ties g (entriesOf n g ls)
 
 -- and demand 3 holds of it, where the set of epoch 0 is all n laptops
 abbrev pub PlayedAgrees : Type 0
 PlayedAgrees = (n : ℕ) → 2 ≤ n → n ≤ 4 → (issued : ℕ → ℕ) → issued 0 ≡ 2 ^ n - 1 → (ls : List (List ℕ)) → OneViewEach issued ls
-    → Agreement higher (λ k. ltb k n) 1 (freshGroup n) (entriesOf n (freshGroup n) ls)
+    → Agreement ties (λ k. ltb k n) 1 (freshGroup n) (entriesOf n (freshGroup n) ls)

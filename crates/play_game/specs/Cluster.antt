@@ -8,7 +8,7 @@ use lib.ListN.{length, getD}
 use lib.Dec.{ltb, eqb}
 use Rattle.hermes.specs.Node.{Node}
 use Rattle.hermes.specs.Event.{sentBy}
-use Rattle.hermes_record.specs.Order.{higher}
+use Rattle.hermes_record.specs.Order.{ties}
 use Rattle.hermes.specs.Run.{Logged, Group, Result, nothing, event, perform, logged}
 use Rattle.play_script.specs.Command.{textOf}
 use Rattle.play_script.specs.declared.command.Line.{Line}
@@ -60,7 +60,7 @@ whoOf n line.Unknown = 0
 
 -- what the line s comes to at that replica
 abbrev pub lineResult : ℕ → List ℕ → Line → List Logged → Node → Result
-lineResult n s (line.Entry who c) log node = cond (ltb who n) (perform higher (actionOf c (textOf s)) log node) nothing
+lineResult n s (line.Entry who c) log node = cond (ltb who n) (perform ties (actionOf c (textOf s)) log node) nothing
 lineResult n s line.Unknown log node = nothing
 
 -- the replica after an entry that came to this; an event counts where the log has room for what leaves it

@@ -7,7 +7,7 @@ use lib.Dec.{ltb}
 use lib.Seq.{sets}
 use Rattle.hermes.specs.declared.message.Outgoing.{Outgoing}
 use Rattle.hermes.specs.declared.message.Outgoing.the-variants.{None, Sent}
-use Rattle.hermes_record.specs.Order.{higher}
+use Rattle.hermes_record.specs.Order.{ties}
 use Rattle.hermes.specs.Event.{numberOf, sentBy}
 use Rattle.hermes.specs.Node.{Node, recordOf}
 use Rattle.hermes.specs.Run.{Action, read, write, replay, deliver, validate, resend, view, Entry, Group, Result, nothing, event, result, run}
@@ -78,7 +78,7 @@ actionOf (command.View epoch set) t = view epoch set
 -- an entry of one of the n laptops
 unfoldable pub entryTurn : ℕ → Group → Entry → Turn
 entryTurn n g a =
-    cond (ltb (a .who) n) (record { entries = played (length (g .log)) a (result higher g a); text = reply (length (g .log)) (result higher g a) }) unknown
+    cond (ltb (a .who) n) (record { entries = played (length (g .log)) a (result ties g a); text = reply (length (g .log)) (result ties g a) }) unknown
 
 abbrev pub turnOf : ℕ → Group → List ℕ → Line → Turn
 turnOf n g s (line.Entry who c) = entryTurn n g (record { who = who; what = actionOf c (textOf s) })
@@ -92,7 +92,7 @@ turn n g s = turnOf n g s (lineOf s)
 
 -- the group after a line
 abbrev pub after : ℕ → Group → List ℕ → Group
-after n g s = run higher g (turn n g s .entries)
+after n g s = run ties g (turn n g s .entries)
 
 -- what the lines after line one print
 unfoldable pub prints : ℕ → Group → List (List ℕ) → List ℕ

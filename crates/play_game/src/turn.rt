@@ -3,7 +3,7 @@ ghost use mathlib.Core.Path.{_≡_};
 ghost use mathlib.Core.Bool.{true};
 ghost use Prim.Native.Nat.{_+_, _≤_, _<_};
 ghost use lib.ListN.{length};
-ghost use Rattle.hermes_record.specs.Order.{higher};
+ghost use Rattle.hermes_record.specs.Order.{ties};
 ghost use Rattle.hermes.specs.Event.{sentBy};
 ghost use Rattle.hermes.specs.Node.{indexOf};
 ghost use Rattle.hermes.specs.Run.{find, delivery, perform, logged};
@@ -32,7 +32,7 @@ pub struct Done {
 // Message k is delivered.
 fn deliver(m: Member, heads: &[u32], bodies: &[u8], sent: usize, k: usize) -> Judged
     requires { ⌜ Stored (now heads) (now bodies) sent ⌝ }
-    ensures { λ j. ⌜ (resultOf j ≡ delivery higher (find (logOf (now (heads .entry)) (now (bodies .entry)) sent) k) (nodeOf m)) × (indexOf (sentBy (j .answer)) ≡ 0) ⌝ }
+    ensures { λ j. ⌜ (resultOf j ≡ delivery ties (find (logOf (now (heads .entry)) (now (bodies .entry)) sent) k) (nodeOf m)) × (indexOf (sentBy (j .answer)) ≡ 0) ⌝ }
 {
     if sent <= k {
         return play_member::idle(m);
@@ -59,7 +59,7 @@ fn perform(
     sent: usize,
 ) -> Judged
     requires { ⌜ Stored (now heads) (now bodies) sent ⌝ }
-    ensures { λ j. ⌜ (resultOf j ≡ perform higher (actionOf what (textOf (now (line .entry)))) (logOf (now (heads .entry)) (now (bodies .entry)) sent) (nodeOf m))
+    ensures { λ j. ⌜ (resultOf j ≡ perform ties (actionOf what (textOf (now (line .entry)))) (logOf (now (heads .entry)) (now (bodies .entry)) sent) (nodeOf m))
         × (indexOf (sentBy (j .answer)) ≡ 0) ⌝ }
 {
     match what {

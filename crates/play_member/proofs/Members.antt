@@ -20,7 +20,7 @@ use Rattle.hermes.specs.declared.event.Answer.{Answer}
 use Rattle.hermes.specs.declared.event.Answer.the-variants as answer
 use Rattle.hermes.specs.declared.event.Admission.{Admission}
 use Rattle.hermes.specs.declared.event.Admission.the-variants as admission
-use Rattle.hermes_record.specs.Order.{higher, later}
+use Rattle.hermes_record.specs.Order.{ties, later}
 use Rattle.hermes_record.specs.Record.{freshRecord}
 use Rattle.hermes.specs.Guards.{firstNo}
 use Rattle.hermes.specs.Event.{step, invStep, ackStep, completes, resent, deliverStep, refusal, movedBy, effect, answerOf, sentBy}
@@ -93,8 +93,8 @@ ack-index : (c : Bool) (me : Replica) (r : Record) (sender : ℕ) → indexOf (a
 ack-index true me r sender = refl
 ack-index false me r sender = refl
 
-deliver-index : (me : Replica) (r : Record) (sender : ℕ) (m : Message) (v : List ℕ) → indexOf (deliverStep higher me 0 r sender m v .sent) ≡ 0
-deliver-index me r sender (Inv t) v = inv-index (later higher t (r .timestamp)) me r t sender v
+deliver-index : (me : Replica) (r : Record) (sender : ℕ) (m : Message) (v : List ℕ) → indexOf (deliverStep ties me 0 r sender m v .sent) ≡ 0
+deliver-index me r sender (Inv t) v = inv-index (later ties t (r .timestamp)) me r t sender v
 deliver-index me r sender (Ack t) v = ack-index (completes me r sender) me r sender
 deliver-index me r sender (Val t) v = refl
 
@@ -105,7 +105,7 @@ resent-index me state.InvalidWrite t = refl
 resent-index me state.Write t = refl
 resent-index me state.Replay t = refl
 
-step-index : (me : Replica) (r : Record) (e : Event) (v : List ℕ) → indexOf (step higher me 0 r e v .sent) ≡ 0
+step-index : (me : Replica) (r : Record) (e : Event) (v : List ℕ) → indexOf (step ties me 0 r e v .sent) ≡ 0
 step-index me r Read v = refl
 step-index me r Ask v = refl
 step-index me r Write v = refl
@@ -115,19 +115,19 @@ step-index me r (Deliver m) v = deliver-index me r (m .sender) (m .message) v
 step-index me r Validate v = refl
 step-index me r Resend v = resent-index me (r .state) (r .timestamp)
 
-pub effect-index : (me : Replica) (r : Record) (store : List ℕ) (e : Event) (v : List ℕ) → indexOf (sentBy (effect higher me 1 0 r store e v .moved .answer)) ≡ 0
+pub effect-index : (me : Replica) (r : Record) (store : List ℕ) (e : Event) (v : List ℕ) → indexOf (sentBy (effect ties me 1 0 r store e v .moved .answer)) ≡ 0
 unfolding effect
 effect-index me r store e v = go (refusal me 1 (length store) 0 r e (length v))
   where
-    go : (k : ℕ) → indexOf (sentBy (movedBy k r (step higher me 0 r e v) .answer)) ≡ 0
+    go : (k : ℕ) → indexOf (sentBy (movedBy k r (step ties me 0 r e v) .answer)) ≡ 0
     go zero = step-index me r e v
     go (suc k) = refl
 
 -- ---- each kind of event
 
 pub apply-is : (m : Member) (e : Event) (v : List ℕ) (x : Moved) (s : List ℕ)
-    → x ≡ effect higher (m .me) 1 0 (m .held) (m .store) e v .moved → s ≡ effect higher (m .me) 1 0 (m .held) (m .store) e v .store
-    → resultOf (record { known = true; answer = x .answer; member = record { me = m .me; held = x .after; store = s } }) ≡ event (apply higher (nodeOf m) 0 e v)
+    → x ≡ effect ties (m .me) 1 0 (m .held) (m .store) e v .moved → s ≡ effect ties (m .me) 1 0 (m .held) (m .store) e v .store
+    → resultOf (record { known = true; answer = x .answer; member = record { me = m .me; held = x .after; store = s } }) ≡ event (apply ties (nodeOf m) 0 e v)
 unfolding apply
 apply-is m e v x s ex es = λ i. event (record { answer = ex i .answer; node = record { me = m .me; table = ex i .after ∷ []; store = es i } })
 

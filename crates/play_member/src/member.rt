@@ -1,6 +1,6 @@
 // A member of the group in play, and what an event on it comes to.
 ghost use mathlib.Core.Path.{_≡_};
-ghost use Rattle.hermes_record.specs.Order.{higher};
+ghost use Rattle.hermes_record.specs.Order.{ties};
 ghost use Rattle.hermes.specs.Event.{sentBy};
 ghost use Rattle.hermes.specs.Node.{indexOf, apply, viewed};
 ghost use Rattle.hermes.specs.Run.{nothing, event};
@@ -53,7 +53,7 @@ impl Member {
 
 // An event on the member's record, with the value's bytes.
 pub fn apply(m: Member, e: Event, value: &[u8]) -> Judged
-    ensures { λ j. ⌜ (resultOf j ≡ event (apply higher (nodeOf m) 0 e (now (value .entry)))) × (indexOf (sentBy (j .answer)) ≡ 0) ⌝ }
+    ensures { λ j. ⌜ (resultOf j ≡ event (apply ties (nodeOf m) 0 e (now (value .entry)))) × (indexOf (sentBy (j .answer)) ≡ 0) ⌝ }
 {
     let me = m.me;
     let held = m.held;

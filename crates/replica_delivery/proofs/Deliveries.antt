@@ -13,7 +13,8 @@ use Rattle.hermes.specs.declared.event.Replica.{Replica}
 use Rattle.hermes.specs.declared.event.Event.{Event}
 use Rattle.hermes.specs.declared.event.Event.the-variants.{Deliver}
 use Rattle.hermes.specs.declared.event.Moved.{Moved}
-use Rattle.hermes_record.specs.Order.{higher, later}
+use Rattle.hermes_record.specs.Order.{ties, later}
+use Rattle.hermes.specs.Settings.{under}
 use Rattle.hermes.specs.Event.{common, own, refusal, moved, effect, movedBy, storedBy, storing, invStep, ackStep, deliverStep}
 use Rattle.hermes.proofs.Guards.{event-passed, own-passed, deliver-own, inv-fits}
 use Rattle.replica_outcome.specs.Placing.{room, storedFor}
@@ -36,40 +37,40 @@ ack-keeps me i r store sender false = refl
 module _ (me : Replica) (count i : ℕ) (r : Record) (store : List ℕ) (v : List ℕ) (d : Moved) (store′ : List ℕ) where
   -- the answer, the record and the store are those of the delivery of m
   abbrev pub Delivers : Received → Type 0
-  Delivers m = (d ≡ effect higher me count i r store (Deliver m) v .moved) × (store′ ≡ effect higher me count i r store (Deliver m) v .store)
+  Delivers m = (d ≡ effect ties me count i r store (Deliver m) v .moved) × (store′ ≡ effect ties me count i r store (Deliver m) v .store)
 
   pub of-kind : (m : Received) (k : Message) → m .message ≡ k → Delivers (cameFrom (m .sender) (m .epoch) k) → Delivers m
   of-kind m k e (moves, stores) = (
-    moves ∙ ap (λ (z : Received). effect higher me count i r store (Deliver z) v .moved) (whole m k e),
-    stores ∙ ap (λ (z : Received). effect higher me count i r store (Deliver z) v .store) (whole m k e),
+    moves ∙ ap (λ (z : Received). effect ties me count i r store (Deliver z) v .moved) (whole m k e),
+    stores ∙ ap (λ (z : Received). effect ties me count i r store (Deliver z) v .store) (whole m k e),
   )
 
   module _ (m : Received) (a : Asked) (asks : a ≡ asked (common me count (length store) i r (own me r (Deliver m) (length v))) r) where
     pub refuses : (k : ℕ) → a ≡ Refused k → d ≡ stoppedBy a r → store′ ≡ store → Delivers m
     unfolding effect
     refuses k stopped ends keeps = (
-      ends ∙ stops me count (length store) i r (Deliver m) (length v) a k (deliverStep higher me i r (m .sender) (m .message) v) asks stopped,
-      keeps ∙ stops-store me count (length store) i r (Deliver m) (length v) a k store (deliverStep higher me i r (m .sender) (m .message) v) asks stopped,
+      ends ∙ stops me count (length store) i r (Deliver m) (length v) a k (deliverStep ties me i r (m .sender) (m .message) v) asks stopped,
+      keeps ∙ stops-store me count (length store) i r (Deliver m) (length v) a k store (deliverStep ties me i r (m .sender) (m .message) v) asks stopped,
     )
 
     -- the step on the record that was passed on
-    pub accepts : (x : Record) → a ≡ Passed x → d ≡ movedBy 0 x (deliverStep higher me i x (m .sender) (m .message) v)
-        → store′ ≡ storing i (deliverStep higher me i x (m .sender) (m .message) v .stored) store → Delivers m
+    pub accepts : (x : Record) → a ≡ Passed x → d ≡ movedBy 0 x (deliverStep ties me i x (m .sender) (m .message) v)
+        → store′ ≡ storing i (deliverStep ties me i x (m .sender) (m .message) v .stored) store → Delivers m
     unfolding effect
     accepts x passed moves stores = (
-      moves ∙ goes me count (length store) i r (Deliver m) (length v) a x (λ z. deliverStep higher me i z (m .sender) (m .message) v) asks passed,
-      stores ∙ goes-store me count (length store) i r (Deliver m) (length v) a x store (λ z. deliverStep higher me i z (m .sender) (m .message) v) asks passed,
+      moves ∙ goes me count (length store) i r (Deliver m) (length v) a x (λ z. deliverStep ties me i z (m .sender) (m .message) v) asks passed,
+      stores ∙ goes-store me count (length store) i r (Deliver m) (length v) a x store (λ z. deliverStep ties me i z (m .sender) (m .message) v) asks passed,
     )
 
 module _ (me : Replica) (count bytes i : ℕ) (r : Record) (v : List ℕ) (d : Moved) (m : Received) (a : Asked) (asks : a ≡ asked (common me count bytes i r (own me r (Deliver m) (length v))) r) where
   -- the same of the answer and the record alone
-  pub refuses-moved : (k : ℕ) → a ≡ Refused k → d ≡ stoppedBy a r → d ≡ moved higher me count bytes i r (Deliver m) v
+  pub refuses-moved : (k : ℕ) → a ≡ Refused k → d ≡ stoppedBy a r → d ≡ moved ties me count bytes i r (Deliver m) v
   unfolding moved
-  refuses-moved k stopped ends = ends ∙ stops me count bytes i r (Deliver m) (length v) a k (deliverStep higher me i r (m .sender) (m .message) v) asks stopped
+  refuses-moved k stopped ends = ends ∙ stops me count bytes i r (Deliver m) (length v) a k (deliverStep ties me i r (m .sender) (m .message) v) asks stopped
 
-  pub accepts-moved : (x : Record) → a ≡ Passed x → d ≡ movedBy 0 x (deliverStep higher me i x (m .sender) (m .message) v) → d ≡ moved higher me count bytes i r (Deliver m) v
+  pub accepts-moved : (x : Record) → a ≡ Passed x → d ≡ movedBy 0 x (deliverStep ties me i x (m .sender) (m .message) v) → d ≡ moved ties me count bytes i r (Deliver m) v
   unfolding moved
-  accepts-moved x passed moves = moves ∙ goes me count bytes i r (Deliver m) (length v) a x (λ z. deliverStep higher me i z (m .sender) (m .message) v) asks passed
+  accepts-moved x passed moves = moves ∙ goes me count bytes i r (Deliver m) (length v) a x (λ z. deliverStep ties me i z (m .sender) (m .message) v) asks passed
 
 -- ---- the store of an invalidation, by its answer and by whether its timestamp is greater
 
@@ -81,7 +82,7 @@ module _ (me : Replica) (count i : ℕ) (r : Record) (store : List ℕ) (v : Lis
   no = refusal me count (length store) i r inv (length v)
 
   -- what moves is the effect's
-  pub inv-moved : moved higher me count (length store) i r inv v ≡ effect higher me count i r store inv v .moved
+  pub inv-moved : moved ties me count (length store) i r inv v ≡ effect ties me count i r store inv v .moved
   unfolding moved effect
   inv-moved = refl
 
@@ -90,12 +91,12 @@ module _ (me : Replica) (count i : ℕ) (r : Record) (store : List ℕ) (v : Lis
       room-passed (event-passed me count (length store) i r inv (length v) z) (length v)
       (inv-fits (Inv t) t (length v) refl (deliver-own me r (cameFrom sender epoch (Inv t)) (length v) (own-passed me count (length store) i r inv (length v) z) .shape))
 
-  pub inv-newer : (d : Moved) → d ≡ moved higher me count (length store) i r inv v → later higher t (r .timestamp) ≡ true
-      → storedFor (d .answer) count i v store ≡ effect higher me count i r store inv v .store
+  pub inv-newer : (d : Moved) → d ≡ moved ties me count (length store) i r inv v → later (under ties (me .settings)) t (r .timestamp) ≡ true
+      → storedFor (d .answer) count i v store ≡ effect ties me count i r store inv v .store
   unfolding moved effect
   inv-newer d h g = ap (λ (x : Moved). storedFor (x .answer) count i v store) h ∙ rw g (stored-for no count i r (invStep true me i r t sender v) v store refl fits)
 
-  pub inv-older : later higher t (r .timestamp) ≡ false → store ≡ effect higher me count i r store inv v .store
+  pub inv-older : later (under ties (me .settings)) t (r .timestamp) ≡ false → store ≡ effect ties me count i r store inv v .store
   unfolding effect
   inv-older g = rw g (go no)
     where

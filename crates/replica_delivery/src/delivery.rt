@@ -2,7 +2,8 @@
 ghost use mathlib.Core.Path.{_≡_};
 ghost use Prim.Native.Nat.{_≤_};
 ghost use lib.ListN.{length};
-ghost use Rattle.hermes_record.specs.Order.{higher, later};
+ghost use Rattle.hermes_record.specs.Order.{ties, later};
+ghost use Rattle.hermes.specs.Settings.{under};
 ghost use Rattle.hermes.specs.Event.{effect, moved, movedBy, invStep};
 ghost use Rattle.hermes.specs.declared.event.Event.the-variants.{Deliver};
 ghost use Rattle.hermes.specs.declared.message.Message.the-variants.{Inv, Ack, Val};
@@ -19,10 +20,12 @@ use replica_asking::Asked;
 // What an accepted invalidation makes of its record: its acknowledgement always leaves; only a greater timestamp is taken.
 fn take_inv(me: Replica, i: usize, r: Record, t: Timestamp, sender: u8, value: &[u8]) -> Moved
     requires { ⌜ length (now value) ≤ 192 ⌝ }
-    ensures { λ m. ⌜ m ≡ movedBy 0 r (invStep (later higher t (r .timestamp)) me i r t sender (now (value .entry))) ⌝ }
+    ensures { λ m. ⌜ m ≡ movedBy 0 r (invStep (later (under ties (me .settings)) t (r .timestamp)) me i r t sender (now (value .entry))) ⌝ }
 {
     let ack = replica_outgoing::send(me, i, Message::Ack(t));
-    if t.later(r.timestamp) {
+    let settings = me.settings;
+    let rule = settings.rule;
+    if t.later(r.timestamp, rule) {
         return replica_outcome::accepted(ack, r.take_invalidation(t, sender, value.len() as u8));
     }
     replica_outcome::accepted(ack, r)
@@ -40,7 +43,7 @@ pub fn move_inv(
     t: Timestamp,
     value: &[u8],
 ) -> Moved
-    ensures { λ d. ⌜ d ≡ moved higher me count bytes i r (Deliver (cameFrom sender epoch (Inv t))) (now (value .entry)) ⌝ }
+    ensures { λ d. ⌜ d ≡ moved ties me count bytes i r (Deliver (cameFrom sender epoch (Inv t))) (now (value .entry)) ⌝ }
 {
     let m = Received {
         sender: sender,
@@ -66,12 +69,14 @@ pub fn deliver_inv(
     t: Timestamp,
     value: &[u8],
 ) -> Moved
-    ensures { λ d. ⌜ (d ≡ effect higher me count i r (now (store .entry)) (Deliver (cameFrom sender epoch (Inv t))) (now (value .entry)) .moved)
-        × (now (store .exit) ≡ effect higher me count i r (now (store .entry)) (Deliver (cameFrom sender epoch (Inv t))) (now (value .entry)) .store) ⌝ }
+    ensures { λ d. ⌜ (d ≡ effect ties me count i r (now (store .entry)) (Deliver (cameFrom sender epoch (Inv t))) (now (value .entry)) .moved)
+        × (now (store .exit) ≡ effect ties me count i r (now (store .entry)) (Deliver (cameFrom sender epoch (Inv t))) (now (value .entry)) .store) ⌝ }
 {
     let m = move_inv(me, count, store.len(), i, r, sender, epoch, t, value);
     let now = r.timestamp;
-    if t.later(now) {
+    let settings = me.settings;
+    let rule = settings.rule;
+    if t.later(now, rule) {
         let a = m.answer;
         replica_outcome::stored(store, count, i, a, value);
     }
@@ -90,8 +95,8 @@ pub fn deliver_ack(
     t: Timestamp,
     value: &[u8],
 ) -> Moved
-    ensures { λ d. ⌜ (d ≡ effect higher me count i r (now (store .entry)) (Deliver (cameFrom sender epoch (Ack t))) (now (value .entry)) .moved)
-        × (now (store .entry) ≡ effect higher me count i r (now (store .entry)) (Deliver (cameFrom sender epoch (Ack t))) (now (value .entry)) .store) ⌝ }
+    ensures { λ d. ⌜ (d ≡ effect ties me count i r (now (store .entry)) (Deliver (cameFrom sender epoch (Ack t))) (now (value .entry)) .moved)
+        × (now (store .entry) ≡ effect ties me count i r (now (store .entry)) (Deliver (cameFrom sender epoch (Ack t))) (now (value .entry)) .store) ⌝ }
 {
     let m = Received {
         sender: sender,
@@ -117,8 +122,8 @@ pub fn deliver_val(
     t: Timestamp,
     value: &[u8],
 ) -> Moved
-    ensures { λ d. ⌜ (d ≡ effect higher me count i r (now (store .entry)) (Deliver (cameFrom sender epoch (Val t))) (now (value .entry)) .moved)
-        × (now (store .entry) ≡ effect higher me count i r (now (store .entry)) (Deliver (cameFrom sender epoch (Val t))) (now (value .entry)) .store) ⌝ }
+    ensures { λ d. ⌜ (d ≡ effect ties me count i r (now (store .entry)) (Deliver (cameFrom sender epoch (Val t))) (now (value .entry)) .moved)
+        × (now (store .entry) ≡ effect ties me count i r (now (store .entry)) (Deliver (cameFrom sender epoch (Val t))) (now (value .entry)) .store) ⌝ }
 {
     let m = Received {
         sender: sender,
@@ -142,8 +147,8 @@ pub fn deliver(
     m: Received,
     value: &[u8],
 ) -> Moved
-    ensures { λ d. ⌜ (d ≡ effect higher me count i r (now (store .entry)) (Deliver m) (now (value .entry)) .moved)
-        × (now (store .exit) ≡ effect higher me count i r (now (store .entry)) (Deliver m) (now (value .entry)) .store) ⌝ }
+    ensures { λ d. ⌜ (d ≡ effect ties me count i r (now (store .entry)) (Deliver m) (now (value .entry)) .moved)
+        × (now (store .exit) ≡ effect ties me count i r (now (store .entry)) (Deliver m) (now (value .entry)) .store) ⌝ }
 {
     let message = m.message;
     match message {

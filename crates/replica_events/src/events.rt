@@ -1,6 +1,6 @@
 // One event on one record, by its kind.
 ghost use mathlib.Core.Path.{_≡_};
-ghost use Rattle.hermes_record.specs.Order.{higher};
+ghost use Rattle.hermes_record.specs.Order.{ties};
 ghost use Rattle.hermes.specs.Event.{effect};
 use hermes::Event;
 use hermes::Moved;
@@ -24,8 +24,8 @@ pub fn step(
     e: Event,
     value: &[u8],
 ) -> Moved
-    ensures { λ m. ⌜ (m ≡ effect higher me count i r (now (store .entry)) e (now (value .entry)) .moved)
-        × (now (store .exit) ≡ effect higher me count i r (now (store .entry)) e (now (value .entry)) .store) ⌝ }
+    ensures { λ m. ⌜ (m ≡ effect ties me count i r (now (store .entry)) e (now (value .entry)) .moved)
+        × (now (store .exit) ≡ effect ties me count i r (now (store .entry)) e (now (value .entry)) .store) ⌝ }
 {
     match e {
         Event::Read => read_event(me, count, store.len(), i, r),

@@ -9,6 +9,7 @@ ghost use Rattle.replica_membership.specs.Admitted.{admissionBy};
 use hermes::Admission;
 use hermes::Record;
 use hermes::Replica;
+use hermes::Settings;
 use replica_asking::Asked;
 
 // An admission, by what its questions answered.
@@ -28,14 +29,15 @@ pub fn fresh_record(view: u16) -> Record
     Record::fresh(replica_members::lowest(view))
 }
 
-// A fresh start with so many records and bytes of store: is it admitted?
-pub fn admit(number: u8, view: u16, count: usize, bytes: usize) -> Admission
-    ensures { λ a. ⌜ a ≡ admit number view count bytes ⌝ }
+// A fresh start in a group with these settings, with so many records and bytes of store: is it admitted?
+pub fn admit(number: u8, view: u16, settings: Settings, count: usize, bytes: usize) -> Admission
+    ensures { λ a. ⌜ a ≡ admit number view settings count bytes ⌝ }
 {
     let me = Replica {
         number: number,
         epoch: 0,
         view: view,
+        settings: settings,
     };
     admission(
         replica_asking::at_start(me, count, bytes, fresh_record(view)),
@@ -55,7 +57,7 @@ fn refused(me: Replica, number: u8) -> Admission
     }
 }
 
-// A change to this epoch and view: questions 1, 3, 18 and 19. The tests stand in another order. Who is in the view has a number below 16, and
+// A change to this epoch and view; number and settings stay: questions 1, 3, 18 and 19. The tests stand in another order. Who is in the view has a number below 16, and
 // what a set of two lies within is of two itself: so nothing is left to ask of question 1 once the others say yes, and only after a no is its
 // number looked for.
 pub fn view(me: Replica, epoch: u32, set: u16) -> Admission
@@ -68,10 +70,12 @@ pub fn view(me: Replica, epoch: u32, set: u16) -> Admission
             if inside {
                 let two = replica_members::plural(set);
                 if two {
+                    let settings = me.settings;
                     return Admission::Admitted(Replica {
                         number: me.number,
                         epoch: epoch,
                         view: set,
+                        settings: settings,
                     });
                 }
             }

@@ -7,6 +7,7 @@ use native.Mathlib.Omega.{arith}
 use lib.ListN.{length}
 use Rattle.hermes_record.specs.declared.timestamp.Timestamp.{Timestamp}
 use Rattle.hermes_record.specs.declared.record.Record.{Record}
+use Rattle.hermes_record.specs.Order.{Orders}
 use Rattle.hermes.specs.declared.event.Replica.{Replica}
 use Rattle.hermes.specs.declared.event.Event.{Event}
 use Rattle.hermes.specs.declared.event.Event.the-variants.{Read, Ask, Write, Commit, Replay, Deliver, Validate, Resend}
@@ -81,7 +82,7 @@ still zero i r store s e = rw e
 still (suc k) i r store s e = refl
 
 -- such an event leaves the store, accepted or not, and looks at no value
-pub quiet : (wins : ℕ → ℕ → Bool) (me : Replica) (count i : ℕ) (r : Record) (store : List ℕ) (e : Event) (v : List ℕ) → Quiet e
+pub quiet : (wins : Orders) (me : Replica) (count i : ℕ) (r : Record) (store : List ℕ) (e : Event) (v : List ℕ) → Quiet e
     → effect wins me count i r store e v ≡ record { moved = moved wins me count (length store) i r e []; store = store }
 unfolding effect moved refusal
 quiet wins me count i r store Read v q = still (refusal me count (length store) i r Read 0) i r store (readStep r) refl

@@ -1,7 +1,7 @@
 // Read: the number and the part of a record of the lent table.
 ghost use mathlib.Core.Path.{_≡_};
 ghost use mathlib.Core.List.{[]};
-ghost use Rattle.hermes_record.specs.Order.{higher};
+ghost use Rattle.hermes_record.specs.Order.{ties};
 ghost use Rattle.hermes.specs.declared.event.Event.the-variants.{Read};
 ghost use Rattle.hermes.specs.Node.{lent, recordAt, read, apply};
 use hermes::Answer;
@@ -28,7 +28,7 @@ pub fn read<'a>(me: Replica, table: &[Record], store: &'a [u8], i: usize) -> &'a
 
 // The number of a read of record i.
 pub fn read_number(me: Replica, table: &[Record], store: &[u8], i: usize) -> Answer
-    ensures { λ a. ⌜ a ≡ apply higher (lent me (now (table .entry)) (now (store .entry))) i Read [] .answer ⌝ }
+    ensures { λ a. ⌜ a ≡ apply ties (lent me (now (table .entry)) (now (store .entry))) i Read [] .answer ⌝ }
 {
     let r = record_at(table, i);
     replica_reading::read_number(me, table.len(), store.len(), i, r)

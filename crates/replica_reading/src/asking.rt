@@ -1,7 +1,7 @@
 // Ask: a read that also hands out the timestamp, which a commit brings back. The value is the part that a read hands out.
 ghost use mathlib.Core.Path.{_≡_};
 ghost use mathlib.Core.List.{[]};
-ghost use Rattle.hermes_record.specs.Order.{higher};
+ghost use Rattle.hermes_record.specs.Order.{ties};
 ghost use Rattle.hermes.specs.Event.{moved, askStamp};
 ghost use Rattle.hermes.specs.declared.event.Event.the-variants.{Ask};
 use crate::reading::asks;
@@ -20,7 +20,7 @@ pub struct Handed {
 
 // An ask of record i, r.
 pub fn ask(me: Replica, count: usize, bytes: usize, i: usize, r: Record) -> Handed
-    ensures { λ o. ⌜ (o .answer ≡ moved higher me count bytes i r Ask [] .answer) × (o .timestamp ≡ askStamp me count bytes i r) ⌝ }
+    ensures { λ o. ⌜ (o .answer ≡ moved ties me count bytes i r Ask [] .answer) × (o .timestamp ≡ askStamp me count bytes i r) ⌝ }
 {
     let a = asks(me, count, bytes, i, r);
     let Asked::Passed(r1) = a else {

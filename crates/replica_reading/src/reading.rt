@@ -1,7 +1,7 @@
 // Read: its number, and its part of the store.
 ghost use mathlib.Core.Path.{_≡_};
 ghost use mathlib.Core.List.{[]};
-ghost use Rattle.hermes_record.specs.Order.{higher};
+ghost use Rattle.hermes_record.specs.Order.{ties};
 ghost use Rattle.hermes.specs.Event.{common, own, moved, readPart};
 ghost use Rattle.hermes.specs.declared.event.Event.the-variants.{Read};
 ghost use Rattle.replica_asking.specs.Cascade.{asked};
@@ -25,7 +25,7 @@ pub(crate) fn asks(me: Replica, count: usize, bytes: usize, i: usize, r: Record)
 
 // A read as an event: nothing moves.
 pub fn read_event(me: Replica, count: usize, bytes: usize, i: usize, r: Record) -> Moved
-    ensures { λ m. ⌜ m ≡ moved higher me count bytes i r Read [] ⌝ }
+    ensures { λ m. ⌜ m ≡ moved ties me count bytes i r Read [] ⌝ }
 {
     let a = asks(me, count, bytes, i, r);
     let Asked::Passed(r1) = a else {
@@ -36,7 +36,7 @@ pub fn read_event(me: Replica, count: usize, bytes: usize, i: usize, r: Record) 
 
 // The number of a read of record i, r.
 pub fn read_number(me: Replica, count: usize, bytes: usize, i: usize, r: Record) -> Answer
-    ensures { λ a. ⌜ a ≡ moved higher me count bytes i r Read [] .answer ⌝ }
+    ensures { λ a. ⌜ a ≡ moved ties me count bytes i r Read [] .answer ⌝ }
 {
     let m = read_event(me, count, bytes, i, r);
     m.answer

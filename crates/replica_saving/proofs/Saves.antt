@@ -9,7 +9,7 @@ use Rattle.hermes.specs.declared.event.Replica.{Replica}
 use Rattle.hermes.specs.declared.event.Event.{Event}
 use Rattle.hermes.specs.declared.event.Event.the-variants.{Read, Ask, Write, Commit, Replay, Deliver, Validate, Resend}
 use Rattle.hermes.specs.declared.event.Moved.{Moved}
-use Rattle.hermes_record.specs.Order.{higher}
+use Rattle.hermes_record.specs.Order.{ties}
 use Rattle.hermes.specs.Guards.{AllYes}
 use Rattle.hermes.specs.Event.{own, refusal, step, moved, effect, writeStep}
 use Rattle.hermes.proofs.Guards.{event-passed, own-passed, write-own, commit-own}
@@ -37,7 +37,7 @@ module _ (me : Replica) (i : ℕ) (r : Record) where
   saves-fit e s count bytes n z = fits-own e s n (own-passed me count bytes i r e n z)
 
   -- their step is that of a write
-  saves-step : (e : Event) → Saves e → (v : List ℕ) → step higher me i r e v ≡ writeStep me i r v
+  saves-step : (e : Event) → Saves e → (v : List ℕ) → step ties me i r e v ≡ writeStep me i r v
   saves-step Write s v = refl
   saves-step (Commit t) s v = refl
 
@@ -48,12 +48,12 @@ module _ (me : Replica) (count i : ℕ) (r : Record) (store v : List ℕ) (e : E
   fits : no ≡ 0 → room count (length store) i (length v) ≡ true
   fits z = room-passed (event-passed me count (length store) i r e (length v) z) (length v) (saves-fit me i r e s count (length store) (length v) z)
 
-  pub save-moved : moved higher me count (length store) i r e v ≡ effect higher me count i r store e v .moved
+  pub save-moved : moved ties me count (length store) i r e v ≡ effect ties me count i r store e v .moved
   unfolding moved effect
   save-moved = refl
 
-  pub save-stored : (d : Moved) → d ≡ moved higher me count (length store) i r e v → storedFor (d .answer) count i v store ≡ effect higher me count i r store e v .store
+  pub save-stored : (d : Moved) → d ≡ moved ties me count (length store) i r e v → storedFor (d .answer) count i v store ≡ effect ties me count i r store e v .store
   unfolding moved effect
   save-stored d h =
       ap (λ (x : Moved). storedFor (x .answer) count i v store) h
-      ∙ stored-for no count i r (step higher me i r e v) v store (rw (saves-step me i r e s v)) fits
+      ∙ stored-for no count i r (step ties me i r e v) v store (rw (saves-step me i r e s v)) fits

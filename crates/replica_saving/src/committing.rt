@@ -1,7 +1,7 @@
 // Commit: a write that brings back the timestamp t, which an ask handed out, and asks 26 in place of 7.
 ghost use mathlib.Core.Path.{_≡_};
 ghost use mathlib.Core.List.{[], _∷_};
-ghost use Rattle.hermes_record.specs.Order.{higher};
+ghost use Rattle.hermes_record.specs.Order.{ties};
 ghost use Rattle.hermes.specs.Event.{common, own, moved, effect};
 ghost use Rattle.hermes.specs.Guards.{question8, question9, question26};
 ghost use Rattle.hermes.specs.declared.event.Event.the-variants.{Commit};
@@ -53,7 +53,7 @@ pub fn move_commit(
     t: Timestamp,
     value: &[u8],
 ) -> Moved
-    ensures { λ m. ⌜ m ≡ moved higher me count bytes i r (Commit t) (now (value .entry)) ⌝ }
+    ensures { λ m. ⌜ m ≡ moved ties me count bytes i r (Commit t) (now (value .entry)) ⌝ }
 {
     let a = asks(me, count, bytes, i, r, t, value.len());
     let Asked::Passed(r1) = a else {
@@ -72,8 +72,8 @@ pub fn commit(
     t: Timestamp,
     value: &[u8],
 ) -> Moved
-    ensures { λ m. ⌜ (m ≡ effect higher me count i r (now (store .entry)) (Commit t) (now (value .entry)) .moved)
-        × (now (store .exit) ≡ effect higher me count i r (now (store .entry)) (Commit t) (now (value .entry)) .store) ⌝ }
+    ensures { λ m. ⌜ (m ≡ effect ties me count i r (now (store .entry)) (Commit t) (now (value .entry)) .moved)
+        × (now (store .exit) ≡ effect ties me count i r (now (store .entry)) (Commit t) (now (value .entry)) .store) ⌝ }
 {
     let m = move_commit(me, count, store.len(), i, r, t, value);
     let a = m.answer;

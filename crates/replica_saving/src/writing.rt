@@ -1,7 +1,7 @@
 // Write.
 ghost use mathlib.Core.Path.{_≡_};
 ghost use mathlib.Core.List.{[], _∷_};
-ghost use Rattle.hermes_record.specs.Order.{higher};
+ghost use Rattle.hermes_record.specs.Order.{ties};
 ghost use Rattle.hermes.specs.Event.{common, own, moved, effect};
 ghost use Rattle.hermes.specs.Guards.{question7, question8, question9};
 ghost use Rattle.hermes.specs.declared.event.Event.the-variants.{Write};
@@ -43,7 +43,7 @@ pub fn move_write(
     r: Record,
     value: &[u8],
 ) -> Moved
-    ensures { λ m. ⌜ m ≡ moved higher me count bytes i r Write (now (value .entry)) ⌝ }
+    ensures { λ m. ⌜ m ≡ moved ties me count bytes i r Write (now (value .entry)) ⌝ }
 {
     let a = asks(me, count, bytes, i, r, value.len());
     let Asked::Passed(r1) = a else {
@@ -61,8 +61,8 @@ pub fn write(
     store: &mut [u8],
     value: &[u8],
 ) -> Moved
-    ensures { λ m. ⌜ (m ≡ effect higher me count i r (now (store .entry)) Write (now (value .entry)) .moved)
-        × (now (store .exit) ≡ effect higher me count i r (now (store .entry)) Write (now (value .entry)) .store) ⌝ }
+    ensures { λ m. ⌜ (m ≡ effect ties me count i r (now (store .entry)) Write (now (value .entry)) .moved)
+        × (now (store .exit) ≡ effect ties me count i r (now (store .entry)) Write (now (value .entry)) .store) ⌝ }
 {
     let m = move_write(me, count, store.len(), i, r, value);
     let a = m.answer;

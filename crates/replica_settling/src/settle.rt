@@ -1,7 +1,7 @@
 // Replay, validate and resend, and the acknowledgement that settles a record.
 ghost use mathlib.Core.Path.{_≡_};
 ghost use mathlib.Core.List.{[]};
-ghost use Rattle.hermes_record.specs.Order.{higher};
+ghost use Rattle.hermes_record.specs.Order.{ties};
 ghost use Rattle.hermes.specs.Event.{common, own, moved, movedBy, completes, ackStep, validateStep, resent};
 ghost use Rattle.hermes.specs.declared.event.Event.the-variants.{Replay, Validate, Resend};
 ghost use Rattle.replica_asking.specs.Cascade.{asked};
@@ -16,7 +16,7 @@ use replica_asking::Asked;
 
 // A replay of record i, r.
 pub fn replay(me: Replica, count: usize, bytes: usize, i: usize, r: Record) -> Moved
-    ensures { λ m. ⌜ m ≡ moved higher me count bytes i r Replay [] ⌝ }
+    ensures { λ m. ⌜ m ≡ moved ties me count bytes i r Replay [] ⌝ }
 {
     let a = asks_replay(me, count, bytes, i, r);
     let Asked::Passed(r1) = a else {
@@ -49,7 +49,7 @@ fn validated(me: Replica, i: usize, r: Record) -> Moved
 
 // A validation of record i, r.
 pub fn validate(me: Replica, count: usize, bytes: usize, i: usize, r: Record) -> Moved
-    ensures { λ m. ⌜ m ≡ moved higher me count bytes i r Validate [] ⌝ }
+    ensures { λ m. ⌜ m ≡ moved ties me count bytes i r Validate [] ⌝ }
 {
     let a = asks_validate(me, count, bytes, i, r);
     let Asked::Passed(r1) = a else {
@@ -96,7 +96,7 @@ fn again(me: Replica, i: usize, s: State, t: Timestamp) -> Outgoing
 
 // A resend of what record i, r last sent.
 pub fn resend(me: Replica, count: usize, bytes: usize, i: usize, r: Record) -> Moved
-    ensures { λ m. ⌜ m ≡ moved higher me count bytes i r Resend [] ⌝ }
+    ensures { λ m. ⌜ m ≡ moved ties me count bytes i r Resend [] ⌝ }
 {
     let a = asks_resend(me, count, bytes, i, r);
     let Asked::Passed(r1) = a else {

@@ -6,6 +6,7 @@ use mathlib.Core.List.{List}
 use lib.ListN.{length}
 use Rattle.hermes_record.specs.declared.record.Record.{Record}
 use Rattle.hermes.specs.declared.event.Replica.{Replica}
+use Rattle.hermes.specs.declared.event.Settings.{Settings}
 use Rattle.hermes.specs.declared.event.Admission.{Admission}
 use Rattle.hermes.specs.declared.event.Admission.the-variants.{Admitted, Refused}
 use Rattle.hermes.specs.Guards.{firstNo}
@@ -27,17 +28,17 @@ begins-store : (k : ℕ) (me : Replica) (table : List Record) (store : List ℕ)
 begins-store zero me table store = refl
 begins-store (suc k) me table store = refl
 
-module _ (number view : ℕ) (table : List Record) (store : List ℕ) where
+module _ (number view : ℕ) (settings : Settings) (table : List Record) (store : List ℕ) where
   abbrev me : Replica
-  me = newcomer number view
+  me = newcomer number view settings
 
   abbrev no : ℕ
   no = firstNo (startQuestions me (length table) (length store))
 
-  pub start-table : filled (firstRecord view) table (filledBy (admit number view (length table) (length store)) (length table)) ≡ start number view table store .table
+  pub start-table : filled (firstRecord view) table (filledBy (admit number view settings (length table) (length store)) (length table)) ≡ start number view settings table store .table
   unfolding start
   start-table = begins no me table store
 
-  pub start-store : zeroedBy (admit number view (length table) (length store)) store ≡ start number view table store .store
+  pub start-store : zeroedBy (admit number view settings (length table) (length store)) store ≡ start number view settings table store .store
   unfolding start
   start-store = begins-store no me table store

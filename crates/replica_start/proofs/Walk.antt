@@ -19,12 +19,15 @@ use denote.Steps.{owned}
 use denote.Struct.Laws as SL
 use denote.Enum.Laws as EL
 use Rattle.hermes_record.specs.declared.record.Record.{Record}
+use Rattle.hermes.specs.declared.event.Settings.{Settings}
 use Rattle.hermes.specs.declared.event.Replica.{Replica}
 use Rattle.hermes.specs.declared.event.Event.{Event}
 use Rattle.hermes.specs.declared.event.Answer.{Answer}
 use Rattle.hermes.specs.declared.message.Outgoing.{Outgoing}
 use Rattle.hermes_record.proofs.record.Record as R
 use Rattle.hermes_record.proofs.record.Record.Laws as R′
+use Rattle.hermes.proofs.event.Settings as Se
+use Rattle.hermes.proofs.event.Settings.Laws as Se′
 use Rattle.hermes.proofs.event.Replica as P
 use Rattle.hermes.proofs.event.Replica.Laws as P′
 use Rattle.hermes.proofs.event.Event as E
@@ -88,6 +91,9 @@ scaled n i room l = scaled-fits i n record-size l (room .1)
 
 -- ---- machine values
 
+abbrev pub settings-val : Settings → Val
+settings-val = SL.val Se.the-type Se′.the-laws
+
 abbrev pub replica-val : Replica → Val
 replica-val = SL.val P.the-type P′.the-laws
 
@@ -114,6 +120,9 @@ unfolding head-or
 the-one v w e = ap (head-or v) e
 
 module _ {M : Type 1} (𝓤 : URA M) (H : Heap 𝓤) (A : Atoms 𝓤) (W : Given 𝓤 H A) where
+  pub typed-settings : (x : Settings) → Is Se.the-row x (settings-val x ∷ []) → Holds (hasTy Se′.mir (settings-val x)) × WT (settings-val x)
+  typed-settings x is = SL.lawful Se.the-type Se′.the-laws 𝓤 H A W .typed x _ is .0
+
   pub typed-replica : (me : Replica) → Is P.the-row me (replica-val me ∷ []) → Holds (hasTy P′.mir (replica-val me)) × WT (replica-val me)
   typed-replica me is = SL.lawful P.the-type P′.the-laws 𝓤 H A W .typed me _ is .0
 
@@ -134,6 +143,9 @@ module _ {M : Type 1} (𝓤 : URA M) (H : Heap 𝓤) (A : Atoms 𝓤) (W : Given
 module _ {M : Type 1} {𝓤 : URA M} {H : Heap 𝓤} {A : Atoms 𝓤} {K : Type 0} {W : Given 𝓤 H A} {Γ : List (Item 𝓤)} {G : Goal 𝓤 H} where
   pub has-number : K → (n : ℕ) → n < 2 ^ 64 → Step K W (‵ (usize .own n (vint w64 n ∷ [])) ∷ Γ) G Γ G
   has-number t n fits = owned t usize (Is usize) (uint-makes 𝓤 H A W w64) n _ (refl, fits)
+
+  pub has-settings : K → (x : Settings) → Is Se.the-row x (settings-val x ∷ []) → Step K W (‵ (Se.the-row .own x (settings-val x ∷ [])) ∷ Γ) G Γ G
+  has-settings t x is = owned t Se.the-row (Is Se.the-row) (SL.makes Se.the-type Se′.the-plain 𝓤 H A) x _ is
 
   pub has-replica : K → (me : Replica) → Is P.the-row me (replica-val me ∷ []) → Step K W (‵ (P.the-row .own me (replica-val me ∷ [])) ∷ Γ) G Γ G
   has-replica t me is = owned t P.the-row (Is P.the-row) (SL.makes P.the-type P′.the-plain 𝓤 H A) me _ is

@@ -5,6 +5,7 @@ ghost use Rattle.hermes.specs.Node.{admit, firstRecord, start};
 ghost use Rattle.replica_start.specs.Filling.{filledBy, zeroedBy};
 use hermes::Admission;
 use hermes::Record;
+use hermes::Settings;
 use replica_membership::admit;
 use replica_membership::fresh_record;
 
@@ -27,13 +28,13 @@ pub fn zero(store: &mut [u8])
 }
 
 // The fresh start but for the table.
-fn begin(number: u8, view: u16, count: usize, store: &mut [u8]) -> Begun
-    ensures { λ b. ⌜ (b .admission ≡ admit number view count (length (now (store .entry))))
-        × ((b .filled ≡ filledBy (admit number view count (length (now (store .entry)))) count)
+fn begin(number: u8, view: u16, settings: Settings, count: usize, store: &mut [u8]) -> Begun
+    ensures { λ b. ⌜ (b .admission ≡ admit number view settings count (length (now (store .entry))))
+        × ((b .filled ≡ filledBy (admit number view settings count (length (now (store .entry)))) count)
         × ((b .first ≡ firstRecord view)
-        × (now (store .exit) ≡ zeroedBy (admit number view count (length (now (store .entry)))) (now (store .entry))))) ⌝ }
+        × (now (store .exit) ≡ zeroedBy (admit number view settings count (length (now (store .entry)))) (now (store .entry))))) ⌝ }
 {
-    let a = admit(number, view, count, store.len());
+    let a = admit(number, view, settings, count, store.len());
     let r = fresh_record(view);
     match a {
         Admission::Admitted(_) => {
@@ -52,13 +53,19 @@ fn begin(number: u8, view: u16, count: usize, store: &mut [u8]) -> Begun
     }
 }
 
-// A fresh start: every record of the table becomes fresh, and the store zero. A refused one changes nothing.
-pub fn start(number: u8, view: u16, table: &mut [Record], store: &mut [u8]) -> Admission
-    ensures { λ a. ⌜ (a ≡ start number view (now (table .entry)) (now (store .entry)) .admission)
-        × ((now (table .exit) ≡ start number view (now (table .entry)) (now (store .entry)) .table)
-        × (now (store .exit) ≡ start number view (now (table .entry)) (now (store .entry)) .store)) ⌝ }
+// A fresh start in a group with these settings: every record of the table becomes fresh, and the store zero. A refused one changes nothing.
+pub fn start(
+    number: u8,
+    view: u16,
+    settings: Settings,
+    table: &mut [Record],
+    store: &mut [u8],
+) -> Admission
+    ensures { λ a. ⌜ (a ≡ start number view settings (now (table .entry)) (now (store .entry)) .admission)
+        × ((now (table .exit) ≡ start number view settings (now (table .entry)) (now (store .entry)) .table)
+        × (now (store .exit) ≡ start number view settings (now (table .entry)) (now (store .entry)) .store)) ⌝ }
 {
-    let b = begin(number, view, table.len(), store);
+    let b = begin(number, view, settings, table.len(), store);
     let mut k: usize = 0;
     while k < b.filled {
         table[k] = b.first;

@@ -1,6 +1,6 @@
 // An event on a record of the lent table: the record is taken out, moved by value, and put back.
 ghost use mathlib.Core.Path.{_≡_};
-ghost use Rattle.hermes_record.specs.Order.{higher};
+ghost use Rattle.hermes_record.specs.Order.{ties};
 ghost use Rattle.hermes_record.specs.Record.{freshRecord};
 ghost use Rattle.hermes.specs.Event.{effect};
 ghost use Rattle.hermes.specs.Node.{lent, apply};
@@ -12,8 +12,8 @@ use replica_events::step;
 
 // A record number past the table's end: question 4 refuses, or one before it.
 fn beyond(me: Replica, count: usize, i: usize, store: &mut [u8], e: Event, value: &[u8]) -> Answer
-    ensures { λ a. ⌜ (a ≡ effect higher me count i (freshRecord 0) (now (store .entry)) e (now (value .entry)) .moved .answer)
-        × (now (store .exit) ≡ effect higher me count i (freshRecord 0) (now (store .entry)) e (now (value .entry)) .store) ⌝ }
+    ensures { λ a. ⌜ (a ≡ effect ties me count i (freshRecord 0) (now (store .entry)) e (now (value .entry)) .moved .answer)
+        × (now (store .exit) ≡ effect ties me count i (freshRecord 0) (now (store .entry)) e (now (value .entry)) .store) ⌝ }
 {
     let m = step(me, count, i, Record::fresh(0), store, e, value);
     m.answer
@@ -28,9 +28,9 @@ pub fn apply(
     e: Event,
     value: &[u8],
 ) -> Answer
-    ensures { λ a. ⌜ (a ≡ apply higher (lent me (now (table .entry)) (now (store .entry))) i e (now (value .entry)) .answer)
-        × ((now (table .exit) ≡ apply higher (lent me (now (table .entry)) (now (store .entry))) i e (now (value .entry)) .node .table)
-        × (now (store .exit) ≡ apply higher (lent me (now (table .entry)) (now (store .entry))) i e (now (value .entry)) .node .store)) ⌝ }
+    ensures { λ a. ⌜ (a ≡ apply ties (lent me (now (table .entry)) (now (store .entry))) i e (now (value .entry)) .answer)
+        × ((now (table .exit) ≡ apply ties (lent me (now (table .entry)) (now (store .entry))) i e (now (value .entry)) .node .table)
+        × (now (store .exit) ≡ apply ties (lent me (now (table .entry)) (now (store .entry))) i e (now (value .entry)) .node .store)) ⌝ }
 {
     let n = table.len();
     if n <= i {

@@ -21,7 +21,7 @@ admission-requires c κs = search needs
 returns : tie.Need-returns
 returns c =
     let v = c .before .before .before .args in
-    let me : Replica = newcomer (v .number) (v .view) in
+    let me : Replica = newcomer (v .number) (v .view) (v .settings) in
     c .admission .ensures ∙ ap (λ (x : Asked). admissionBy x me) (c .before .at-start .ensures) ∙ admits (startQuestions me (v .count) (v .bytes)) _ me refl
 
 pub admit-spec : {M : Type 1} → statement M

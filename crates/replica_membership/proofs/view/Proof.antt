@@ -23,8 +23,8 @@ plural-requires c κs = search needs
 
 returns : tie.Need-returns
 unfolding view
-returns c = let v = c .before .before .before .before .before .before .before .before .args in
-    rw (first-no (v .me) (v .epoch) (v .set), sym (c .before .before .before .before .before .before .before .has .ensures) ∙ c .before .before .before .before .before .before .if1 .taken, lt-ltb _ _ (c .before .before .before .before .if2 .taken), sym (c .before .before .before .within .ensures) ∙ c .before .before .if3 .taken, sym (c .before .plural .ensures) ∙ c .if4 .taken)
+returns c = let v = c .before .before .before .before .before .before .before .before .before .args in
+    rw (first-no (v .me) (v .epoch) (v .set), sym (c .before .before .before .before .before .before .before .before .has .ensures) ∙ c .before .before .before .before .before .before .before .if1 .taken, lt-ltb _ _ (c .before .before .before .before .before .if2 .taken), sym (c .before .before .before .before .within .ensures) ∙ c .before .before .before .if3 .taken, sym (c .before .before .plural .ensures) ∙ c .before .if4 .taken)
 
 refused-requires : tie.Need-refused-requires
 refused-requires c κs = search needs
@@ -34,7 +34,7 @@ unfolding view
 returns-2 c = let v = c .before .before .before .before .before .before .before .args in
     let out : (within (v .set) (v .me .view) && leb 2 (size (v .set))) ≡ false =
     ⊎-elim (λ w. rw (sym (w .1 .ensures) ∙ w .2 .left) (and-false (within (v .set) (v .me .view)))) (λ w. rw (sym (c .before .before .within .ensures) ∙ w .left)) (c .before .if3 .came) in
-    c .refused .ensures ∙ either-refuses (leb 2 (size (v .me .view))) 18 (record { number = v .me .number; epoch = v .epoch; view = v .set }) ∙ rw (first-no (v .me) (v .epoch) (v .set), sym (c .before .before .before .before .before .before .has .ensures) ∙ c .before .before .before .before .before .if1 .taken, lt-ltb _ _ (c .before .before .before .if2 .taken), out)
+    c .refused .ensures ∙ either-refuses (leb 2 (size (v .me .view))) 18 (record { number = v .me .number; epoch = v .epoch; view = v .set; settings = v .me .settings }) ∙ rw (first-no (v .me) (v .epoch) (v .set), sym (c .before .before .before .before .before .before .has .ensures) ∙ c .before .before .before .before .before .if1 .taken, lt-ltb _ _ (c .before .before .before .if2 .taken), out)
 
 refused-requires-2 : tie.Need-refused-requires-2
 refused-requires-2 c κs = search needs
@@ -42,7 +42,7 @@ refused-requires-2 c κs = search needs
 returns-3 : tie.Need-returns-3
 unfolding view
 returns-3 c = let v = c .before .before .before .before .before .args in
-    c .refused2 .ensures ∙ either-refuses (leb 2 (size (v .me .view))) 17 (record { number = v .me .number; epoch = v .epoch; view = v .set }) ∙ rw (first-no (v .me) (v .epoch) (v .set), sym (c .before .before .before .before .has .ensures) ∙ c .before .before .before .if1 .taken, le-ltb _ _ (c .before .if2 .left))
+    c .refused2 .ensures ∙ either-refuses (leb 2 (size (v .me .view))) 17 (record { number = v .me .number; epoch = v .epoch; view = v .set; settings = v .me .settings }) ∙ rw (first-no (v .me) (v .epoch) (v .set), sym (c .before .before .before .before .has .ensures) ∙ c .before .before .before .if1 .taken, le-ltb _ _ (c .before .if2 .left))
 
 refused-requires-3 : tie.Need-refused-requires-3
 refused-requires-3 c κs = search needs
@@ -50,7 +50,7 @@ refused-requires-3 c κs = search needs
 returns-4 : tie.Need-returns-4
 unfolding view
 returns-4 c = let v = c .before .before .before .before .before .args in
-    c .refused3 .ensures ∙ either-refuses (leb 2 (size (v .me .view))) 2 (record { number = v .me .number; epoch = v .epoch; view = v .set }) ∙ rw (first-no (v .me) (v .epoch) (v .set), sym (c .before .before .before .before .has .ensures) ∙ c .before .before .before .if1 .left, le-leb _ _ (c .before .if5 .taken))
+    c .refused3 .ensures ∙ either-refuses (leb 2 (size (v .me .view))) 2 (record { number = v .me .number; epoch = v .epoch; view = v .set; settings = v .me .settings }) ∙ rw (first-no (v .me) (v .epoch) (v .set), sym (c .before .before .before .before .has .ensures) ∙ c .before .before .before .if1 .left, le-leb _ _ (c .before .if5 .taken))
 
 returns-5 : tie.Need-returns-5
 unfolding view

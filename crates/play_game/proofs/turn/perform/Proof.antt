@@ -2,7 +2,7 @@
 use Rattle.hermes.specs.declared.event.Event.the-variants.{Write}
 use Prim.Native.Nat.{ℕ}
 use Rattle.hermes.specs.Node.{apply}
-use Rattle.hermes_record.specs.Order.{higher}
+use Rattle.hermes_record.specs.Order.{ties}
 use Rattle.hermes.specs.Run.{event}
 use Rattle.play_member.specs.Member.{nodeOf}
 use mathlib.Core.List.{List}
@@ -72,7 +72,7 @@ returns : tie.Need-returns
 returns c = (rw (c .before .before .enum-told .given .1) (c .apply .ensures .0), c .apply .ensures .1)
 
 returns-2 : tie.Need-returns-2
-returns-2 c = (rw (c .before .before .enum-told2 .given .1) (c .apply2 .ensures .0 ∙ ap (λ (v : List ℕ). event (apply higher (nodeOf (c .before .before .before .before .before .before .before .args .m)) 0 Write v)) (c .before .text .ensures)), c .apply2 .ensures .1)
+returns-2 c = (rw (c .before .before .enum-told2 .given .1) (c .apply2 .ensures .0 ∙ ap (λ (v : List ℕ). event (apply ties (nodeOf (c .before .before .before .before .before .before .before .args .m)) 0 Write v)) (c .before .text .ensures)), c .apply2 .ensures .1)
 
 returns-3 : tie.Need-returns-3
 returns-3 c = (rw (c .before .before .enum-told3 .given .1) (c .apply3 .ensures .0), c .apply3 .ensures .1)

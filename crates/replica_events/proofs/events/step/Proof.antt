@@ -1,5 +1,5 @@
 -- `replica_events::events::step` meets its contract.
-use Rattle.hermes_record.specs.Order.{higher}
+use Rattle.hermes_record.specs.Order.{ties}
 use Rattle.hermes.specs.declared.event.Event.the-variants as event
 use Rattle.hermes.proofs.Asking.{moves-as-read}
 use Rattle.replica_outcome.proofs.Outcomes.{quiet}
@@ -58,10 +58,10 @@ resend-requires : tie.Need-resend-requires
 resend-requires c κs = search needs
 
 returns : tie.Need-returns
-returns c = let v = c .before .before .before .before .before .args in rw (c .before .enum-told .given .1, quiet higher (v .me) (v .count) (v .i) (v .r) (v .store .now) event.Read (v .value .now) tt) (c .read-event .ensures, refl)
+returns c = let v = c .before .before .before .before .before .args in rw (c .before .enum-told .given .1, quiet ties (v .me) (v .count) (v .i) (v .r) (v .store .now) event.Read (v .value .now) tt) (c .read-event .ensures, refl)
 
 returns-2 : tie.Need-returns-2
-returns-2 c = let v = c .before .before .before .before .before .args in rw (c .before .enum-told2 .given .1, quiet higher (v .me) (v .count) (v .i) (v .r) (v .store .now) event.Ask (v .value .now) tt, moves-as-read higher (v .me) (v .count) (length (v .store .now)) (v .i) (v .r)) (c .read-event2 .ensures, refl)
+returns-2 c = let v = c .before .before .before .before .before .args in rw (c .before .enum-told2 .given .1, quiet ties (v .me) (v .count) (v .i) (v .r) (v .store .now) event.Ask (v .value .now) tt, moves-as-read ties (v .me) (v .count) (length (v .store .now)) (v .i) (v .r)) (c .read-event2 .ensures, refl)
 
 same-length : tie.Need-same-length
 same-length c = search needs
@@ -76,7 +76,7 @@ returns-4 : tie.Need-returns-4
 returns-4 c = rw (c .before .before .before .before .before .e .given .1) (c .before .before .commit .ensures)
 
 returns-5 : tie.Need-returns-5
-returns-5 c = let v = c .before .before .before .before .before .args in rw (c .before .enum-told4 .given .1, quiet higher (v .me) (v .count) (v .i) (v .r) (v .store .now) event.Replay (v .value .now) tt) (c .replay .ensures, refl)
+returns-5 c = let v = c .before .before .before .before .before .args in rw (c .before .enum-told4 .given .1, quiet ties (v .me) (v .count) (v .i) (v .r) (v .store .now) event.Replay (v .value .now) tt) (c .replay .ensures, refl)
 
 same-length-3 : tie.Need-same-length-3
 same-length-3 c = search needs
@@ -85,10 +85,10 @@ returns-6 : tie.Need-returns-6
 returns-6 c = rw (c .before .before .before .before .before .e2 .given .1) (c .before .before .deliver .ensures)
 
 returns-7 : tie.Need-returns-7
-returns-7 c = let v = c .before .before .before .before .before .args in rw (c .before .enum-told5 .given .1, quiet higher (v .me) (v .count) (v .i) (v .r) (v .store .now) event.Validate (v .value .now) tt) (c .validate .ensures, refl)
+returns-7 c = let v = c .before .before .before .before .before .args in rw (c .before .enum-told5 .given .1, quiet ties (v .me) (v .count) (v .i) (v .r) (v .store .now) event.Validate (v .value .now) tt) (c .validate .ensures, refl)
 
 returns-8 : tie.Need-returns-8
-returns-8 c = let v = c .before .before .before .before .before .args in rw (c .before .enum-told6 .given .1, quiet higher (v .me) (v .count) (v .i) (v .r) (v .store .now) event.Resend (v .value .now) tt) (c .resend .ensures, refl)
+returns-8 c = let v = c .before .before .before .before .before .args in rw (c .before .enum-told6 .given .1, quiet ties (v .me) (v .count) (v .i) (v .r) (v .store .now) event.Resend (v .value .now) tt) (c .resend .ensures, refl)
 
 pub step-spec : {M : Type 1} → statement M
 step-spec =

@@ -14,7 +14,7 @@ use denote.Struct.Laws as SL
 use Rattle.hermes.specs.declared.event.Event.the-variants.{Ask}
 use Rattle.replica_reading.proofs.asking.Handed as Op
 use Rattle.replica_reading.proofs.asking.Handed.Laws as Op′
-use Rattle.hermes_record.specs.Order.{higher}
+use Rattle.hermes_record.specs.Order.{ties}
 use Rattle.hermes.specs.Event.{Effect, moved, askStamp, askHands}
 use Rattle.hermes.specs.Node.{apply}
 use Rattle.replica_outcome.proofs.Outcomes.{quiet}
@@ -28,12 +28,12 @@ use Rattle.replica_parts.proofs.asking.ask.Code as code
 
 -- what the contract of the one-record `ask` says
 abbrev Told : OfRecord Op.the-row
-Told me count bytes i r o = (o .answer ≡ moved higher me count bytes i r Ask [] .answer) × (o .timestamp ≡ askStamp me count bytes i r)
+Told me count bytes i r o = (o .answer ≡ moved ties me count bytes i r Ask [] .answer) × (o .timestamp ≡ askStamp me count bytes i r)
 
 -- an ask looks at the store's length alone
 opened : {M : Type 1} (𝓤 : URA M) (H : Heap 𝓤) (A : Atoms 𝓤) (mem : Memory → SProp 𝓤) (run : Routine → Fun 𝓤) → Follows Op.the-row 𝓤 (ask.clauses 𝓤 H A mem run) Told
 unfolding apply askHands
-opened 𝓤 H A mem run κs a g o e said = factI 𝓤 _ (emp 𝓤) (said .0 ∙ sym (ap (λ (z : Effect). z .moved .answer) (quiet higher _ _ _ _ _ Ask [] tt)), said .1)
+opened 𝓤 H A mem run κs a g o e said = factI 𝓤 _ (emp 𝓤) (said .0 ∙ sym (ap (λ (z : Effect). z .moved .answer) (quiet ties _ _ _ _ _ Ask [] tt)), said .1)
 
 pub ask-spec : {M : Type 1} → stated.statement M
 unfolding code.routine

@@ -14,7 +14,7 @@ use Rattle.replica_start.proofs.Walk.{typed-answer}
 use Rattle.hermes.specs.declared.event.Event.the-variants.{Read}
 use Rattle.hermes.proofs.event.Answer as An
 use Rattle.hermes.proofs.event.Answer.Laws as An′
-use Rattle.hermes_record.specs.Order.{higher}
+use Rattle.hermes_record.specs.Order.{ties}
 use Rattle.hermes.specs.Event.{Effect, moved}
 use Rattle.hermes.specs.Node.{apply}
 use Rattle.replica_outcome.proofs.Outcomes.{quiet}
@@ -28,13 +28,13 @@ use Rattle.replica_parts.proofs.reading.read_number.Code as code
 
 -- what the contract of the one-record `read_number` says
 abbrev Told : OfRecord An.the-row
-Told me count bytes i r x = x ≡ moved higher me count bytes i r Read [] .answer
+Told me count bytes i r x = x ≡ moved ties me count bytes i r Read [] .answer
 
 -- a read looks at the store's length alone
 numbered : {M : Type 1} (𝓤 : URA M) (H : Heap 𝓤) (A : Atoms 𝓤) (mem : Memory → SProp 𝓤) (run : Routine → Fun 𝓤) → Follows An.the-row 𝓤 (read-number.clauses 𝓤 H A mem run) Told
 unfolding apply
 numbered 𝓤 H A mem run κs a g x e said =
-    factI 𝓤 _ (emp 𝓤) (said ∙ sym (ap (λ (z : Effect). z .moved .answer) (quiet higher _ _ _ _ _ Read [] tt)))
+    factI 𝓤 _ (emp 𝓤) (said ∙ sym (ap (λ (z : Effect). z .moved .answer) (quiet ties _ _ _ _ _ Read [] tt)))
 
 pub read-number-spec : {M : Type 1} → stated.statement M
 unfolding code.routine

@@ -61,7 +61,7 @@ use Rattle.hermes.proofs.event.Answer as An
 use Rattle.hermes.proofs.event.Moved as Mo
 use Rattle.hermes.proofs.event.Moved.Laws as Mo′
 use Rattle.hermes_record.specs.Record.{freshRecord}
-use Rattle.hermes_record.specs.Order.{higher}
+use Rattle.hermes_record.specs.Order.{ties}
 use Rattle.hermes.specs.Event.{effect}
 use Rattle.hermes.specs.Node.{Outcome, lent, recordAt}
 use Rattle.hermes.specs.Node as node
@@ -181,14 +181,14 @@ module _ {M : Type 1} (𝓤 : URA M) (H : Heap 𝓤) (A : Atoms 𝓤) (W : Given
 
   -- what the callees ensure, at the store's last list
   abbrev Left : Answer → List ℕ → Type 0
-  Left r zs = (r ≡ effect higher me (length ys) i (freshRecord 0) ss e bs .moved .answer) × (zs ≡ effect higher me (length ys) i (freshRecord 0) ss e bs .store)
+  Left r zs = (r ≡ effect ties me (length ys) i (freshRecord 0) ss e bs .moved .answer) × (zs ≡ effect ties me (length ys) i (freshRecord 0) ss e bs .store)
 
   abbrev Stepped : Moved → List ℕ → Type 0
-  Stepped m zs = (m ≡ effect higher me (length ys) i r₀ ss e bs .moved) × (zs ≡ effect higher me (length ys) i r₀ ss e bs .store)
+  Stepped m zs = (m ≡ effect ties me (length ys) i r₀ ss e bs .moved) × (zs ≡ effect ties me (length ys) i r₀ ss e bs .store)
 
   -- what is to be ensured
   abbrev outcome : Outcome
-  outcome = node.apply higher (lent me ys ss) i e bs
+  outcome = node.apply ties (lent me ys ss) i e bs
 
   abbrev Ensured : Answer → List Record → List ℕ → Type 0
   Ensured r ts zs = (r ≡ outcome .answer) × ((ts ≡ outcome .node .table) × (zs ≡ outcome .node .store))
@@ -197,7 +197,7 @@ module _ {M : Type 1} (𝓤 : URA M) (H : Heap 𝓤) (A : Atoms 𝓤) (W : Given
   unfolding node.apply
   past r zs h said =
       let d : freshRecord 0 ≡ r₀ = sym (List·getD-eq-default ys (freshRecord 0) h) in
-      (said .0 ∙ ap (λ (x : Record). effect higher me (length ys) i x ss e bs .moved .answer) d, (sym (set-out ys i _ h), said .1 ∙ ap (λ (x : Record). effect higher me (length ys) i x ss e bs .store) d))
+      (said .0 ∙ ap (λ (x : Record). effect ties me (length ys) i x ss e bs .moved .answer) d, (sym (set-out ys i _ h), said .1 ∙ ap (λ (x : Record). effect ties me (length ys) i x ss e bs .store) d))
 
   moved : (m : Moved) (zs : List ℕ) → Stepped m zs → Ensured (m .answer) (set ys i (m .after)) zs
   unfolding node.apply
