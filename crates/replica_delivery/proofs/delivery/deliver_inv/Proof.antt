@@ -18,14 +18,14 @@ same-length : tie.Need-same-length
 same-length c = search needs
 
 returns : tie.Need-returns
-returns c = let v = c .before .before .before .before .before .before .before .before .before .before .before .before .args in (
-  c .before .before .before .before .before .before .before .before .before .move-inv .ensures ∙ inv-moved (v .me) (v .count) (v .i) (v .r) (v .store .now) (v .value .now) (v .sender) (v .epoch) (v .t),
-  c .before .before .stored .ensures ∙ inv-newer (v .me) (v .count) (v .i) (v .r) (v .store .now) (v .value .now) (v .sender) (v .epoch) (v .t) _ (c .before .before .before .before .before .before .before .before .before .move-inv .ensures) (sym (c .before .before .before .before .before .later .ensures) ∙ c .before .before .before .before .if1 .taken),
+returns c = let v = c .before .before .before .before .before .before .before .before .before .before .before .args in (
+  c .before .before .before .before .before .before .before .before .move-inv .ensures ∙ inv-moved (v .me) (v .count) (v .i) (v .r) (v .store .now) (v .value .now) (v .sender) (v .epoch) (v .t),
+  c .before .before .stored .ensures ∙ inv-newer (v .me) (v .count) (v .i) (v .r) (v .store .now) (v .value .now) (v .sender) (v .epoch) (v .t) _ (c .before .before .before .before .before .before .before .before .move-inv .ensures) (sym (c .before .before .before .before .before .later .ensures) ∙ c .before .before .before .before .if1 .taken),
 )
 
 returns-2 : tie.Need-returns-2
-returns-2 c = let v = c .before .before .before .before .before .before .before .before .args in (
-  c .before .before .before .before .before .move-inv .ensures ∙ inv-moved (v .me) (v .count) (v .i) (v .r) (v .store .now) (v .value .now) (v .sender) (v .epoch) (v .t),
+returns-2 c = let v = c .before .before .before .before .before .before .before .args in (
+  c .before .before .before .before .move-inv .ensures ∙ inv-moved (v .me) (v .count) (v .i) (v .r) (v .store .now) (v .value .now) (v .sender) (v .epoch) (v .t),
   inv-older (v .me) (v .count) (v .i) (v .r) (v .store .now) (v .value .now) (v .sender) (v .epoch) (v .t) (sym (c .before .later .ensures) ∙ c .if1 .left),
 )
 

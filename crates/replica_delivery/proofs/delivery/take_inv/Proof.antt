@@ -24,19 +24,19 @@ accepted-requires c κs = search needs
 
 returns : tie.Need-returns
 returns c =
-    let v = c .before .before .before .before .before .before .before .before .args in
+    let v = c .before .before .before .before .before .before .before .args in
     let newer : c .before .before .before .later .result ≡ later (under ties (v .me .settings)) (v .t) (v .r .timestamp) = c .before .before .before .later .ensures in
-    c .accepted .ensures ∙ rw (c .before .before .before .before .before .before .send .ensures, c .before .take-invalidation .ensures, ← newer, c .before .before .if1 .taken)
+    c .accepted .ensures ∙ rw (c .before .before .before .before .before .send .ensures, c .before .take-invalidation .ensures, ← newer, c .before .before .if1 .taken)
 
 accepted-requires-2 : tie.Need-accepted-requires-2
 accepted-requires-2 c κs = search needs
 
 returns-2 : tie.Need-returns-2
 returns-2 c =
-    let v = c .before .before .before .before .before .before .before .args in
+    let v = c .before .before .before .before .before .before .args in
     let newer : c .before .before .later .result ≡ later (under ties (v .me .settings)) (v .t) (v .r .timestamp) = c .before .before .later .ensures in
     c .accepted2 .ensures
-    ∙ ap (λ o. record { answer = Accepted o; after = v .r }) (c .before .before .before .before .before .send .ensures)
+    ∙ ap (λ o. record { answer = Accepted o; after = v .r }) (c .before .before .before .before .send .ensures)
     ∙ rw (← newer, c .before .if1 .left)
 
 pub take-inv-spec : {M : Type 1} → statement M
