@@ -13,6 +13,7 @@ use Rattle.hermes_record.specs.Members.{has, size, lowest}
 use Rattle.hermes_record.specs.Order.{ties}
 use Rattle.hermes_record.specs.Record.{freshRecord}
 use Rattle.hermes.specs.Event.{sentBy}
+use Rattle.hermes.specs.Settings.{oldSettings}
 use Rattle.hermes.specs.Node.{newcomer, identity, start}
 use Rattle.hermes.specs.Run.{Entry, Group, Result, nothing, event, result}
 use Rattle.hermes.specs.Agreement.{Started, AsIssued, Entries}
@@ -78,7 +79,7 @@ of-script n issued g (s ∷ rest) h =
 
 -- ---- the fresh start of each laptop is accepted
 
-pub fresh-start : (n k : ℕ) → 2 ≤ n → n ≤ 4 → k < n → startIn (2 ^ n - 1) k .admission ≡ Admitted (newcomer k (2 ^ n - 1))
+pub fresh-start : (n k : ℕ) → 2 ≤ n → n ≤ 4 → k < n → startIn (2 ^ n - 1) k .admission ≡ Admitted (newcomer k (2 ^ n - 1) oldSettings)
 unfolding start has size lowest
 fresh-start zero k l h e = absurd (omega arith)
 fresh-start (suc zero) k l h e = absurd (omega arith)
@@ -96,7 +97,7 @@ fresh-start (suc (suc (suc (suc zero)))) (suc (suc (suc zero))) l h e = refl
 fresh-start (suc (suc (suc (suc zero)))) (suc (suc (suc (suc k)))) l h e = absurd (omega arith)
 fresh-start (suc (suc (suc (suc (suc n))))) k l h e = absurd (omega arith)
 
-started : (n : ℕ) → 2 ≤ n → n ≤ 4 → (issued : ℕ → ℕ) → issued 0 ≡ 2 ^ n - 1 → Started (λ k. ltb k n) 1 issued (freshGroup n)
+started : (n : ℕ) → 2 ≤ n → n ≤ 4 → (issued : ℕ → ℕ) → issued 0 ≡ 2 ^ n - 1 → Started (λ k. ltb k n) 1 issued oldSettings (freshGroup n)
 unfolding freshGroup freshNode freshIn
 started n l h issued i = record {
   fresh = λ k e. record {
@@ -104,16 +105,16 @@ started n l h issued i = record {
     store = replicate 192 0;
     records = refl;
     accepted =
-        ap (λ (v : ℕ). startIn v k .admission) i ∙ at k e ∙ ap (λ (x : Admission). Admitted (identity x (newcomer k (2 ^ n - 1)))) (sym (at k e));
+        ap (λ (v : ℕ). startIn v k .admission) i ∙ at k e ∙ ap (λ (x : Admission). Admitted (identity x (newcomer k (2 ^ n - 1) oldSettings))) (sym (at k e));
     tableAfter = fresh-table (2 ^ n - 1) k ∙ ap (λ (v : ℕ). startIn v k .table) (sym i);
     storeAfter = ap (λ (v : ℕ). startIn v k .store) (sym i);
   };
   silent = refl;
 }
   where
-    at : (k : ℕ) → ltb k n ≡ true → startIn (2 ^ n - 1) k .admission ≡ Admitted (newcomer k (2 ^ n - 1))
+    at : (k : ℕ) → ltb k n ≡ true → startIn (2 ^ n - 1) k .admission ≡ Admitted (newcomer k (2 ^ n - 1) oldSettings)
     at k e = fresh-start n k l h (ltb-true k n e)
 
 pub played-agrees : PlayedAgrees
 played-agrees n l h issued i ls v =
-    agreement (λ k. ltb k n) 1 issued (freshGroup n) (started n l h issued i) (entriesOf n (freshGroup n) ls) (of-script n issued (freshGroup n) ls v)
+    agreement (λ k. ltb k n) 1 issued oldSettings (freshGroup n) (started n l h issued i) (entriesOf n (freshGroup n) ls) (of-script n issued (freshGroup n) ls v)

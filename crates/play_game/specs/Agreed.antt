@@ -4,6 +4,7 @@ use mathlib.Core.Path.{_≡_}
 use mathlib.Core.List.{List, [], _∷_}
 use lib.Dec.{ltb}
 use Rattle.hermes_record.specs.Order.{ties}
+use Rattle.hermes.specs.Settings.{oldSettings}
 use Rattle.hermes.specs.Run.{Group, run}
 use Rattle.hermes.specs.Agreement.{Agreement}
 use Rattle.play_script.specs.Command.{lineOf}
@@ -43,4 +44,4 @@ PlayedIsRun = (n : ℕ) (g : Group) (ls : List (List ℕ)) → playedOn n g ls �
 -- and demand 3 holds of it, where the set of epoch 0 is all n laptops
 abbrev pub PlayedAgrees : Type 0
 PlayedAgrees = (n : ℕ) → 2 ≤ n → n ≤ 4 → (issued : ℕ → ℕ) → issued 0 ≡ 2 ^ n - 1 → (ls : List (List ℕ)) → OneViewEach issued ls
-    → Agreement ties (λ k. ltb k n) 1 (freshGroup n) (entriesOf n (freshGroup n) ls)
+    → Agreement ties (λ k. ltb k n) 1 oldSettings (freshGroup n) (entriesOf n (freshGroup n) ls)

@@ -21,6 +21,7 @@ use Rattle.hermes.specs.declared.event.Answer.the-variants as answer
 use Rattle.hermes.specs.declared.event.Admission.{Admission}
 use Rattle.hermes.specs.declared.event.Admission.the-variants as admission
 use Rattle.hermes_record.specs.Order.{ties, later}
+use Rattle.hermes.specs.Settings.{under, oldSettings}
 use Rattle.hermes_record.specs.Record.{freshRecord}
 use Rattle.hermes.specs.Guards.{firstNo}
 use Rattle.hermes.specs.Event.{step, invStep, ackStep, completes, resent, deliverStep, refusal, movedBy, effect, answerOf, sentBy}
@@ -51,35 +52,35 @@ module _ (view k : ℕ) where
   -- the member after a start whose first no is z
   abbrev begunBy : ℕ → Member
   begunBy z = record {
-    me = identity (begin z (newcomer k view) (freshRecord 0 ∷ []) (replicate 192 0) .admission) (newcomer k view);
-    held = recordAt (begin z (newcomer k view) (freshRecord 0 ∷ []) (replicate 192 0) .table) 0;
-    store = begin z (newcomer k view) (freshRecord 0 ∷ []) (replicate 192 0) .store;
+    me = identity (begin z (newcomer k view oldSettings) (freshRecord 0 ∷ []) (replicate 192 0) .admission) (newcomer k view oldSettings);
+    held = recordAt (begin z (newcomer k view oldSettings) (freshRecord 0 ∷ []) (replicate 192 0) .table) 0;
+    store = begin z (newcomer k view oldSettings) (freshRecord 0 ∷ []) (replicate 192 0) .store;
   }
 
-  pub start-admitted : (me : Replica) (r : Record) → admit k view 1 192 ≡ admission.Admitted me → r ≡ firstRecord view
+  pub start-admitted : (me : Replica) (r : Record) → admit k view oldSettings 1 192 ≡ admission.Admitted me → r ≡ firstRecord view
       → _≡_ {A = Member} (record { me = me; held = r; store = replicate 192 0 }) (freshIn view k)
   unfolding start freshIn
-  start-admitted me r e er = go (startRefusal k view 1 192) e
+  start-admitted me r e er = go (startRefusal k view oldSettings 1 192) e
     where
-      go : (z : ℕ) → admissionOf z (newcomer k view) ≡ admission.Admitted me → _≡_ {A = Member} (record { me = me; held = r; store = replicate 192 0 }) (begunBy z)
-      go zero e = let q : me ≡ newcomer k view = cc in λ i. record { me = q i; held = er i; store = replicate 192 0 }
+      go : (z : ℕ) → admissionOf z (newcomer k view oldSettings) ≡ admission.Admitted me → _≡_ {A = Member} (record { me = me; held = r; store = replicate 192 0 }) (begunBy z)
+      go zero e = let q : me ≡ newcomer k view oldSettings = cc in λ i. record { me = q i; held = er i; store = replicate 192 0 }
       go (suc z) e = let q : _≡_ {A = ℕ} 0 1 = cc in absurd (omega arith)
 
-  pub start-refused : (j : ℕ) (r : Record) → admit k view 1 192 ≡ admission.Refused j → r ≡ freshRecord 0
-      → _≡_ {A = Member} (record { me = newcomer k view; held = r; store = replicate 192 0 }) (freshIn view k)
+  pub start-refused : (j : ℕ) (r : Record) → admit k view oldSettings 1 192 ≡ admission.Refused j → r ≡ freshRecord 0
+      → _≡_ {A = Member} (record { me = newcomer k view oldSettings; held = r; store = replicate 192 0 }) (freshIn view k)
   unfolding start freshIn
-  start-refused j r e er = go (startRefusal k view 1 192) e
+  start-refused j r e er = go (startRefusal k view oldSettings 1 192) e
     where
-      go : (z : ℕ) → admissionOf z (newcomer k view) ≡ admission.Refused j → _≡_ {A = Member} (record { me = newcomer k view; held = r; store = replicate 192 0 }) (begunBy z)
+      go : (z : ℕ) → admissionOf z (newcomer k view oldSettings) ≡ admission.Refused j → _≡_ {A = Member} (record { me = newcomer k view oldSettings; held = r; store = replicate 192 0 }) (begunBy z)
       go zero e = let q : _≡_ {A = ℕ} 0 1 = cc in absurd (omega arith)
-      go (suc z) e = λ i. record { me = newcomer k view; held = er i; store = replicate 192 0 }
+      go (suc z) e = λ i. record { me = newcomer k view oldSettings; held = er i; store = replicate 192 0 }
 
   -- the one record is the whole table
   pub fresh-table : nodeOf (freshIn view k) .table ≡ startIn view k .table
   unfolding start freshIn
-  fresh-table = go (startRefusal k view 1 192)
+  fresh-table = go (startRefusal k view oldSettings 1 192)
     where
-      go : (z : ℕ) → begunBy z .held ∷ [] ≡ begin z (newcomer k view) (freshRecord 0 ∷ []) (replicate 192 0) .table
+      go : (z : ℕ) → begunBy z .held ∷ [] ≡ begin z (newcomer k view oldSettings) (freshRecord 0 ∷ []) (replicate 192 0) .table
       go zero = refl
       go (suc z) = refl
 
@@ -94,7 +95,7 @@ ack-index true me r sender = refl
 ack-index false me r sender = refl
 
 deliver-index : (me : Replica) (r : Record) (sender : ℕ) (m : Message) (v : List ℕ) → indexOf (deliverStep ties me 0 r sender m v .sent) ≡ 0
-deliver-index me r sender (Inv t) v = inv-index (later ties t (r .timestamp)) me r t sender v
+deliver-index me r sender (Inv t) v = inv-index (later (under ties (me .settings)) t (r .timestamp)) me r t sender v
 deliver-index me r sender (Ack t) v = ack-index (completes me r sender) me r sender
 deliver-index me r sender (Val t) v = refl
 
@@ -148,7 +149,7 @@ refused-number (suc n) k me a d e = let q : k ≡ suc n = cc in rw q
 view-number : (me : Replica) (epoch set k : ℕ) → view me epoch set ≡ admission.Refused k → answer.Refused k ≡ answerOf k None
 unfolding view
 view-number me epoch set k e =
-    refused-number (firstNo (viewQuestions me epoch set)) k (record { number = me .number; epoch = epoch; view = set }) (view me epoch set) refl e
+    refused-number (firstNo (viewQuestions me epoch set)) k (record { number = me .number; epoch = epoch; view = set; settings = me .settings }) (view me epoch set) refl e
 
 pub view-refused : (m : Member) (epoch set k : ℕ) → view (m .me) epoch set ≡ admission.Refused k
     → resultOf (record { known = true; answer = answer.Refused k; member = m }) ≡ event (viewed (nodeOf m) epoch set)

@@ -7,6 +7,7 @@ use lib.Dec.{ltb}
 use Rattle.hermes.specs.declared.message.Outgoing.{Outgoing}
 use Rattle.hermes.specs.declared.message.Outgoing.the-variants.{None, Sent}
 use Rattle.hermes_record.specs.Record.{freshRecord}
+use Rattle.hermes.specs.Settings.{oldSettings}
 use Rattle.hermes.specs.Node.{Node, Start, newcomer, identity, recordAt, start}
 use Rattle.hermes.specs.Run.{Result, nothing, event}
 use Rattle.play_member.specs.declared.member.Member.{Member}
@@ -16,14 +17,14 @@ use Rattle.play_member.specs.declared.member.Judged.{Judged}
 abbrev pub nodeOf : Member → Node
 nodeOf m = record { me = m .me; table = m .held ∷ []; store = m .store }
 
--- a fresh start on the memory that is lent to a member: one record and its 192 bytes
+-- a fresh start on the memory that is lent to a member, one record and its 192 bytes. 02, Wish 6: the "playing program keep[s] the old rule"
 abbrev pub startIn : ℕ → ℕ → Start
-startIn view k = start k view (freshRecord 0 ∷ []) (replicate 192 0)
+startIn view k = start k view oldSettings (freshRecord 0 ∷ []) (replicate 192 0)
 
 -- replica k of a group whose first view is this set, as its fresh start leaves it
 unfoldable pub freshIn : ℕ → ℕ → Member
 freshIn view k = record {
-  me = identity (startIn view k .admission) (newcomer k view);
+  me = identity (startIn view k .admission) (newcomer k view oldSettings);
   held = recordAt (startIn view k .table) 0;
   store = startIn view k .store;
 }

@@ -11,6 +11,8 @@ use hermes::Event;
 use hermes::Outgoing;
 use hermes::Record;
 use hermes::Replica;
+use hermes::Rule;
+use hermes::Settings;
 
 // A replica of one record, with its store.
 pub struct Member {
@@ -27,11 +29,14 @@ pub struct Judged {
 }
 
 impl Member {
-    // Replica k of a group whose view is this set, just started. One that is not in the view keeps what was lent.
+    // Replica k of a group whose view is this set, just started under the old rule of ties. One that is not in the view keeps what was lent.
     pub fn fresh(k: u8, view: u16) -> Member
         ensures { λ r. ⌜ r ≡ freshIn view k ⌝ }
     {
-        let a = replica_membership::admit(k, view, 1, Record::VALUE_MAX);
+        let settings = Settings {
+            rule: Rule::Higher,
+        };
+        let a = replica_membership::admit(k, view, settings, 1, Record::VALUE_MAX);
         match a {
             Admission::Admitted(me) => Member {
                 me: me,
@@ -43,6 +48,7 @@ impl Member {
                     number: k,
                     epoch: 0,
                     view: view,
+                    settings: settings,
                 },
                 held: Record::fresh(0),
                 store: [0; 192],
