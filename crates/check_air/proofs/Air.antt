@@ -19,7 +19,7 @@ use Rattle.hermes.specs.declared.event.Answer.{Answer}
 use Rattle.hermes.specs.declared.event.Answer.the-variants.{Accepted, Refused}
 use Rattle.hermes.specs.declared.event.Event.{Event}
 use Rattle.hermes.specs.declared.event.Event.the-variants.{Read, Ask, Write, Commit, Replay, Deliver, Validate, Resend}
-use Rattle.hermes_record.specs.Order.{higher, later}
+use Rattle.hermes_record.specs.Order.{ties, later}
 use Rattle.hermes.specs.Kind.{messageOf}
 use Rattle.hermes.proofs.Kind.{message-back}
 use Rattle.hermes.specs.Event.{sentBy, step, deliverStep, invStep, ackStep, completes, resent}
@@ -59,8 +59,8 @@ module _ (me : Replica) (i : ℕ) (r : Record) (v : List ℕ) where
   again state.Write t = refl
   again state.Replay t = refl
 
-  delivered : (sender : ℕ) (x : Message) → Headed me i (deliverStep higher me i r sender x v .sent)
-  delivered sender (Inv t) = go (later higher t (r .timestamp))
+  delivered : (sender : ℕ) (x : Message) → Headed me i (deliverStep ties me i r sender x v .sent)
+  delivered sender (Inv t) = go (later ties t (r .timestamp))
     where
       go : (b : Bool) → Headed me i (invStep b me i r t sender v .sent)
       go true = refl
@@ -72,7 +72,7 @@ module _ (me : Replica) (i : ℕ) (r : Record) (v : List ℕ) where
       go false = tt
   delivered sender (Val t) = tt
 
-  headed : (e : Event) → Headed me i (step higher me i r e v .sent)
+  headed : (e : Event) → Headed me i (step ties me i r e v .sent)
   headed Read = tt
   headed Ask = tt
   headed Write = refl
@@ -113,12 +113,12 @@ module _ (x : Logged) (s : Sending) (c : Called x s) where
   n = nodeOf (s .from) (c .table) (c .store)
 
   abbrev o : Outcome
-  o = apply higher n (s .index) (c .event) (c .value)
+  o = apply ties n (s .index) (c .event) (c .value)
 
   led : Headed (n .me) (s .index) (sentBy (o .answer))
-  led = go (applied higher n (s .index) (c .event) (c .value))
+  led = go (applied ties n (s .index) (c .event) (c .value))
     where
-      go : Applied higher n (s .index) (c .event) (c .value) o → Headed (n .me) (s .index) (sentBy (o .answer))
+      go : Applied ties n (s .index) (c .event) (c .value) o → Headed (n .me) (s .index) (sentBy (o .answer))
       go (refused k z p) = rw p tt
       go (accepted y d p) = rw p (headed (n .me) (s .index) (recordOf (s .index) n) (c .value) (c .event))
 

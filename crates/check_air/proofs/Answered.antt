@@ -15,7 +15,7 @@ use Rattle.hermes.specs.declared.event.Admission.the-variants as admission
 use Rattle.hermes.specs.declared.event.Event.{Event}
 use Rattle.hermes.specs.declared.event.Event.the-variants.{Read, Ask, Write, Commit, Replay, Deliver, Validate, Resend}
 use Rattle.hermes.specs.declared.event.Moved.{Moved}
-use Rattle.hermes_record.specs.Order.{higher}
+use Rattle.hermes_record.specs.Order.{ties}
 use Rattle.hermes.specs.Store.{valueAt}
 use Rattle.hermes.specs.Event as event
 use Rattle.hermes.specs.Event.{answerOf, refusal, step, effect, partOf, readPart, askHands}
@@ -53,17 +53,17 @@ after-bytes m (Accepted o) bytes i e = go (decLt i (countOf (length bytes)))
     go (no n) = rw (e, le-ltb i (countOf (length bytes)) (omega arith)) (rw e at (settled-nowhere m o bytes i e (omega arith)))
 after-bytes m (Refused k) bytes i e = rw e
 
-pub after-table : (l : Laptop) (i : ℕ) (e : Event) (v : List ℕ) → tableOf (afterEvent l i e v .table) ≡ apply higher (node l) i e v .node .table
+pub after-table : (l : Laptop) (i : ℕ) (e : Event) (v : List ℕ) → tableOf (afterEvent l i e v .table) ≡ apply ties (node l) i e v .node .table
 unfolding apply effect
 after-table l i e v =
     let table = tableOf (l .table) in
-    let m = effectOf higher (node l) i e v .moved in
+    let m = effectOf ties (node l) i e v .moved in
     after-bytes m (m .answer) (l .table) i refl
-    ∙ settled-step (refusal (replicaOf (l .me)) (length table) (length (l .store)) i (recordAt table i) e (length v)) table i (step higher (replicaOf (l .me)) i (recordAt table i) e v)
+    ∙ settled-step (refusal (replicaOf (l .me)) (length table) (length (l .store)) i (recordAt table i) e (length v)) table i (step ties (replicaOf (l .me)) i (recordAt table i) e v)
 
-moves : (l : Laptop) (i : ℕ) (e : Event) (v : List ℕ) → Moves l i e v (event.numberOf (apply higher (node l) i e v .answer)) (afterEvent l i e v)
+moves : (l : Laptop) (i : ℕ) (e : Event) (v : List ℕ) → Moves l i e v (event.numberOf (apply ties (node l) i e v .answer)) (afterEvent l i e v)
 moves l i e v =
-    let a = apply higher (node l) i e v .answer in
+    let a = apply ties (node l) i e v .answer in
     (answerOut a, record { answer = refl; bytes = refl; table = after-table l i e v; store = refl }, number-out a, refl)
 
 -- a delivery from a packet
@@ -72,9 +72,9 @@ unfolding receipt
 arrives l p i = (answerOut a, record { answer = refl; bytes = refl; table = go (fetched p i); store = refl }, number-out a, refl)
   where
     a : Answer
-    a = receiptOf higher (node l) p (fetched p i) .answer
+    a = receiptOf ties (node l) p (fetched p i) .answer
 
-    go : (f : Fetched) → tableOf (bytesArrived (node l) (l .table) p f) ≡ receiptOf higher (node l) p f .node .table
+    go : (f : Fetched) → tableOf (bytesArrived (node l) (l .table) p f) ≡ receiptOf ties (node l) p f .node .table
     go (fetch.Found e at) = after-table l (e .header .index) (Deliver (receivedOf e)) (bodyOf p (fetch.Found e at))
     go (fetch.Refused k) = refl
 

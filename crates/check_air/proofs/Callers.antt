@@ -21,7 +21,7 @@ use Rattle.hermes.specs.declared.message.Message.{Message}
 use Rattle.hermes.specs.declared.message.Message.the-variants.{Inv, Ack, Val}
 use Rattle.hermes_record.specs.declared.record.Record.{Record}
 use Rattle.hermes_record.specs.declared.timestamp.Timestamp.{Timestamp}
-use Rattle.hermes_record.specs.Order.{higher, later, NotAfter}
+use Rattle.hermes_record.specs.Order.{ties, later, NotAfter}
 use Rattle.hermes_record.specs.Record.{freshRecord}
 use Rattle.hermes.specs.Kind.{inv, ack, known}
 use Rattle.hermes.specs.Guards.{shapely}
@@ -123,18 +123,18 @@ as-issued issued log (view epoch set) f = f
 
 -- the entry does what the call's event comes to
 record Does (log : List Logged) (n : Node) (a : Action) (o : Outcome) : Type 0 where
-  leaves : nodeAfter (perform higher a log n) n ≡ o .node
-  logs : logAfter (perform higher a log n) log ≡ logOf log o
+  leaves : nodeAfter (perform ties a log n) n ≡ o .node
+  logs : logAfter (perform ties a log n) log ≡ logOf log o
 
 -- an event is an entry as it stands
-event-does : (log : List Logged) (n : Node) (a : Action) (o : Outcome) → perform higher a log n ≡ run.event o → Does log n a o
+event-does : (log : List Logged) (n : Node) (a : Action) (o : Outcome) → perform ties a log n ≡ run.event o → Does log n a o
 event-does log n a o e = record { leaves = ap (λ (r : Result). nodeAfter r n) e; logs = ap (λ (r : Result). logAfter r log) e }
 
 -- the delivery of a logged message
-sent-does : (log : List Logged) (n : Node) (x : Logged) (m : List·Memᴰ x log) (o : Outcome) → o ≡ apply higher n (x .header .index) (Deliver (received x)) (x .body)
+sent-does : (log : List Logged) (n : Node) (x : Logged) (m : List·Memᴰ x log) (o : Outcome) → o ≡ apply ties n (x .header .index) (Deliver (received x)) (x .body)
     → Does log n (run.deliver (log-number x log m .0)) o
 sent-does log n x m o e =
-    event-does log n (run.deliver (log-number x log m .0)) o (ap (λ (f : Found). run.delivery higher f n) (log-number x log m .1) ∙ ap run.event (sym e))
+    event-does log n (run.deliver (log-number x log m .0)) o (ap (λ (f : Found). run.delivery ties f n) (log-number x log m .1) ∙ ap run.event (sym e))
 
 -- what is refused for itself is the entry of a message that there is not
 nothing-does : (log : List Logged) (n : Node) (k : ℕ) (o : Outcome) → o ≡ record { answer = Refused k; node = n } → Does log n (run.deliver (length log)) o
@@ -143,8 +143,8 @@ nothing-does log n k o e = record {
   logs = ap (λ (r : Result). logAfter r log) nothing ∙ sym (ap (logOf log) e);
 }
   where
-    nothing : perform higher (run.deliver (length log)) log n ≡ run.nothing
-    nothing = ap (λ (x : Found). run.delivery higher x n) (no-number log)
+    nothing : perform ties (run.deliver (length log)) log n ≡ run.nothing
+    nothing = ap (λ (x : Found). run.delivery ties x n) (no-number log)
 
 -- a message of an unknown kind has a tie-breaker of 255, and question 12 says no
 unknown-shape : (kind version tie n : ℕ) → known kind ≡ false → shapely (messageIn kind version tie) n ≡ false
@@ -156,21 +156,21 @@ unknown-shape kind version tie n e = rw e (go (eqb kind inv) (eqb kind ack))
     go false false = refl
 
 unknown-refused : (n : Node) (i : ℕ) (m : CetskobiMessage) (v : List ℕ) → known (m .kind) ≡ false
-    → (k : ℕ) × (apply higher n i (Deliver (receivedIn m)) v ≡ record { answer = Refused k; node = n })
-unknown-refused n i m v e = go (applied higher n i (Deliver (receivedIn m)) v)
+    → (k : ℕ) × (apply ties n i (Deliver (receivedIn m)) v ≡ record { answer = Refused k; node = n })
+unknown-refused n i m v e = go (applied ties n i (Deliver (receivedIn m)) v)
   where
-    go : Applied higher n i (Deliver (receivedIn m)) v (apply higher n i (Deliver (receivedIn m)) v)
-        → (k : ℕ) × (apply higher n i (Deliver (receivedIn m)) v ≡ record { answer = Refused k; node = n })
+    go : Applied ties n i (Deliver (receivedIn m)) v (apply ties n i (Deliver (receivedIn m)) v)
+        → (k : ℕ) × (apply ties n i (Deliver (receivedIn m)) v ≡ record { answer = Refused k; node = n })
     go (refused k z p) = (suc k, p)
     go (accepted y c p) = absurd (false≢true (sym (unknown-shape (m .kind) (m .version) (m .tie) (length v) e) ∙ its-own n i (Deliver (receivedIn m)) v y .1 .1 .0))
 
 -- a packet brings the message that left
 carried : (log : List Logged) (n : Node) (p : List ℕ) (i : ℕ) (f : FromAir log p i)
-    → receipt higher n p i ≡ apply higher n (f .message .header .index) (Deliver (received (f .message))) (f .message .body)
+    → receipt ties n p i ≡ apply ties n (f .message .header .index) (Deliver (received (f .message))) (f .message .body)
 unfolding receipt
 carried log n p i f =
     let (at, finds, brings) = found-left (f .before) (f .after) (f .sending) (f .message) p (f .called) (f .packed) in
-    ap (λ (j : ℕ). receiptOf higher n p (fetched p j)) (f .place) ∙ ap (receiptOf higher n p) finds ∙ ap (apply higher n (f .message .header .index) (Deliver (received (f .message)))) brings
+    ap (λ (j : ℕ). receiptOf ties n p (fetched p j)) (f .place) ∙ ap (receiptOf ties n p) finds ∙ ap (apply ties n (f .message .header .index) (Deliver (received (f .message)))) brings
 
 -- a message is found, or there is none
 abbrev pub is-found : Fetched → ℕ
@@ -179,7 +179,7 @@ is-found (fetch.Refused k) = 0
 
 -- so does one that left, by whatever facts it is taken
 carried-taken : (log : List Logged) (n : Node) (p : List ℕ) (a : CetskobiAccepted) (i : ℕ) (f : FromAir log p i) (g : Fields) → taken p (acceptedIn a) i ≡ take.Entry g
-    → takenReceipt n p (take.Entry g) ≡ apply higher n (f .message .header .index) (Deliver (received (f .message))) (f .message .body)
+    → takenReceipt n p (take.Entry g) ≡ apply ties n (f .message .header .index) (Deliver (received (f .message))) (f .message .body)
 carried-taken log n p a i f g e = own (taken p (format.accepted p) i) refl ∙ own-receipt n p i ∙ carried log n p i f
   where
     own : (t : Taken) → taken p (format.accepted p) i ≡ t → takenReceipt n p (take.Entry g) ≡ takenReceipt n p (taken p (format.accepted p) i)
@@ -199,8 +199,8 @@ module _ (issued : ℕ → ℕ) (log : List Logged) where
   does (replay i) f n = event-does log n (run.replay i) _ refl
   does (deliver i m v) (inl f) n = sent-does log n (f .message) (f .earlier) (outcome (deliver i m v) n) (rw (f .index, f .same, f .bytes))
   does (deliver i m v) (inr f) n = let (k, e) = unknown-refused n i m v f in nothing-does log n k (outcome (deliver i m v) n) e
-  does (deliverPacket p i) (inl f) n = sent-does log n (f .message) (f .earlier) (receipt higher n p i) (carried log n p i f)
-  does (deliverPacket p i) (inr f) n = nothing-does log n (f .number) (receipt higher n p i) (ap (receiptOf higher n p) (f .refused))
+  does (deliverPacket p i) (inl f) n = sent-does log n (f .message) (f .earlier) (receipt ties n p i) (carried log n p i f)
+  does (deliverPacket p i) (inr f) n = nothing-does log n (f .number) (receipt ties n p i) (ap (receiptOf ties n p) (f .refused))
   does (deliverAccepted p a i) (inl f) n = by (taken p (acceptedIn a) i) refl
     where
       by : (t : Taken) → taken p (acceptedIn a) i ≡ t → Does log n (taken-action log (log-number (f .message) log (f .earlier) .0) t) (takenReceipt n p t)
@@ -212,24 +212,24 @@ module _ (issued : ℕ → ℕ) (log : List Logged) where
   does (view epoch set) f n = event-does log n (run.view epoch set) _ refl
 
 -- the laptop that a call leaves is the one that its event leaves
-keeps-me : (n : Node) (i : ℕ) (e : Event) (v : List ℕ) → apply higher n i e v .node .me ≡ n .me
+keeps-me : (n : Node) (i : ℕ) (e : Event) (v : List ℕ) → apply ties n i e v .node .me ≡ n .me
 unfolding apply
 keeps-me n i e v = refl
 
-moves : (l l′ : Laptop) (i : ℕ) (e : Event) (v : List ℕ) (number : ℕ) → Moves l i e v number l′ → node l′ ≡ apply higher (node l) i e v .node
+moves : (l l′ : Laptop) (i : ℕ) (e : Event) (v : List ℕ) (number : ℕ) → Moves l i e v number l′ → node l′ ≡ apply ties (node l) i e v .node
 moves l l′ i e v number (a, d, q, same) =
-    let me : replicaOf (l′ .me) ≡ apply higher (node l) i e v .node .me = ap replicaOf same ∙ sym (keeps-me (node l) i e v) in
+    let me : replicaOf (l′ .me) ≡ apply ties (node l) i e v .node .me = ap replicaOf same ∙ sym (keeps-me (node l) i e v) in
     λ j. record { me = me j; table = d .table j; store = d .store j }
 
 -- a read changes nothing
-reads : (n : Node) (i : ℕ) → apply higher n i Read [] .node ≡ n
-reads n i = go (applied higher n i Read [])
+reads : (n : Node) (i : ℕ) → apply ties n i Read [] .node ≡ n
+reads n i = go (applied ties n i Read [])
   where
-    go : Applied higher n i Read [] (apply higher n i Read []) → apply higher n i Read [] .node ≡ n
+    go : Applied ties n i Read [] (apply ties n i Read []) → apply ties n i Read [] .node ≡ n
     go (refused k z p) = ap (λ (o : Outcome). o .node) p
     go (accepted y c p) = ap (λ (o : Outcome). o .node) p ∙ ap (λ (t : List Record). record { me = n .me; table = t; store = n .store }) (set-getD (n .table) i (freshRecord 0))
 
-receipt-keeps : (n : Node) (p : List ℕ) (f : Fetched) → receiptOf higher n p f .node .me ≡ n .me
+receipt-keeps : (n : Node) (p : List ℕ) (f : Fetched) → receiptOf ties n p f .node .me ≡ n .me
 receipt-keeps n p (fetch.Found e at) = keeps-me n (e .header .index) (Deliver (receivedOf e)) (bodyOf p (fetch.Found e at))
 receipt-keeps n p (fetch.Refused k) = refl
 
@@ -240,13 +240,13 @@ admits (admission.Refused k) me = refl
 pub lands : (c : Call) (l l′ : Laptop) (number : ℕ) → Returns c l number l′ → node l′ ≡ outcome c (node l) .node
 unfolding viewed receipt
 lands (read i) l l′ number (p, d, q, same) = ap node same ∙ sym (reads (node l) i)
-lands (ask i) l l′ number (p, d, q, same) = ap node same ∙ sym (ap (λ (o : Outcome). o .node) (as-read higher (node l) i) ∙ reads (node l) i)
+lands (ask i) l l′ number (p, d, q, same) = ap node same ∙ sym (ap (λ (o : Outcome). o .node) (as-read ties (node l) i) ∙ reads (node l) i)
 lands (write i v) l l′ number r = moves l l′ i Write v number r
 lands (commit i version tie v) l l′ number r = moves l l′ i (Commit (record { version = version; tie = tie })) v number r
 lands (replay i) l l′ number r = moves l l′ i Replay [] number r
 lands (deliver i m v) l l′ number r = moves l l′ i (Deliver (receivedIn m)) v number r
 lands (deliverPacket p i) l l′ number (a, d, q, same) =
-    let me : replicaOf (l′ .me) ≡ receipt higher (node l) p i .node .me = ap replicaOf same ∙ sym (receipt-keeps (node l) p (fetched p i)) in
+    let me : replicaOf (l′ .me) ≡ receipt ties (node l) p i .node .me = ap replicaOf same ∙ sym (receipt-keeps (node l) p (fetched p i)) in
     λ j. record { me = me j; table = d .table j; store = d .store j }
 lands (deliverAccepted p a i) l l′ number (r, d, q, same) = by (taken p (acceptedIn a) i) (d .done)
   where
@@ -281,7 +281,7 @@ module _ (member : ℕ → Bool) (issued : ℕ → ℕ) where
 
   -- one call, one entry
   pub turn-matches : (g : Group) (h : Hut) (s : Turn) (f : Fair issued (h .log) (s .call)) → Returns (s .call) (h .at (s .who)) (s .number) (s .left)
-      → Match g h → Match (advance higher g (entry h s f)) (next h s)
+      → Match g h → Match (advance ties g (entry h s f)) (next h s)
   unfolding advance result
   turn-matches g h s f r e = record { nodes = λ k. at k (eqb k (s .who)) refl; logs = ap₂ logAfter same (e .logs) ∙ d .logs }
     where
@@ -294,11 +294,11 @@ module _ (member : ℕ → Bool) (issued : ℕ → ℕ) where
       d : Does (h .log) n a (outcome (s .call) n)
       d = does issued (h .log) (s .call) f n
 
-      same : result higher g (entry h s f) ≡ perform higher a (h .log) n
-      same = ap₂ (perform higher a) (e .logs) (e .nodes (s .who))
+      same : result ties g (entry h s f) ≡ perform ties a (h .log) n
+      same = ap₂ (perform ties a) (e .logs) (e .nodes (s .who))
 
       at : (k : ℕ) (b : Bool) → eqb k (s .who) ≡ b
-          → cond b (nodeAfter (result higher g (entry h s f)) (g .at k)) (g .at k) ≡ node (cond b (s .left) (h .at k))
+          → cond b (nodeAfter (result ties g (entry h s f)) (g .at k)) (g .at k) ≡ node (cond b (s .left) (h .at k))
       at k true q =
           ap₂ nodeAfter same (ap (g .at) (eqb-true k (s .who) q) ∙ e .nodes (s .who)) ∙ d .leaves ∙ sym (lands (s .call) (h .at (s .who)) (s .left) (s .number) r)
       at k false q = e .nodes k
@@ -316,10 +316,10 @@ module _ (member : ℕ → Bool) (issued : ℕ → ℕ) where
   are-entries h [] f = tt
   are-entries h (s ∷ rest) (m, fair, r, f) = (m, as-issued issued (h .log) (s .call) fair, are-entries (next h s) rest f)
 
-  pub matches : (g : Group) (h : Hut) (turns : List Turn) (f : Follows member issued h turns) → Match g h → Match (run.run higher g (entries h turns f)) (after h turns)
+  pub matches : (g : Group) (h : Hut) (turns : List Turn) (f : Follows member issued h turns) → Match g h → Match (run.run ties g (entries h turns f)) (after h turns)
   unfolding entries
   matches g h [] f e = e
-  matches g h (s ∷ rest) (m, fair, r, f) e = matches (advance higher g (entry h s fair)) (next h s) rest f (turn-matches g h s fair r e)
+  matches g h (s ∷ rest) (m, fair, r, f) e = matches (advance ties g (entry h s fair)) (next h s) rest f (turn-matches g h s fair r e)
 
   -- a list of calls, cut in two
   pub first-part : (h : Hut) (before rest : List Turn) → Follows member issued h (before ++ rest) → Follows member issued h before
@@ -342,9 +342,9 @@ module _ (issued : ℕ → ℕ) (log : List Logged) (i : ℕ) where
   unfolding action
   is-validate c e = subst (λ (x : Call). (f : Fair issued log x) → action issued log x f ≡ run.validate i) (sym e) (λ f. refl)
 
-  is-accepted : (l l′ : Laptop) (number : ℕ) → number ≡ 0 → (c : Call) → c ≡ validate i → Returns c l number l′ → IsAccepted (perform higher (run.validate i) log (node l))
-  is-accepted l l′ number z c e = subst (λ (x : Call). Returns x l number l′ → IsAccepted (perform higher (run.validate i) log (node l))) (sym e)
-      (λ r. sym (ap (λ (x : CetskobiAnswer). x .number) (r .1 .answer) ∙ number-out (apply higher (node l) i Validate [] .answer)) ∙ r .2 ∙ z)
+  is-accepted : (l l′ : Laptop) (number : ℕ) → number ≡ 0 → (c : Call) → c ≡ validate i → Returns c l number l′ → IsAccepted (perform ties (run.validate i) log (node l))
+  is-accepted l l′ number z c e = subst (λ (x : Call). Returns x l number l′ → IsAccepted (perform ties (run.validate i) log (node l))) (sym e)
+      (λ r. sym (ap (λ (x : CetskobiAnswer). x .number) (r .1 .answer) ∙ number-out (apply ties (node l) i Validate [] .answer)) ∙ r .2 ∙ z)
 
 -- the entry of a read is that read, and so of an ask and a commit
 module _ (issued : ℕ → ℕ) (log : List Logged) (i : ℕ) where
@@ -380,14 +380,14 @@ record LastAck (log : List Logged) (n : Node) (i : ℕ) (a : Action) : Type 0 wh
   index : message .header .index ≡ i
   ack : message .message ≡ Ack stamp
   last : completes (n .me) (recordOf i n) (message .header .sender) ≡ true
-  accepted : IsAccepted (perform higher a log n)
+  accepted : IsAccepted (perform ties a log n)
 
 module _ (n : Node) (i : ℕ) (t : Timestamp) where
   -- what the step of a message sends is that VAL, and so the message is an ACK and completes the view
-  step-last : (k sender : ℕ) (m : Message) (v : List ℕ) → deliverStep higher (n .me) k (recordOf k n) sender m v .sent ≡ send (n .me) i (Val t)
+  step-last : (k sender : ℕ) (m : Message) (v : List ℕ) → deliverStep ties (n .me) k (recordOf k n) sender m v .sent ≡ send (n .me) i (Val t)
       → (k ≡ i) × ((s : Timestamp) × (m ≡ Ack s)) × (completes (n .me) (recordOf k n) sender ≡ true)
   unfolding valued
-  step-last k sender (Inv s) v e = absurd (omega (arith, ap valued e, none (later higher s (recordOf k n .timestamp))))
+  step-last k sender (Inv s) v e = absurd (omega (arith, ap valued e, none (later ties s (recordOf k n .timestamp))))
     where
       none : (b : Bool) → valued (invStep b (n .me) k (recordOf k n) s sender v .sent) ≡ 0
       none true = refl
@@ -405,14 +405,14 @@ module _ (n : Node) (i : ℕ) (t : Timestamp) where
   silent k e = omega (arith, ap valued e)
 
   module _ (log : List Logged) where
-    sent-last : (x : Logged) (m : List·Memᴰ x log) (o : Outcome) → o ≡ apply higher n (x .header .index) (Deliver (received x)) (x .body) → sentBy (o .answer) ≡ send (n .me) i (Val t)
+    sent-last : (x : Logged) (m : List·Memᴰ x log) (o : Outcome) → o ≡ apply ties n (x .header .index) (Deliver (received x)) (x .body) → sentBy (o .answer) ≡ send (n .me) i (Val t)
         → LastAck log n i (run.deliver (log-number x log m .0))
-    sent-last x m o same e = go (applied higher n (x .header .index) (Deliver (received x)) (x .body))
+    sent-last x m o same e = go (applied ties n (x .header .index) (Deliver (received x)) (x .body))
       where
-        out : sentBy (apply higher n (x .header .index) (Deliver (received x)) (x .body) .answer) ≡ send (n .me) i (Val t)
+        out : sentBy (apply ties n (x .header .index) (Deliver (received x)) (x .body) .answer) ≡ send (n .me) i (Val t)
         out = ap (λ (z : Outcome). sentBy (z .answer)) (sym same) ∙ e
 
-        go : Applied higher n (x .header .index) (Deliver (received x)) (x .body) (apply higher n (x .header .index) (Deliver (received x)) (x .body))
+        go : Applied ties n (x .header .index) (Deliver (received x)) (x .body) (apply ties n (x .header .index) (Deliver (received x)) (x .body))
             → LastAck log n i (run.deliver (log-number x log m .0))
         go (refused k z p) = absurd (silent (suc k) (ap (λ (z : Outcome). sentBy (z .answer)) (sym p) ∙ out))
         go (accepted y c p) =
@@ -426,14 +426,14 @@ module _ (n : Node) (i : ℕ) (t : Timestamp) where
               index = at;
               ack = is;
               last = rw at at last;
-              accepted = subst (λ (f : Found). IsAccepted (run.delivery higher f n)) (sym (log-number x log m .1)) (ap (λ (z : Outcome). numberOf (z .answer)) p);
+              accepted = subst (λ (f : Found). IsAccepted (run.delivery ties f n)) (sym (log-number x log m .1)) (ap (λ (z : Outcome). numberOf (z .answer)) p);
             }
 
     call-last : (issued : ℕ → ℕ) (c : Call) (f : Fair issued log c) → Delivers c → sentBy (outcome c n .answer) ≡ send (n .me) i (Val t) → LastAck log n i (action issued log c f)
     unfolding action receipt
     call-last issued (deliver j m v) (inl f) d e = sent-last (f .message) (f .earlier) (outcome (deliver j m v) n) (rw (f .index, f .same, f .bytes)) e
     call-last issued (deliver j m v) (inr f) d e = let (k, q) = unknown-refused n j m v f in absurd (silent k (ap (λ (z : Outcome). sentBy (z .answer)) (sym q) ∙ e))
-    call-last issued (deliverPacket p j) (inl f) d e = sent-last (f .message) (f .earlier) (receipt higher n p j) (carried log n p j f) e
+    call-last issued (deliverPacket p j) (inl f) d e = sent-last (f .message) (f .earlier) (receipt ties n p j) (carried log n p j f) e
     call-last issued (deliverAccepted p a j) (inl f) d e = by (taken p (acceptedIn a) j) refl e
       where
         by : (x : Taken) → taken p (acceptedIn a) j ≡ x → sentBy (takenReceipt n p x .answer) ≡ send (n .me) i (Val t) → LastAck log n i (taken-action log (log-number (f .message) log (f .earlier) .0) x)
@@ -441,7 +441,7 @@ module _ (n : Node) (i : ℕ) (t : Timestamp) where
         by (take.Refused k) q e = absurd (silent k e)
     call-last issued (deliverAccepted p a j) (inr f) d e =
         absurd (silent (f .number) (ap (λ (z : Outcome). sentBy (z .answer)) (sym (ap (takenReceipt n p) (f .refused))) ∙ e))
-    call-last issued (deliverPacket p j) (inr f) d e = absurd (silent (f .number) (ap (λ (z : Outcome). sentBy (z .answer)) (sym (ap (receiptOf higher n p) (f .refused))) ∙ e))
+    call-last issued (deliverPacket p j) (inr f) d e = absurd (silent (f .number) (ap (λ (z : Outcome). sentBy (z .answer)) (sym (ap (receiptOf ties n p) (f .refused))) ∙ e))
 
 -- ---- the start
 
@@ -486,13 +486,13 @@ module _ (member : ℕ → Bool) (count : ℕ) (issued : ℕ → ℕ) (h : Hut) 
   abbrev entriesOf : (turns : List Turn) → Follows member issued h turns → List Entry
   entriesOf turns f = entries member issued h turns f
 
-  pub match : (turns : List Turn) (f : Follows member issued h turns) → Match (run.run higher (groupOf h) (entriesOf turns f)) (after h turns)
+  pub match : (turns : List Turn) (f : Follows member issued h turns) → Match (run.run ties (groupOf h) (entriesOf turns f)) (after h turns)
   match turns f = matches member issued (groupOf h) h turns f (record { nodes = λ k. refl; logs = refl })
 
-  same : (turns : List Turn) (f : Follows member issued h turns) (k : ℕ) → run.run higher (groupOf h) (entriesOf turns f) .at k ≡ laptop h turns k
+  same : (turns : List Turn) (f : Follows member issued h turns) (k : ℕ) → run.run ties (groupOf h) (entriesOf turns f) .at k ≡ laptop h turns k
   same turns f = match turns f .nodes
 
-  agree : (turns : List Turn) (f : Follows member issued h turns) → Agreement higher member count (groupOf h) (entriesOf turns f)
+  agree : (turns : List Turn) (f : Follows member issued h turns) → Agreement ties member count (groupOf h) (entriesOf turns f)
   agree turns f = agreement member count issued (groupOf h) started (entriesOf turns f) (are-entries member issued h turns f)
 
   alike : (turns : List Turn) (f : Follows member issued h turns) (i k m : ℕ) → i < count → member k ≡ true → member m ≡ true
@@ -506,15 +506,15 @@ module _ (member : ℕ → Bool) (count : ℕ) (issued : ℕ → ℕ) (h : Hut) 
   -- an accepted validation among the calls is one among the entries
   valid : (i : ℕ) (before : List Turn) (s : Turn) (f : Follows member issued h before) (fair : Fair issued (after h before .log) (s .call))
       → Returns (s .call) (after h before .at (s .who)) (s .number) (s .left) → Finishes (laptop h before (s .who)) i (s .call) → s .number ≡ 0
-      → Validation higher (run.run higher (groupOf h) (entriesOf before f)) (entry member issued (after h before) s fair) i
+      → Validation ties (run.run ties (groupOf h) (entriesOf before f)) (entry member issued (after h before) s fair) i
   unfolding result
   valid i before s f fair r (validates what) said =
       let e = match before f in
       let l = after h before .at (s .who) in
       let log = after h before .log in
       let is : action issued log (s .call) fair ≡ run.validate i = is-validate issued log i (s .call) what fair in
-      let same : result higher (run.run higher (groupOf h) (entriesOf before f)) (entry member issued (after h before) s fair) ≡ perform higher (run.validate i) log (node l) =
-      λ j. perform higher (is j) (e .logs j) (e .nodes (s .who) j) in
+      let same : result ties (run.run ties (groupOf h) (entriesOf before f)) (entry member issued (after h before) s fair) ≡ perform ties (run.validate i) log (node l) =
+      λ j. perform ties (is j) (e .logs j) (e .nodes (s .who) j) in
       agreement-of.validates is (subst IsAccepted (sym same) (is-accepted issued log i l (s .left) (s .number) said (s .call) what r))
   valid i before s f fair r (acknowledges d t out) said =
       let e = match before f in
@@ -522,15 +522,15 @@ module _ (member : ℕ → Bool) (count : ℕ) (issued : ℕ → ℕ) (h : Hut) 
       let log = after h before .log in
       let a = action issued log (s .call) fair in
       let k = call-last n i t log issued (s .call) fair d out in
-      let same : result higher (run.run higher (groupOf h) (entriesOf before f)) (entry member issued (after h before) s fair) ≡ perform higher a log n =
-      λ j. perform higher a (e .logs j) (e .nodes (s .who) j) in
+      let same : result ties (run.run ties (groupOf h) (entriesOf before f)) (entry member issued (after h before) s fair) ≡ perform ties a log n =
+      λ j. perform ties a (e .logs j) (e .nodes (s .who) j) in
       agreement-of.acknowledges (k .number) (k .message) (k .stamp) (k .delivers) (ap (λ (l : List Logged). find l (k .number)) (e .logs) ∙ k .finds) (k .index) (k .ack)
       (ap (λ (m : Node). completes (m .me) (recordOf i m) (k .message .header .sender)) (e .nodes (s .who)) ∙ k .last) (subst IsAccepted (sym same) (k .accepted))
 
   lasting : (i m : ℕ) (before rest : List Turn) (s : Turn) (f : Follows member issued h (before ++ s ∷ rest)) → i < count → member m ≡ true
       → Finishes (laptop h before (s .who)) i (s .call) → s .number ≡ 0
       → Sees (laptop h before (s .who)) m → Shows (laptop h (before ++ s ∷ rest) m) i
-      → NotAfter higher (recordOf i (laptop h before (s .who)) .timestamp) (recordOf i (laptop h (before ++ s ∷ rest) m) .timestamp)
+      → NotAfter ties (recordOf i (laptop h before (s .who)) .timestamp) (recordOf i (laptop h (before ++ s ∷ rest) m) .timestamp)
   unfolding entries
   lasting i m before rest s f l mm what said sees shows =
       let f1 = first-part member issued h before (s ∷ rest) f in
@@ -546,7 +546,7 @@ module _ (member : ℕ → Bool) (count : ℕ) (issued : ℕ → ℕ) (h : Hut) 
   agreeing turns f = record {
     alike = alike turns f;
     lasting = λ i m before rest s l mm e what said sees shows.
-        subst (λ (all : List Turn). NotAfter higher (recordOf i (laptop h before (s .who)) .timestamp) (recordOf i (laptop h all m) .timestamp)) (sym e)
+        subst (λ (all : List Turn). NotAfter ties (recordOf i (laptop h before (s .who)) .timestamp) (recordOf i (laptop h all m) .timestamp)) (sym e)
         (lasting i m before rest s (subst (Follows member issued h) e f) l mm what said sees (subst (λ (all : List Turn). Shows (laptop h all m) i) e shows));
   }
 

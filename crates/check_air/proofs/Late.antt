@@ -17,7 +17,7 @@ use Rattle.hermes.specs.declared.message.Message.the-variants.{Inv, Ack, Val}
 use Rattle.hermes.specs.declared.event.Replica.{Replica}
 use Rattle.hermes.specs.declared.event.Event.{Event}
 use Rattle.hermes.specs.declared.event.Event.the-variants.{Read, Ask, Write, Commit, Replay, Deliver, Validate, Resend}
-use Rattle.hermes_record.specs.Order.{higher, later, sameTimestamp, NotAfter, equal, rises}
+use Rattle.hermes_record.specs.Order.{ties, later, sameTimestamp, NotAfter, equal, rises}
 use Rattle.hermes_record.proofs.Tests.{both}
 use Rattle.hermes_record.proofs.Order.{higher-order, same-equal, greater-later, later-apart, notAfter-trans, notAfter-antisym}
 use Rattle.hermes.specs.Guards.{AllYes, question9}
@@ -54,7 +54,7 @@ use Rattle.check_air.proofs.Answered.{own-length}
 
 -- its timestamp never goes back, and as long as it is the same so are length and bytes
 record Since (i : ℕ) (n m : Node) : Type 0 where
-  up : NotAfter higher (recordOf i n .timestamp) (recordOf i m .timestamp)
+  up : NotAfter ties (recordOf i n .timestamp) (recordOf i m .timestamp)
   text : recordOf i n .timestamp ≡ recordOf i m .timestamp → (recordOf i m .len ≡ recordOf i n .len) × (slot i (m .store) ≡ slot i (n .store))
 
 module _ (i : ℕ) where
@@ -65,12 +65,12 @@ module _ (i : ℕ) where
   since-refl n = stays n n refl refl refl
 
   since-trans : (n m o : Node) → Since i n m → Since i m o → Since i n o
-  since-trans n m o p q = record { up = notAfter-trans higher higher-order (p .up) (q .up); text = text }
+  since-trans n m o p q = record { up = notAfter-trans ties higher-order (p .up) (q .up); text = text }
     where
       text : recordOf i n .timestamp ≡ recordOf i o .timestamp → (recordOf i o .len ≡ recordOf i n .len) × (slot i (o .store) ≡ slot i (n .store))
       text e =
-          let back : NotAfter higher (recordOf i m .timestamp) (recordOf i n .timestamp) = subst (λ (t : Timestamp). NotAfter higher (recordOf i m .timestamp) t) (sym e) (q .up) in
-          let here = notAfter-antisym higher higher-order (p .up) back in
+          let back : NotAfter ties (recordOf i m .timestamp) (recordOf i n .timestamp) = subst (λ (t : Timestamp). NotAfter ties (recordOf i m .timestamp) t) (sym e) (q .up) in
+          let here = notAfter-antisym ties higher-order (p .up) back in
           let (l, b) = p .text here in
           let (l′, b′) = q .text (sym here ∙ e) in
           (l′ ∙ l, b′ ∙ b)
@@ -82,13 +82,13 @@ abbrev Keeps : Record → Step → Type 0
 Keeps r s = (s .after .timestamp ≡ r .timestamp) × (s .after .len ≡ r .len) × (s .stored ≡ kept)
 
 abbrev KeepsOrRises : Record → Step → Type 0
-KeepsOrRises r s = Keeps r s ⊎ (later higher (s .after .timestamp) (r .timestamp) ≡ true)
+KeepsOrRises r s = Keeps r s ⊎ (later ties (s .after .timestamp) (r .timestamp) ≡ true)
 
 module _ (me : Replica) (k : ℕ) (r : Record) (v : List ℕ) where
-  delivered : (sender : ℕ) (m : Message) → KeepsOrRises r (deliverStep higher me k r sender m v)
-  delivered sender (Inv t) = go (later higher t (r .timestamp)) refl
+  delivered : (sender : ℕ) (m : Message) → KeepsOrRises r (deliverStep ties me k r sender m v)
+  delivered sender (Inv t) = go (later ties t (r .timestamp)) refl
     where
-      go : (g : Bool) → later higher t (r .timestamp) ≡ g → KeepsOrRises r (invStep g me k r t sender v)
+      go : (g : Bool) → later ties t (r .timestamp) ≡ g → KeepsOrRises r (invStep g me k r t sender v)
       go true g = inr g
       go false g = inl (refl, refl, refl)
   delivered sender (Ack t) = go (completes me r sender)
@@ -102,9 +102,9 @@ module _ (me : Replica) (k : ℕ) (r : Record) (v : List ℕ) where
   raised : question9 r .yes ≡ true → KeepsOrRises r (writeStep me k r v)
   raised h =
       let more = next-version (r .timestamp .version) h in
-      inr (greater-later higher (writeStep me k r v .after .timestamp) (r .timestamp) (inl (omega (arith, more))))
+      inr (greater-later ties (writeStep me k r v .after .timestamp) (r .timestamp) (inl (omega (arith, more))))
 
-  steps : (e : Event) → AllYes (own me r e (length v)) → KeepsOrRises r (step higher me k r e v)
+  steps : (e : Event) → AllYes (own me r e (length v)) → KeepsOrRises r (step ties me k r e v)
   steps Read y = inl (refl, refl, refl)
   steps Ask y = inl (refl, refl, refl)
   steps Write y = raised (y .1 .1 .0)
@@ -115,20 +115,20 @@ module _ (me : Replica) (k : ℕ) (r : Record) (v : List ℕ) where
   steps Resend y = inl (refl, refl, refl)
 
 -- an event on record k, as record i sees it
-event-since : (i : ℕ) (n : Node) (k : ℕ) (e : Event) (v : List ℕ) → Since i n (apply higher n k e v .node)
-event-since i n k e v = go (apply higher n k e v) (applied higher n k e v)
+event-since : (i : ℕ) (n : Node) (k : ℕ) (e : Event) (v : List ℕ) → Since i n (apply ties n k e v .node)
+event-since i n k e v = go (apply ties n k e v) (applied ties n k e v)
   where
     s : Step
-    s = stepOf higher n k e v
+    s = stepOf ties n k e v
 
     here : Changed k s n (done n k s) → KeepsOrRises (recordOf k n) s → Since k n (done n k s)
     here c (inl (t, l, b)) =
         stays k n (done n k s) (ap (λ (r : Record). r .timestamp) (c .here) ∙ t) (ap (λ (r : Record). r .len) (c .here) ∙ l) (c .bytes ∙ ap (λ (x : Stored). bytesAfter x (slot k (n .store))) b)
     here c (inr g) =
-        let up : later higher (recordOf k (done n k s) .timestamp) (recordOf k n .timestamp) ≡ true = rw (c .here) g in
-        record { up = rises up; text = λ same. absurd (later-apart higher higher-order _ _ up same) }
+        let up : later ties (recordOf k (done n k s) .timestamp) (recordOf k n .timestamp) ≡ true = rw (c .here) g in
+        record { up = rises up; text = λ same. absurd (later-apart ties higher-order _ _ up same) }
 
-    go : (o : Outcome) → Applied higher n k e v o → Since i n (o .node)
+    go : (o : Outcome) → Applied ties n k e v o → Since i n (o .node)
     go o (refused z q p) = rw p (since-refl i n)
     go o (accepted y c p) = rw p (at (ℕ-discrete i k))
       where
@@ -143,7 +143,7 @@ event-since i n k e v = go (apply higher n k e v) (applied higher n k e v)
 -- ---- a call, and a list of calls
 
 module _ (i : ℕ) where
-  receipt-since : (n : Node) (p : List ℕ) (f : Fetched) → Since i n (receiptOf higher n p f .node)
+  receipt-since : (n : Node) (p : List ℕ) (f : Fetched) → Since i n (receiptOf ties n p f .node)
   receipt-since n p (fetch.Found e at) = event-since i n (e .header .index) (Deliver (receivedOf e)) (bodyOf p (fetch.Found e at))
   receipt-since n p (fetch.Refused k) = since-refl i n
 

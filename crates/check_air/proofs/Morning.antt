@@ -8,7 +8,7 @@ use native.Mathlib.Omega.{arith}
 use lib.ListN.{length, take, drop, replicate}
 use borrow.Author.Tests.{ltb-true}
 use Rattle.hermes_record.specs.Members.{has, size, lowest, within, othersIn, with}
-use Rattle.hermes_record.specs.Order.{higher, later, sameTimestamp}
+use Rattle.hermes_record.specs.Order.{ties, later, sameTimestamp}
 use Rattle.hermes_record.proofs.Tests as tests
 use Rattle.hermes.specs.Store.{padded, place}
 use Rattle.hermes.specs.Event.{refusal, effect, askStamp, askHands}
@@ -75,7 +75,7 @@ val2Logged = record { header = record { sender = 1; epoch = 1; index = 0 }; mess
 -- the calls that they left: each on a laptop, with an event and a value
 record Leaving (x : Logged) (s : Sending) (l : Laptop) (e : Event) (v : List ℕ) : Type 0 where
   who : l .me ≡ s .from
-  answer : s .left ≡ answerOut (apply higher (node l) (s .index) e v .answer)
+  answer : s .left ≡ answerOut (apply ties (node l) (s .index) e v .answer)
   bytes : alongOf (afterEvent l (s .index) e v .table) (afterEvent l (s .index) e v .store) (s .index) (s .left) ≡ along (s .body)
   there : take (length (s .body)) (drop (192 * s .index) (afterEvent l (s .index) e v .store)) ≡ s .body
   leaves : Leaves (node l) (s .index) e v x
@@ -242,7 +242,7 @@ kept : (recordOf 0 (laptop hut (take 22 morning) 1) .timestamp ≡ a1) × Shows 
 unfolding has size lowest within othersIn with later sameTimestamp padded place refusal effect askStamp askHands start apply view viewed good entryBytes walk fetchRefusal fetched acceptRefusal accepted takeRefusal taken summed contents packetBytes allGood writeRefusal packetWritten outputOf entryIn wordMessages receipt decode tableOf
 kept = opened .kept 0 (take 19 morning) (take 2 (drop 20 morning)) asking (committing 22) saves a1 (65 ∷ 49 ∷ []) (66 ∷ []) asked refl refl (take 2 (drop 20 morning)) [] refl
 
-newer : later higher (recordOf 0 (laptop hut (take 24 morning) 1) .timestamp) a1 ≡ true
+newer : later ties (recordOf 0 (laptop hut (take 24 morning) 1) .timestamp) a1 ≡ true
 unfolding has size lowest within othersIn with later sameTimestamp padded place refusal effect askStamp askHands start apply view viewed good entryBytes walk fetchRefusal fetched acceptRefusal accepted takeRefusal taken summed contents packetBytes allGood writeRefusal packetWritten outputOf entryIn wordMessages receipt decode tableOf
 newer = opened .newer 0 (take 19 morning) (take 4 (drop 20 morning)) asking (committing 24) late a1 (65 ∷ 49 ∷ []) (66 ∷ []) asked refl refl
 

@@ -5,7 +5,7 @@ use mathlib.Core.Bool.{Bool, true}
 use mathlib.Core.List.{List, [], _∷_, _++_}
 use Rattle.hermes_record.specs.declared.timestamp.Timestamp.{Timestamp}
 use Rattle.hermes.specs.declared.event.Event.the-variants.{Read, Ask, Commit}
-use Rattle.hermes_record.specs.Order.{higher, later, NotAfter}
+use Rattle.hermes_record.specs.Order.{ties, later, NotAfter}
 use Rattle.hermes.specs.Event.{numberOf}
 use Rattle.hermes.specs.Node as hermes
 use Rattle.hermes.specs.Node.{Node, apply, asked, recordOf}
@@ -28,10 +28,10 @@ after-append h (s ∷ before) rest = after-append (next h s) before rest
 
 -- the number that `cetskobi_commit` answers
 commit-number : (i version tie : ℕ) (v : List ℕ) (l l′ : Laptop) (number : ℕ) (c : Call) → c ≡ commit i version tie v → Returns c l number l′
-    → numberOf (apply higher (node l) i (Commit (record { version = version; tie = tie })) v .answer) ≡ number
+    → numberOf (apply ties (node l) i (Commit (record { version = version; tie = tie })) v .answer) ≡ number
 commit-number i version tie v l l′ number c e =
-    subst (λ (x : Call). Returns x l number l′ → numberOf (apply higher (node l) i (Commit (record { version = version; tie = tie })) v .answer) ≡ number) (sym e)
-    (λ r. sym (ap (λ (x : CetskobiAnswer). x .number) (r .1 .answer) ∙ number-out (apply higher (node l) i (Commit (record { version = version; tie = tie })) v .answer)) ∙ r .2)
+    subst (λ (x : Call). Returns x l number l′ → numberOf (apply ties (node l) i (Commit (record { version = version; tie = tie })) v .answer) ≡ number) (sym e)
+    (λ r. sym (ap (λ (x : CetskobiAnswer). x .number) (r .1 .answer) ∙ number-out (apply ties (node l) i (Commit (record { version = version; tie = tie })) v .answer)) ∙ r .2)
 
 -- accepted is refused by 0
 accepted-of : (r : Result) → asking-of.RefusedBy 0 r → IsAccepted r
@@ -47,11 +47,11 @@ module _ (member : ℕ → Bool) (issued : ℕ → ℕ) (g : Group) (h : Hut) (m
   abbrev n : Node
   n = node (h .at (s .who))
 
-  entry-does : (x : Action) → a .what ≡ x → result higher g a ≡ perform higher x (h .log) n
+  entry-does : (x : Action) → a .what ≡ x → result ties g a ≡ perform ties x (h .log) n
   unfolding result
-  entry-does x is = λ j. perform higher (is j) (m .logs j) (m .nodes (s .who) j)
+  entry-does x is = λ j. perform ties (is j) (m .logs j) (m .nodes (s .who) j)
 
-  hands : (i : ℕ) (t : Timestamp) (text : List ℕ) → Hands n (s .call) i t text → HandsOut higher g a i t text
+  hands : (i : ℕ) (t : Timestamp) (text : List ℕ) → Hands n (s .call) i t text → HandsOut ties g a i t text
   hands i t text (asks p c d z e b) = asking-of.asks is (subst IsAccepted (sym (entry-does (run.ask i) is)) (sym (d .number) ∙ z)) out
     where
       is : a .what ≡ run.ask i
@@ -108,12 +108,12 @@ module _ (member : ℕ → Bool) (count : ℕ) (issued : ℕ → ℕ) (h : Hut) 
 
   -- the run at the first, and after further calls
   abbrev atFirst : Group
-  atFirst = run.run higher (groupOf h) e1
+  atFirst = run.run ties (groupOf h) e1
 
   abbrev atSecond : Group
-  atSecond = run.run higher (groupOf h) (e1 ++ first ∷ entries-after (upto ++ beyond) between)
+  atSecond = run.run ties (groupOf h) (e1 ++ first ∷ entries-after (upto ++ beyond) between)
 
-  claim : Opened higher (groupOf h) (entries member issued h (before ++ s ∷ ((upto ++ beyond) ++ c ∷ rest)) f)
+  claim : Opened ties (groupOf h) (entries member issued h (before ++ s ∷ ((upto ++ beyond) ++ c ∷ rest)) f)
   claim = asking member count issued (groupOf h) (started member count issued h begun) _ (are-entries member issued h (before ++ s ∷ ((upto ++ beyond) ++ c ∷ rest)) f)
 
   apart : Apart (entries member issued h (before ++ s ∷ ((upto ++ beyond) ++ c ∷ rest)) f) e1 (entries-after (upto ++ beyond) between) first second
@@ -131,24 +131,24 @@ module _ (member : ℕ → Bool) (count : ℕ) (issued : ℕ → ℕ) (h : Hut) 
   here : Match atFirst h1
   here = match member count issued h begun before f1
 
-  there : (turns : List Turn) (g : Follows member issued h2 turns) → Match (run.run higher (groupOf h) (e1 ++ first ∷ entries-after turns g)) (after h2 turns)
-  there turns g = subst (λ x. Match x (after h2 turns)) (sym (run-append higher (groupOf h) e1 (first ∷ entries-after turns g)))
-      (matches member issued (run.advance higher atFirst first) h2 turns g (turn-matches member issued atFirst h1 s (f2 .1) (f2 .2) here))
+  there : (turns : List Turn) (g : Follows member issued h2 turns) → Match (run.run ties (groupOf h) (e1 ++ first ∷ entries-after turns g)) (after h2 turns)
+  there turns g = subst (λ x. Match x (after h2 turns)) (sym (run-append ties (groupOf h) e1 (first ∷ entries-after turns g)))
+      (matches member issued (run.advance ties atFirst first) h2 turns g (turn-matches member issued atFirst h1 s (f2 .1) (f2 .2) here))
 
   later-laptop : (turns : List Turn) (k : ℕ) → node (after h2 turns .at k) ≡ laptop h (before ++ s ∷ turns) k
   later-laptop turns k = ap (λ (x : Hut). node (x .at k)) (sym (after-append h before (s ∷ turns)))
 
   -- what the two hand out
-  hands-first : (i : ℕ) (t : Timestamp) (text : List ℕ) → Hands (laptop h before (s .who)) (s .call) i t text → HandsOut higher atFirst first i t text
+  hands-first : (i : ℕ) (t : Timestamp) (text : List ℕ) → Hands (laptop h before (s .who)) (s .call) i t text → HandsOut ties atFirst first i t text
   hands-first i t text x = hands member issued atFirst h1 here s (f2 .0, f2 .1, f2 .2, tt) i t text x
 
-  hands-second : (i : ℕ) (t : Timestamp) (text : List ℕ) → Hands (laptop h (before ++ s ∷ (upto ++ beyond)) (c .who)) (c .call) i t text → HandsOut higher atSecond second i t text
+  hands-second : (i : ℕ) (t : Timestamp) (text : List ℕ) → Hands (laptop h (before ++ s ∷ (upto ++ beyond)) (c .who)) (c .call) i t text → HandsOut ties atSecond second i t text
   hands-second i t text x =
       hands member issued atSecond h3 (there (upto ++ beyond) between) c (f3 .0, f3 .1, f3 .2, tt) i t text
       (subst (λ (n : Node). Hands n (c .call) i t text) (sym (later-laptop (upto ++ beyond) (c .who))) x)
 
   forward-here : (i : ℕ) (t u : Timestamp) (one′ other : List ℕ) → Hands (laptop h before (s .who)) (s .call) i t one′ → Hands (laptop h (before ++ s ∷ (upto ++ beyond)) (c .who)) (c .call) i u other
-      → NotAfter higher t u × (t ≡ u → one′ ≡ other)
+      → NotAfter ties t u × (t ≡ u → one′ ≡ other)
   forward-here i t u one′ other x y = claim .forward i e1 (entries-after (upto ++ beyond) between) first second apart t u one′ other (hands-first i t one′ x) (hands-second i u other y)
 
   -- a commit of what the first handed out
@@ -157,7 +157,7 @@ module _ (member : ℕ → Bool) (count : ℕ) (issued : ℕ → ℕ) (h : Hut) 
     is = is-commit issued (h3 .log) i (t .version) (t .tie) v (c .call) commits (f3 .1)
 
     -- its entry answers what the call did
-    committed : (number : ℕ) → c .number ≡ number → asking-of.RefusedBy number (result higher atSecond second)
+    committed : (number : ℕ) → c .number ≡ number → asking-of.RefusedBy number (result ties atSecond second)
     committed number e =
         subst (asking-of.RefusedBy number) (sym (entry-does member issued atSecond h3 (there (upto ++ beyond) between) c (f3 .0, f3 .1, f3 .2, tt) (run.commit i t v) is))
         (commit-number i (t .version) (t .tie) v (h3 .at (c .who)) (c .left) (c .number) (c .call) commits (f3 .2) ∙ e)
@@ -166,13 +166,13 @@ module _ (member : ℕ → Bool) (count : ℕ) (issued : ℕ → ℕ) (h : Hut) 
     still e =
         let g = first-part member issued h2 upto beyond between in
         subst (λ (y : Node). Still i t y (laptop h before (s .who))) (there upto g .nodes (s .who) ∙ later-laptop upto (s .who))
-        (subst (λ (y : Node). Still i t (run.run higher (groupOf h) (e1 ++ first ∷ entries-after upto g) .at (s .who)) y) (here .nodes (s .who))
-        (claim .kept i e1 (entries-after (upto ++ beyond) between) first second apart t text v (hands-first i t text x) is (accepted-of (result higher atSecond second) (committed 0 e))
+        (subst (λ (y : Node). Still i t (run.run ties (groupOf h) (e1 ++ first ∷ entries-after upto g) .at (s .who)) y) (here .nodes (s .who))
+        (claim .kept i e1 (entries-after (upto ++ beyond) between) first second apart t text v (hands-first i t text x) is (accepted-of (result ties atSecond second) (committed 0 e))
         (entries-after upto g) (entries member issued (after h2 upto) beyond (second-part member issued h2 upto beyond between)) (both-parts member issued h2 upto beyond between)))
 
-    newer-here : c .number ≡ 26 → later higher (recordOf i (laptop h (before ++ s ∷ (upto ++ beyond)) (s .who)) .timestamp) t ≡ true
+    newer-here : c .number ≡ 26 → later ties (recordOf i (laptop h (before ++ s ∷ (upto ++ beyond)) (s .who)) .timestamp) t ≡ true
     newer-here e =
-        subst (λ (y : Node). later higher (recordOf i y .timestamp) t ≡ true) (there (upto ++ beyond) between .nodes (s .who) ∙ later-laptop (upto ++ beyond) (s .who))
+        subst (λ (y : Node). later ties (recordOf i y .timestamp) t ≡ true) (there (upto ++ beyond) between .nodes (s .who) ∙ later-laptop (upto ++ beyond) (s .who))
         (claim .newer i e1 (entries-after (upto ++ beyond) between) first second apart t text v (hands-first i t text x) is (committed 26 e))
 
 -- ---- the theorem

@@ -6,7 +6,7 @@ use mathlib.Core.List.{List, [], _∷_, _++_}
 use lib.ListN.{length, take, drop}
 use Rattle.hermes.specs.declared.event.Event.{Event}
 use Rattle.hermes.specs.declared.event.Event.the-variants.{Deliver}
-use Rattle.hermes_record.specs.Order.{higher}
+use Rattle.hermes_record.specs.Order.{ties}
 use Rattle.hermes.specs.Event.{sentBy}
 use Rattle.hermes.specs.Node.{Node, apply}
 use Rattle.hermes.specs.Run.{Logged, received, logged}
@@ -49,7 +49,7 @@ bodiesSent (s ∷ ss) = s .body ++ bodiesSent ss
 
 -- x is the message that left event e on record i of n, as the run of a group logs it
 abbrev pub Leaves : Node → ℕ → Event → List ℕ → Logged → Type 0
-Leaves n i e v x = logged [] (apply higher n i e v .node) (sentBy (apply higher n i e v .answer)) ≡ x ∷ []
+Leaves n i e v x = logged [] (apply ties n i e v .node) (sentBy (apply ties n i e v .answer)) ≡ x ∷ []
 
 -- The first: an exported event was called, message x left it, and `cetskobi_body` was then asked for its bytes. An ACK that left
 -- `cetskobi_deliver_packet` or `cetskobi_deliver_accepted` is among these, since by `ThroughTheAir` that call does what `called` says.

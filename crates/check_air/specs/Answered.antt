@@ -9,7 +9,7 @@ use Rattle.hermes_record.specs.declared.timestamp.Timestamp.{Timestamp}
 use Rattle.hermes.specs.declared.message.Message.the-variants.{Val}
 use Rattle.hermes.specs.declared.event.Event.{Event}
 use Rattle.hermes.specs.declared.event.Event.the-variants.{Write, Commit, Replay, Deliver, Validate, Resend}
-use Rattle.hermes_record.specs.Order.{higher}
+use Rattle.hermes_record.specs.Order.{ties}
 use Rattle.hermes.specs.Kind.{known}
 use Rattle.hermes.specs.Event as event
 use Rattle.hermes.specs.Event.{send, sentBy}
@@ -48,8 +48,8 @@ askAnswer l i = record {
 abbrev pub afterEvent : Laptop → ℕ → Event → List ℕ → Laptop
 afterEvent l i e v = record {
   me = l .me;
-  table = bytesAfter (effectOf higher (node l) i e v .moved) (l .table) i;
-  store = apply higher (node l) i e v .node .store;
+  table = bytesAfter (effectOf ties (node l) i e v .moved) (l .table) i;
+  store = apply ties (node l) i e v .node .store;
 }
 
 -- the laptop after the delivery of what was taken
@@ -68,7 +68,7 @@ afterCall (deliver i m v) l = afterEvent l i (Deliver (receivedIn m)) v
 afterCall (deliverPacket p i) l = record {
   me = l .me;
   table = bytesArrived (node l) (l .table) p (fetched p i);
-  store = receipt higher (node l) p i .node .store;
+  store = receipt ties (node l) p i .node .store;
 }
 afterCall (deliverAccepted p a i) l = afterTaken l p (taken p (acceptedIn a) i)
 afterCall (validate i) l = afterEvent l i Validate []

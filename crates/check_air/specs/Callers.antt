@@ -10,7 +10,7 @@ use Rattle.hermes_record.specs.declared.timestamp.Timestamp.{Timestamp}
 use Rattle.hermes.specs.declared.message.Message.the-variants.{Val}
 use Rattle.hermes.specs.declared.event.Event.{Event}
 use Rattle.hermes.specs.declared.event.Event.the-variants.{Read, Ask, Write, Commit, Replay, Deliver, Validate, Resend}
-use Rattle.hermes_record.specs.Order.{higher, NotAfter}
+use Rattle.hermes_record.specs.Order.{ties, NotAfter}
 use Rattle.hermes.specs.Kind.{known}
 use Rattle.hermes.specs.Event.{send, sentBy}
 use Rattle.hermes.specs.Node as hermes
@@ -108,16 +108,16 @@ pub record Turn : Type 0 where
 
 -- what the call's event comes to
 abbrev pub outcome : Call → Node → Outcome
-outcome (read i) n = apply higher n i Read []
-outcome (ask i) n = apply higher n i Ask []
-outcome (write i v) n = apply higher n i Write v
-outcome (commit i version tie v) n = apply higher n i (Commit (record { version = version; tie = tie })) v
-outcome (replay i) n = apply higher n i Replay []
-outcome (deliver i m v) n = apply higher n i (Deliver (receivedIn m)) v
-outcome (deliverPacket p i) n = receipt higher n p i
+outcome (read i) n = apply ties n i Read []
+outcome (ask i) n = apply ties n i Ask []
+outcome (write i v) n = apply ties n i Write v
+outcome (commit i version tie v) n = apply ties n i (Commit (record { version = version; tie = tie })) v
+outcome (replay i) n = apply ties n i Replay []
+outcome (deliver i m v) n = apply ties n i (Deliver (receivedIn m)) v
+outcome (deliverPacket p i) n = receipt ties n p i
 outcome (deliverAccepted p a i) n = takenReceipt n p (taken p (acceptedIn a) i)
-outcome (validate i) n = apply higher n i Validate []
-outcome (resend i) n = apply higher n i Resend []
+outcome (validate i) n = apply ties n i Validate []
+outcome (resend i) n = apply ties n i Resend []
 outcome (view epoch set) n = viewed n epoch set
 
 -- the messages with what left the call
@@ -237,7 +237,7 @@ pub record CallsAgree (member : ℕ → Bool) (count : ℕ) (h : Hut) (turns : L
   pub lasting : (i m : ℕ) (before rest : List Turn) (s : Turn) → i < count → member m ≡ true
       → turns ≡ before ++ s ∷ rest → Finishes (laptop h before (s .who)) i (s .call) → s .number ≡ 0
       → Sees (laptop h before (s .who)) m → Shows (laptop h turns m) i
-      → NotAfter higher (recordOf i (laptop h before (s .who)) .timestamp) (recordOf i (laptop h turns m) .timestamp)
+      → NotAfter ties (recordOf i (laptop h before (s .who)) .timestamp) (recordOf i (laptop h turns m) .timestamp)
 
 -- demand 3 of the exported functions; `proofs/Callers` proves it
 abbrev pub CalledDemand3 : Type 0

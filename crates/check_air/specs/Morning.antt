@@ -7,7 +7,7 @@ use mathlib.Core.List.{List, [], _∷_, _++_}
 use lib.Dec.{ltb}
 use lib.ListN.{take, drop, replicate}
 use Rattle.hermes_record.specs.declared.timestamp.Timestamp.{Timestamp}
-use Rattle.hermes_record.specs.Order.{higher, later}
+use Rattle.hermes_record.specs.Order.{ties, later}
 use Rattle.hermes.specs.Node.{newcomer, start, recordOf}
 use Rattle.hermes.specs.Agreement.{Sees, Shows, Alike}
 use Rattle.export_records.specs.Layout.{tableOf}
@@ -218,6 +218,6 @@ pub record Morning : Type 0 where
   pub bytesKept : Alike 0 (laptop hut (take 22 morning) 1) (laptop hut (take 19 morning) 1)
   -- the same once more, by call 24, is refused by 26: a later timestamp stands there
   pub late : CallsApart morning (take 19 morning) (take 4 (drop 20 morning)) asking (committing 24)
-  pub newer : later higher (recordOf 0 (laptop hut (take 24 morning) 1) .timestamp) a1 ≡ true
+  pub newer : later ties (recordOf 0 (laptop hut (take 24 morning) 1) .timestamp) a1 ≡ true
   -- whatever its read, by call 20, hands out under that timestamp is A1
   pub oneText : (text : List ℕ) → Hands (laptop hut (take 20 morning) 1) (read 0) 0 a1 text → text ≡ 65 ∷ 49 ∷ []

@@ -1,7 +1,7 @@
 // A laptop of the story: one record and its bytes of store, lent to the engine for a call, or for as long as a part of them is used.
 ghost use mathlib.Core.Path.{_≡_};
 ghost use mathlib.Core.List.{[]};
-ghost use Rattle.hermes_record.specs.Order.{higher};
+ghost use Rattle.hermes_record.specs.Order.{ties};
 ghost use Rattle.hermes.specs.declared.event.Event.the-variants.{Read};
 ghost use Rattle.hermes.specs.Node.{lent, start, apply, leaving};
 use crate::telling::text;
@@ -51,9 +51,9 @@ pub(crate) fn turn(
     e: Event,
     value: &[u8],
 ) -> Turned
-    ensures { λ t. ⌜ (t .answer ≡ apply higher (lent me records bytes) 0 e (now (value .entry)) .answer)
-        × ((t .records ≡ apply higher (lent me records bytes) 0 e (now (value .entry)) .node .table)
-        × (t .bytes ≡ apply higher (lent me records bytes) 0 e (now (value .entry)) .node .store)) ⌝ }
+    ensures { λ t. ⌜ (t .answer ≡ apply ties (lent me records bytes) 0 e (now (value .entry)) .answer)
+        × ((t .records ≡ apply ties (lent me records bytes) 0 e (now (value .entry)) .node .table)
+        × (t .bytes ≡ apply ties (lent me records bytes) 0 e (now (value .entry)) .node .store)) ⌝ }
 {
     let answer = replica_table::apply(me, &mut records, &mut bytes, 0, e, value);
     Turned {
@@ -65,7 +65,7 @@ pub(crate) fn turn(
 
 // The number of a read of the record.
 pub(crate) fn read_number(me: Replica, records: [Record; 1], bytes: [u8; 192]) -> Answer
-    ensures { λ a. ⌜ a ≡ apply higher (lent me records bytes) 0 Read [] .answer ⌝ }
+    ensures { λ a. ⌜ a ≡ apply ties (lent me records bytes) 0 Read [] .answer ⌝ }
 {
     replica_table::read_number(me, &records, &bytes, 0)
 }
@@ -86,9 +86,9 @@ pub(crate) fn deliver(
     bytes: [u8; 192],
     e: Event,
 ) -> Turned
-    ensures { λ t. ⌜ (t .answer ≡ apply higher (lent me records bytes) 0 e (leaving out theirs store) .answer)
-        × ((t .records ≡ apply higher (lent me records bytes) 0 e (leaving out theirs store) .node .table)
-        × (t .bytes ≡ apply higher (lent me records bytes) 0 e (leaving out theirs store) .node .store)) ⌝ }
+    ensures { λ t. ⌜ (t .answer ≡ apply ties (lent me records bytes) 0 e (leaving out theirs store) .answer)
+        × ((t .records ≡ apply ties (lent me records bytes) 0 e (leaving out theirs store) .node .table)
+        × (t .bytes ≡ apply ties (lent me records bytes) 0 e (leaving out theirs store) .node .store)) ⌝ }
 {
     let body = replica_table::body(out, &theirs, &store);
     turn(me, records, bytes, e, body)

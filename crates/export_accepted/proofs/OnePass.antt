@@ -5,7 +5,7 @@ use mathlib.Core.Bool.{true, cond}
 use mathlib.Core.List.{List}
 use Rattle.hermes.specs.declared.message.Received.{Received}
 use Rattle.hermes.specs.declared.event.Event.the-variants.{Deliver}
-use Rattle.hermes_record.specs.Order.{higher}
+use Rattle.hermes_record.specs.Order.{ties}
 use Rattle.hermes.specs.Kind.{known, messageOf}
 use Rattle.hermes.specs.Node.{Node, apply}
 use Rattle.packet_format.specs.declared.entry.Fields.{Fields}
@@ -30,13 +30,13 @@ stands f k =
     λ i. record { sender = f .sender; epoch = f .epoch; message = messageOf (f .kind) (record { version = f .version; tie = cond (k i) (f .tie) 255 }) }
 
 -- so the delivery comes to that of a fetch
-pub own-receipt : (n : Node) (p : List ℕ) (i : ℕ) → takenReceipt n p (taken p (accepted p) i) ≡ receipt higher n p i
+pub own-receipt : (n : Node) (p : List ℕ) (i : ℕ) → takenReceipt n p (taken p (accepted p) i) ≡ receipt ties n p i
 unfolding receipt
-own-receipt n p i = by (taken p (accepted p) i) refl ∙ ap (receiptOf higher n p) (taken-is-fetched p i)
+own-receipt n p i = by (taken p (accepted p) i) refl ∙ ap (receiptOf ties n p) (taken-is-fetched p i)
   where
-    by : (t : Taken) → taken p (accepted p) i ≡ t → takenReceipt n p t ≡ receiptOf higher n p (fetchedOf t)
+    by : (t : Taken) → taken p (accepted p) i ≡ t → takenReceipt n p t ≡ receiptOf ties n p (fetchedOf t)
     by (Entry f) e =
-        ap (λ (m : Received). apply higher n (f .index) (Deliver m) (bodyOf p (fetchedOf (Entry f)))) (stands f (good-parts f (taken-is-good p i f e) .kind))
+        ap (λ (m : Received). apply ties n (f .index) (Deliver m) (bodyOf p (fetchedOf (Entry f)))) (stands f (good-parts f (taken-is-good p i f e) .kind))
     by (Refused k) e = refl
 
 pub delivers-all : DeliversAll

@@ -4,7 +4,7 @@ use mathlib.Core.List.{List}
 use Prim.Native.Nat.{ℕ}
 use Rattle.hermes.specs.declared.event.Event.the-variants.{Deliver}
 use Rattle.hermes.specs.declared.event.Answer.the-variants as answer
-use Rattle.hermes_record.specs.Order.{higher}
+use Rattle.hermes_record.specs.Order.{ties}
 use Rattle.hermes.specs.Node.{Node, Outcome, apply}
 use Rattle.packet_format.specs.declared.answer.Taken.{Taken}
 use Rattle.packet_format.specs.declared.answer.Taken.the-variants.{Entry, Refused}
@@ -28,7 +28,7 @@ Delivered n before p (Refused k) a bytes′ store′ = (a ≡ answerOut (answer.
 
 -- the same as an event: what it comes to
 abbrev pub takenReceipt : Node → List ℕ → Taken → Outcome
-takenReceipt n p (Entry f) = apply higher n (f .index) (Deliver (receivedIn (numbersOf f))) (bodyOf p (fetchedOf (Entry f)))
+takenReceipt n p (Entry f) = apply ties n (f .index) (Deliver (receivedIn (numbersOf f))) (bodyOf p (fetchedOf (Entry f)))
 takenReceipt n p (Refused k) = record { answer = answer.Refused k; node = n }
 
 -- the delivery, and which message it was

@@ -7,7 +7,7 @@ use Rattle.hermes_record.specs.declared.record.Record.{Record}
 use Rattle.hermes.specs.declared.event.Replica.{Replica}
 use Rattle.hermes.specs.declared.event.Event.{Event}
 use Rattle.hermes.specs.declared.event.Moved.{Moved}
-use Rattle.hermes_record.specs.Order.{higher}
+use Rattle.hermes_record.specs.Order.{ties}
 use Rattle.hermes.specs.Event.{Effect, effect, moved, step, refusal}
 use Rattle.hermes.specs.Node.{recordAt, effectOf, apply}
 use Rattle.replica_asking.specs.declared.Asked.{Asked}
@@ -35,27 +35,27 @@ taken-here me bytes n i who count a r hw hc begins passed = record { identity = 
 
 module _ (me : CetskobiReplica) (bytes : List ℕ) (i : ℕ) (who : Replica) (count : ℕ) (r : Record) (t : Taken me bytes i who count r) where
   -- the engine's effect is that of the node
-  pub same : (store : List ℕ) (e : Event) (v : List ℕ) → effect higher who count i r store e v ≡ effectOf higher (nodeOf me bytes store) i e v
+  pub same : (store : List ℕ) (e : Event) (v : List ℕ) → effect ties who count i r store e v ≡ effectOf ties (nodeOf me bytes store) i e v
   same store e v = rw (t .identity, t .counted, t .found, length-table bytes)
 
   -- an event that stores
   pub done : (store : List ℕ) (e : Event) (v : List ℕ) (m : Moved) (a : CetskobiAnswer) (bytes′ store′ : List ℕ)
-      → (m ≡ effect higher who count i r store e v .moved) × (store′ ≡ effect higher who count i r store e v .store)
+      → (m ≡ effect ties who count i r store e v .moved) × (store′ ≡ effect ties who count i r store e v .store)
       → Finished bytes i m a bytes′ → Done (nodeOf me bytes store) bytes i e v a bytes′ store′
   unfolding apply effect
   done store e v m a bytes′ store′ (hm, hs) f =
-      let moves : m ≡ effectOf higher (nodeOf me bytes store) i e v .moved = hm ∙ ap (λ (x : Effect). x .moved) (same store e v) in
+      let moves : m ≡ effectOf ties (nodeOf me bytes store) i e v .moved = hm ∙ ap (λ (x : Effect). x .moved) (same store e v) in
       record {
         answer = f .answer ∙ ap (λ (x : Moved). answerOut (x .answer)) moves;
         bytes = f .bytes ∙ ap (λ (x : Moved). bytesAfter x bytes i) moves;
-        table = f .table ∙ ap (λ (x : Moved). tableAfter x (tableOf bytes) i) moves ∙ settled-step (refusal (replicaOf me) (length (tableOf bytes)) (length store) i (recordAt (tableOf bytes) i) e (length v)) (tableOf bytes) i (step higher (replicaOf me) i (recordAt (tableOf bytes) i) e v);
+        table = f .table ∙ ap (λ (x : Moved). tableAfter x (tableOf bytes) i) moves ∙ settled-step (refusal (replicaOf me) (length (tableOf bytes)) (length store) i (recordAt (tableOf bytes) i) e (length v)) (tableOf bytes) i (step ties (replicaOf me) i (recordAt (tableOf bytes) i) e v);
         store = hs ∙ ap (λ (x : Effect). x .store) (same store e v);
       }
 
   -- an event that stores nothing and looks at no value
   pub done-quiet : (store : List ℕ) (e : Event) (m : Moved) (a : CetskobiAnswer) (bytes′ : List ℕ)
-      → effect higher who count i r store e [] ≡ record { moved = moved higher who count (length store) i r e []; store = store }
-      → m ≡ moved higher who count (length store) i r e []
+      → effect ties who count i r store e [] ≡ record { moved = moved ties who count (length store) i r e []; store = store }
+      → m ≡ moved ties who count (length store) i r e []
       → Finished bytes i m a bytes′ → Done (nodeOf me bytes store) bytes i e [] a bytes′ store
   done-quiet store e m a bytes′ q hm h =
       done store e [] m a bytes′ store (hm ∙ ap (λ (x : Effect). x .moved) (sym q), ap (λ (x : Effect). x .store) (sym q)) h

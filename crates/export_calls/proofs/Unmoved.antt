@@ -10,7 +10,7 @@ use Rattle.hermes.specs.declared.message.Message.the-variants.{Inv}
 use Rattle.hermes.specs.declared.message.Received.{Received}
 use Rattle.hermes.specs.declared.event.Event.{Event}
 use Rattle.hermes.specs.declared.event.Event.the-variants.{Deliver, Resend}
-use Rattle.hermes_record.specs.Order.{higher, later}
+use Rattle.hermes_record.specs.Order.{ties, later}
 use Rattle.hermes.specs.Store.{Bytes}
 use Rattle.hermes.specs.Event.{Step, movedBy, effect}
 use Rattle.hermes.specs.Node.{recordAt, effectOf}
@@ -31,23 +31,23 @@ same-after (suc k) r s e = refl
 
 module _ (me : CetskobiReplica) (bytes store : List ℕ) (i : ℕ) (v : List ℕ) (a : CetskobiAnswer) (bytes′ store′ : List ℕ) (lent : Bytes bytes) where
   pub unmoved : (e : Event) → Done (nodeOf me bytes store) bytes i e v a bytes′ store′
-      → effectOf higher (nodeOf me bytes store) i e v .moved .after ≡ recordAt (tableOf bytes) i → bytes′ ≡ bytes
+      → effectOf ties (nodeOf me bytes store) i e v .moved .after ≡ recordAt (tableOf bytes) i → bytes′ ≡ bytes
   unfolding effect
   unmoved e d h =
-      d .bytes ∙ settled-back (refusalOf (nodeOf me bytes store) i e v) bytes i (stepOf higher (nodeOf me bytes store) i e v) lent (λ z.
+      d .bytes ∙ settled-back (refusalOf (nodeOf me bytes store) i e v) bytes i (stepOf ties (nodeOf me bytes store) i e v) lent (λ z.
       let c = event-passed (replicaOf me) (length (tableOf bytes)) (length store) i (recordAt (tableOf bytes) i) e (length v) z in
       (rw (length-table bytes) at (c .inside), c .sound .short)) h
 
-  step-unmoved : (e : Event) → stepOf higher (nodeOf me bytes store) i e v .after ≡ recordAt (tableOf bytes) i
-      → effectOf higher (nodeOf me bytes store) i e v .moved .after ≡ recordAt (tableOf bytes) i
+  step-unmoved : (e : Event) → stepOf ties (nodeOf me bytes store) i e v .after ≡ recordAt (tableOf bytes) i
+      → effectOf ties (nodeOf me bytes store) i e v .moved .after ≡ recordAt (tableOf bytes) i
   unfolding effect
-  step-unmoved e h = same-after (refusalOf (nodeOf me bytes store) i e v) (recordAt (tableOf bytes) i) (stepOf higher (nodeOf me bytes store) i e v) h
+  step-unmoved e h = same-after (refusalOf (nodeOf me bytes store) i e v) (recordAt (tableOf bytes) i) (stepOf ties (nodeOf me bytes store) i e v) h
 
   -- 01, Resend: the record is unchanged
   pub resend-unmoved : Done (nodeOf me bytes store) bytes i Resend v a bytes′ store′ → bytes′ ≡ bytes
   resend-unmoved d = unmoved Resend d (step-unmoved Resend refl)
 
   -- 01, Deliver INV: "only if that stamp is greater" is it taken
-  pub inv-unmoved : (m : Received) (t : Timestamp) → m .message ≡ Inv t → later higher t (recordAt (tableOf bytes) i .timestamp) ≡ false
+  pub inv-unmoved : (m : Received) (t : Timestamp) → m .message ≡ Inv t → later ties t (recordAt (tableOf bytes) i .timestamp) ≡ false
       → Done (nodeOf me bytes store) bytes i (Deliver m) v a bytes′ store′ → bytes′ ≡ bytes
   inv-unmoved m t e g d = unmoved (Deliver m) d (step-unmoved (Deliver m) (rw (e, g)))

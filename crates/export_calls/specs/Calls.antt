@@ -6,7 +6,7 @@ use lib.ListN.{length}
 use Rattle.hermes.specs.declared.event.Replica.{Replica}
 use Rattle.hermes.specs.declared.event.Event.{Event}
 use Rattle.hermes.specs.declared.event.Moved.{Moved}
-use Rattle.hermes_record.specs.Order.{higher}
+use Rattle.hermes_record.specs.Order.{ties}
 use Rattle.hermes.specs.Node.{Node, lent, effectOf, apply}
 use Rattle.replica_asking.specs.declared.Asked.{Asked}
 use Rattle.replica_asking.specs.declared.Asked.the-variants.{Passed, Refused}
@@ -42,7 +42,7 @@ pub record Finished (before : List ℕ) (i : ℕ) (m : Moved) (a : CetskobiAnswe
 
 -- the answer, the bytes, the table that they hold, and the store after event e on record i, with the value v
 pub record Done (n : Node) (before : List ℕ) (i : ℕ) (e : Event) (v : List ℕ) (a : CetskobiAnswer) (bytes′ store′ : List ℕ) : Type 0 where
-  pub answer : a ≡ answerOut (apply higher n i e v .answer)
-  pub bytes : bytes′ ≡ bytesAfter (effectOf higher n i e v .moved) before i
-  pub table : tableOf bytes′ ≡ apply higher n i e v .node .table
-  pub store : store′ ≡ apply higher n i e v .node .store
+  pub answer : a ≡ answerOut (apply ties n i e v .answer)
+  pub bytes : bytes′ ≡ bytesAfter (effectOf ties n i e v .moved) before i
+  pub table : tableOf bytes′ ≡ apply ties n i e v .node .table
+  pub store : store′ ≡ apply ties n i e v .node .store

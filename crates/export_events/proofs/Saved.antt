@@ -7,7 +7,7 @@ use Rattle.hermes_record.specs.declared.record.Record.{Record}
 use Rattle.hermes.specs.declared.event.Replica.{Replica}
 use Rattle.hermes.specs.declared.event.Event.{Event}
 use Rattle.hermes.specs.declared.event.Moved.{Moved}
-use Rattle.hermes_record.specs.Order.{higher}
+use Rattle.hermes_record.specs.Order.{ties}
 use Rattle.hermes.specs.Event.{moved}
 use Rattle.replica_outcome.specs.Placing.{storedFor}
 use Rattle.replica_saving.proofs.Saves.{Saves, save-moved, save-stored}
@@ -18,7 +18,7 @@ use Rattle.export_calls.proofs.Ends.{Taken, done}
 
 pub saved-done : (me : CetskobiReplica) (bytes : List ℕ) (i : ℕ) (who : Replica) (count : ℕ) (r : Record) → Taken me bytes i who count r
     → (store : List ℕ) (e : Event) → Saves e → (v : List ℕ) (m : Moved) (a : CetskobiAnswer) (bytes′ store′ : List ℕ)
-    → m ≡ moved higher who count (length store) i r e v → Finished bytes i m a bytes′ → store′ ≡ storedFor (m .answer) count i v store
+    → m ≡ moved ties who count (length store) i r e v → Finished bytes i m a bytes′ → store′ ≡ storedFor (m .answer) count i v store
     → Done (nodeOf me bytes store) bytes i e v a bytes′ store′
 saved-done me bytes i who count r t store e s v m a bytes′ store′ moves ends stores =
     done me bytes i who count r t store e v m a bytes′ store′

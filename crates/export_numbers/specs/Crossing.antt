@@ -1,28 +1,47 @@
 -- How identities, messages and answers cross as numbers.
 use Prim.Native.Nat.{ℕ}
 use mathlib.Core.Bool.{cond}
+use lib.Dec.{eqb}
+use Rattle.hermes_record.specs.declared.timestamp.Rule.{Rule}
+use Rattle.hermes_record.specs.declared.timestamp.Rule.the-variants.{Higher, Lower}
+use Rattle.hermes_record.specs.Order.{ruleNumber}
 use Rattle.hermes.specs.declared.message.Message.{Message}
 use Rattle.hermes.specs.declared.message.Outgoing.{Outgoing}
 use Rattle.hermes.specs.declared.message.Outgoing.the-variants.{None, Sent}
 use Rattle.hermes.specs.declared.message.Received.{Received}
 use Rattle.hermes.specs.declared.event.Replica.{Replica}
+use Rattle.hermes.specs.declared.event.Settings.{Settings}
 use Rattle.hermes.specs.declared.event.Answer.{Answer}
 use Rattle.hermes.specs.declared.event.Answer.the-variants as answer
 use Rattle.hermes.specs.declared.event.Admission.{Admission}
 use Rattle.hermes.specs.declared.event.Admission.the-variants as admission
 use Rattle.hermes.specs.Kind.{kindOf, timestampOf, known, messageOf}
+use Rattle.export_numbers.specs.declared.numbers.CetskobiSettings.{CetskobiSettings}
 use Rattle.export_numbers.specs.declared.numbers.CetskobiReplica.{CetskobiReplica}
 use Rattle.export_numbers.specs.declared.numbers.CetskobiAnswer.{CetskobiAnswer}
 use Rattle.export_numbers.specs.declared.numbers.CetskobiAdmission.{CetskobiAdmission}
 use Rattle.export_numbers.specs.declared.numbers.CetskobiMessage.{CetskobiMessage}
 
+-- ---- settings and identities
+
+-- 02, Wish 6: the rule that a byte from outside stands for. 2 is the new rule, as in a packet's byte 0; every other value is the old one
+abbrev pub ruleOf : ℕ → Rule
+ruleOf byte = cond (eqb byte 2) Lower Higher
+
+-- settings that came from outside, and on their way out: 1 or 2
+abbrev pub settingsOf : CetskobiSettings → Settings
+settingsOf x = record { rule = ruleOf (x .rule) }
+
+abbrev pub settingsOut : Settings → CetskobiSettings
+settingsOut x = record { rule = ruleNumber (x .rule) }
+
 -- an identity that came from outside
 abbrev pub replicaOf : CetskobiReplica → Replica
-replicaOf me = record { number = me .number; epoch = me .epoch; view = me .view }
+replicaOf me = record { number = me .number; epoch = me .epoch; view = me .view; settings = settingsOf (me .settings) }
 
 -- an identity on its way out
 abbrev pub identityOf : Replica → CetskobiReplica
-identityOf me = record { number = me .number; view = me .view; epoch = me .epoch }
+identityOf me = record { number = me .number; settings = settingsOut (me .settings); view = me .view; epoch = me .epoch }
 
 -- ---- answers: every case by its numbers
 

@@ -1,18 +1,27 @@
 // How identities, messages and answers cross as numbers.
 ghost use mathlib.Core.Path.{_≡_};
-ghost use Rattle.export_numbers.specs.Crossing.{replicaOf, identityOf, answering, messageOut, outgoingOut, answerOut, admissionOut, messageIn, receivedIn};
+ghost use Rattle.export_numbers.specs.Crossing.{ruleOf, settingsOf, settingsOut, replicaOf, identityOf, answering, messageOut, outgoingOut, answerOut, admissionOut, messageIn, receivedIn};
 use hermes::Admission;
 use hermes::Answer;
 use hermes::Message;
 use hermes::Outgoing;
 use hermes::Received;
 use hermes::Replica;
+use hermes::Rule;
+use hermes::Settings;
 use hermes::Timestamp;
+
+// What is fixed at a group's start. The rule of ties is one of hermes's numbers; any other is taken for the old rule.
+#[repr(C)]
+pub struct CetskobiSettings {
+    pub rule: u8,
+}
 
 // The identity of a replica.
 #[repr(C)]
 pub struct CetskobiReplica {
     pub number: u8,
+    pub settings: CetskobiSettings,
     pub view: u16,
     pub epoch: u32,
 }
@@ -59,13 +68,43 @@ pub struct CetskobiAdmission {
     pub number: u8,
 }
 
+fn rule_of(byte: u8) -> Rule
+    ensures { λ r. ⌜ r ≡ ruleOf byte ⌝ }
+{
+    if byte == Rule::LOWER {
+        return Rule::Lower;
+    }
+    Rule::Higher
+}
+
+pub fn settings_of(settings: CetskobiSettings) -> Settings
+    ensures { λ r. ⌜ r ≡ settingsOf settings ⌝ }
+{
+    let rule = rule_of(settings.rule);
+    Settings {
+        rule: rule,
+    }
+}
+
+pub fn settings_out(settings: Settings) -> CetskobiSettings
+    ensures { λ r. ⌜ r ≡ settingsOut settings ⌝ }
+{
+    let rule = settings.rule;
+    CetskobiSettings {
+        rule: rule.number(),
+    }
+}
+
 pub fn replica_of(me: CetskobiReplica) -> Replica
     ensures { λ r. ⌜ r ≡ replicaOf me ⌝ }
 {
+    let given = me.settings;
+    let settings = settings_of(given);
     Replica {
         number: me.number,
         epoch: me.epoch,
         view: me.view,
+        settings: settings,
     }
 }
 
@@ -112,8 +151,11 @@ pub fn answer_out(a: Answer) -> CetskobiAnswer
 fn identity_of(me: Replica) -> CetskobiReplica
     ensures { λ r. ⌜ r ≡ identityOf me ⌝ }
 {
+    let fixed = me.settings;
+    let settings = settings_out(fixed);
     CetskobiReplica {
         number: me.number,
+        settings: settings,
         view: me.view,
         epoch: me.epoch,
     }

@@ -21,7 +21,7 @@ use Rattle.hermes.specs.declared.event.Answer.the-variants.{Accepted}
 use Rattle.hermes.specs.declared.event.Event.{Event}
 use Rattle.hermes.specs.declared.event.Event.the-variants.{Read, Ask, Write, Commit, Replay, Deliver, Validate, Resend}
 use Rattle.hermes_record.specs.Members.{with, without}
-use Rattle.hermes_record.specs.Order.{higher, later}
+use Rattle.hermes_record.specs.Order.{ties, later}
 use Rattle.hermes.specs.Kind as kind
 use Rattle.hermes.specs.Store.{valueAt}
 use Rattle.hermes.specs.Event.{leavingBody, recipients, sentBy, send, Step, step, movedBy, deliverStep, invStep, ackStep, completes, resent, refusal, effect}
@@ -129,16 +129,16 @@ module _ (me : Replica) (i sender : ℕ) where
     settling true = val (Deliver m) (r .timestamp)
     settling false = nothing (Deliver m)
 
-    delivered : (x : Message) → Tells me (Deliver m) sender i (Accepted (deliverStep higher me i r (m .sender) x v .sent))
-    delivered (Inv t) = ack (later higher t (r .timestamp)) t
+    delivered : (x : Message) → Tells me (Deliver m) sender i (Accepted (deliverStep ties me i r (m .sender) x v .sent))
+    delivered (Inv t) = ack (later ties t (r .timestamp)) t
     delivered (Ack t) = settling (completes me r (m .sender))
     delivered (Val t) = nothing (Deliver m)
 
-  steps : (r : Record) (e : Event) (v : List ℕ) → Delivered e sender → Tells me e sender i (Accepted (step higher me i r e v .sent))
+  steps : (r : Record) (e : Event) (v : List ℕ) → Delivered e sender → Tells me e sender i (Accepted (step ties me i r e v .sent))
   steps r Read v d = nothing Read
   steps r Ask v d = nothing Ask
-  steps r Write v d = inv Write (step higher me i r Write v .after .timestamp)
-  steps r (Commit t) v d = inv (Commit t) (step higher me i r (Commit t) v .after .timestamp)
+  steps r Write v d = inv Write (step ties me i r Write v .after .timestamp)
+  steps r (Commit t) v d = inv (Commit t) (step ties me i r (Commit t) v .after .timestamp)
   steps r Replay v d = inv Replay (r .timestamp)
   steps r (Deliver m) v d = delivered r m v d (m .message)
   steps r Validate v d = val Validate (r .timestamp)
@@ -165,8 +165,8 @@ module _ (me : Replica) (i : ℕ) (r : Record) (v : List ℕ) where
   again-stamped state.Write = refl
   again-stamped state.Replay = refl
 
-  delivered-stamped : (sender : ℕ) (x : Message) → Stamped (deliverStep higher me i r sender x v .sent) (deliverStep higher me i r sender x v .after)
-  delivered-stamped sender (Inv t) = go (later higher t (r .timestamp))
+  delivered-stamped : (sender : ℕ) (x : Message) → Stamped (deliverStep ties me i r sender x v .sent) (deliverStep ties me i r sender x v .after)
+  delivered-stamped sender (Inv t) = go (later ties t (r .timestamp))
     where
       go : (b : Bool) → Stamped (invStep b me i r t sender v .sent) (invStep b me i r t sender v .after)
       go true = tt
@@ -178,7 +178,7 @@ module _ (me : Replica) (i : ℕ) (r : Record) (v : List ℕ) where
       go false = tt
   delivered-stamped sender (Val t) = tt
 
-  stamped : (e : Event) → Stamped (step higher me i r e v .sent) (step higher me i r e v .after)
+  stamped : (e : Event) → Stamped (step ties me i r e v .sent) (step ties me i r e v .after)
   stamped Read = tt
   stamped Ask = tt
   stamped Write = refl
@@ -203,16 +203,16 @@ held (Sent (Inv t) h) i table store r s e a b c =
 held (Sent (Ack t) h) i table store r s e a b c = refl
 held (Sent (Val t) h) i table store r s e a b c = refl
 
-holding : (n : Node) (i : ℕ) (e : Event) (v : List ℕ) (o : Outcome) → Applied higher n i e v o → Held (o .answer) i (o .node .table) (o .node .store)
+holding : (n : Node) (i : ℕ) (e : Event) (v : List ℕ) (o : Outcome) → Applied ties n i e v o → Held (o .answer) i (o .node .table) (o .node .store)
 holding n i e v o (refused k z p) = rw p
 holding n i e v o (accepted y c p) =
     let f = first-five n i e v y in
-    rw p (held (stepOf higher n i e v .sent) i (done n i (stepOf higher n i e v) .table) (done n i (stepOf higher n i e v) .store) (stepOf higher n i e v .after) (stamped (n .me) i (recordOf i n) v e) (c .here) (rw (c .count) (f .inside)) (sound-step higher n i e v y .after .short) (rw (c .room) (slot-fits f)))
+    rw p (held (stepOf ties n i e v .sent) i (done n i (stepOf ties n i e v) .table) (done n i (stepOf ties n i e v) .store) (stepOf ties n i e v .after) (stamped (n .me) i (recordOf i n) v e) (c .here) (rw (c .count) (f .inside)) (sound-step ties n i e v y .after .short) (rw (c .room) (slot-fits f)))
 
-told : (n : Node) (i : ℕ) (e : Event) (v : List ℕ) (sender : ℕ) → Delivered e sender → Tells (n .me) e sender i (apply higher n i e v .answer)
+told : (n : Node) (i : ℕ) (e : Event) (v : List ℕ) (sender : ℕ) → Delivered e sender → Tells (n .me) e sender i (apply ties n i e v .answer)
 unfolding apply effect
 told n i e v sender d =
-    answers (n .me) i sender (refusal (n .me) (length (n .table)) (length (n .store)) i (recordOf i n) e (length v)) (recordOf i n) e (step higher (n .me) i (recordOf i n) e v) (steps (n .me) i sender (recordOf i n) e v d)
+    answers (n .me) i sender (refusal (n .me) (length (n .table)) (length (n .store)) i (recordOf i n) e (length v)) (recordOf i n) e (step ties (n .me) i (recordOf i n) e v) (steps (n .me) i sender (recordOf i n) e v d)
 
 -- the sender of the message that an event delivered
 someone : Event → ℕ
@@ -238,10 +238,10 @@ from-someone Resend = tt
 
 pub asked-who-gets : AskedWhoGets
 asked-who-gets n i e v before a bytes′ store′ sender d′ d =
-    let same : recipientsOf (n .me) (a .kind) sender ≡ recipients (n .me) e (sentBy (apply higher n i e v .answer)) = rw (d′ .answer) (told n i e v sender d .0) in
-    rw same (who-gets higher n i e v)
+    let same : recipientsOf (n .me) (a .kind) sender ≡ recipients (n .me) e (sentBy (apply ties n i e v .answer)) = rw (d′ .answer) (told n i e v sender d .0) in
+    rw same (who-gets ties n i e v)
 
 pub asked-body : AskedBody
 asked-body n i e v before a bytes′ store′ d′ =
-    rw (d′ .answer, d′ .table, d′ .store, holding n i e v (apply higher n i e v) (applied higher n i e v))
-    (ap along (told n i e v (someone e) (from-someone e) .1 (apply higher n i e v .node .table) (apply higher n i e v .node .store)))
+    rw (d′ .answer, d′ .table, d′ .store, holding n i e v (apply ties n i e v) (applied ties n i e v))
+    (ap along (told n i e v (someone e) (from-someone e) .1 (apply ties n i e v .node .table) (apply ties n i e v .node .store)))

@@ -9,7 +9,7 @@ use Rattle.hermes.specs.declared.event.Replica.{Replica}
 use Rattle.hermes.specs.declared.event.Answer.{Answer}
 use Rattle.hermes.specs.declared.event.Event.the-variants as event
 use Rattle.hermes.specs.declared.event.Moved.{Moved}
-use Rattle.hermes_record.specs.Order.{higher}
+use Rattle.hermes_record.specs.Order.{ties}
 use Rattle.hermes.specs.Event.{numberOf, moved, askStamp, askHands}
 use Rattle.hermes.specs.Node.{Node, Outcome, recordAt, asked}
 use Rattle.hermes.proofs.Asking.{as-read, moves-as-read, ask-gives}
@@ -34,15 +34,15 @@ withStamp p t = record { number = p .number; tie = t .tie; version = t .version;
 
 pub ask-done : (n : Node) (i : ℕ) (p : CetskobiReading) (t : Timestamp) → ReadDone n i p → t ≡ asked n i .timestamp → AskDone n i (withStamp p t)
 ask-done n i p t d e = record {
-  number = d .number ∙ sym (ap (λ (o : Outcome). numberOf (o .answer)) (as-read higher n i));
-  part = subst (λ (bytes : List ℕ). PartAt (n .store) i bytes (p .len)) (sym (ask-gives higher n i .part)) (d .part);
+  number = d .number ∙ sym (ap (λ (o : Outcome). numberOf (o .answer)) (as-read ties n i));
+  part = subst (λ (bytes : List ℕ). PartAt (n .store) i bytes (p .len)) (sym (ask-gives ties n i .part)) (d .part);
   version = ap (λ (x : Timestamp). x .version) e;
   tie = ap (λ (x : Timestamp). x .tie) e;
 }
 
 -- an ask of one record answers as a read of it
-pub answers-as-read : (me : Replica) (count bytes i : ℕ) (r : Record) (a : Answer) → a ≡ moved higher me count bytes i r event.Ask [] .answer → a ≡ moved higher me count bytes i r event.Read [] .answer
-answers-as-read me count bytes i r a e = e ∙ ap (λ (m : Moved). m .answer) (moves-as-read higher me count bytes i r)
+pub answers-as-read : (me : Replica) (count bytes i : ℕ) (r : Record) (a : Answer) → a ≡ moved ties me count bytes i r event.Ask [] .answer → a ≡ moved ties me count bytes i r event.Read [] .answer
+answers-as-read me count bytes i r a e = e ∙ ap (λ (m : Moved). m .answer) (moves-as-read ties me count bytes i r)
 
 -- the timestamp of an ask whose beginning was refused
 pub begun-stamp : (me : CetskobiReplica) (bytes store : List ℕ) (i k : ℕ) (who : Replica) (a : Asked) → who ≡ replicaOf me → a ≡ beginning who bytes (length store) i → a ≡ Refused k

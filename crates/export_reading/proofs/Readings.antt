@@ -12,7 +12,7 @@ use Rattle.hermes.specs.declared.event.Replica.{Replica}
 use Rattle.hermes.specs.declared.event.Event.the-variants as event
 use Rattle.hermes.specs.declared.event.Answer.{Answer}
 use Rattle.hermes.specs.declared.event.Answer.the-variants.{Accepted, Refused}
-use Rattle.hermes_record.specs.Order.{higher}
+use Rattle.hermes_record.specs.Order.{ties}
 use Rattle.hermes.specs.Event.{Step, Effect, moved, movedBy, readStep, numberOf, partOf, readPart, refusal}
 use Rattle.hermes.specs.Store.{valueAt}
 use Rattle.hermes.specs.Node.{recordAt, apply, read}
@@ -60,7 +60,7 @@ pub begun-read : (me : CetskobiReplica) (bytes store : List ℕ) (i k : ℕ) (wh
 unfolding readPart
 begun-read me bytes store i k who a identity begins refuses out h =
     record {
-      number = ap (λ (x : CetskobiAnswer). x .number) (refused-done me bytes store i k who a identity begins refuses event.Read [] out h .answer) ∙ number-out (apply higher (nodeOf me bytes store) i event.Read [] .answer);
+      number = ap (λ (x : CetskobiAnswer). x .number) (refused-done me bytes store i k who a identity begins refuses event.Read [] out h .answer) ∙ number-out (apply ties (nodeOf me bytes store) i event.Read [] .answer);
       part =
           rw (refused-by me bytes store i k who a identity begins refuses event.Read 0 .0)
           (part-none store i k (valueAt i (recordAt (tableOf bytes) i .len) store) (refused-by me bytes store i k who a identity begins refuses event.Read 0 .1));
@@ -73,11 +73,11 @@ first-no : (k : ℕ) (r : Record) (s : Step) → numberOf (movedBy k r s .answer
 first-no zero r s = refl
 first-no (suc k) r s = refl
 
-module _ (me : CetskobiReplica) (bytes : List ℕ) (i : ℕ) (who : Replica) (count : ℕ) (r : Record) (t : Taken me bytes i who count r) (store : List ℕ) (a : Answer) (n : ℕ) (answers : a ≡ moved higher who count (length store) i r event.Read [] .answer) (numbers : n ≡ numberOf a) where
-  number-read : n ≡ numberOf (apply higher (nodeOf me bytes store) i event.Read [] .answer)
+module _ (me : CetskobiReplica) (bytes : List ℕ) (i : ℕ) (who : Replica) (count : ℕ) (r : Record) (t : Taken me bytes i who count r) (store : List ℕ) (a : Answer) (n : ℕ) (answers : a ≡ moved ties who count (length store) i r event.Read [] .answer) (numbers : n ≡ numberOf a) where
+  number-read : n ≡ numberOf (apply ties (nodeOf me bytes store) i event.Read [] .answer)
   unfolding apply
   number-read =
-      numbers ∙ ap numberOf (answers ∙ ap (λ (x : Effect). x .moved .answer) (sym (quiet higher who count i r store event.Read [] tt) ∙ same me bytes i who count r t store event.Read []))
+      numbers ∙ ap numberOf (answers ∙ ap (λ (x : Effect). x .moved .answer) (sym (quiet ties who count i r store event.Read [] tt) ∙ same me bytes i who count r t store event.Read []))
 
   asked-read : n ≡ refusal who count (length store) i r event.Read 0
   unfolding moved

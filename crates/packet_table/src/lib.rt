@@ -1,6 +1,6 @@
 // Delivery from a packet, on the lent table: for a Rattle program that lends a table of records. The exported functions have their own, over bytes.
 ghost use mathlib.Core.Path.{_≡_};
-ghost use Rattle.hermes_record.specs.Order.{higher};
+ghost use Rattle.hermes_record.specs.Order.{ties};
 ghost use Rattle.hermes.specs.Node.{lent};
 ghost use Rattle.packet_event.specs.Arrival.{receipt};
 use hermes::Answer;
@@ -17,9 +17,9 @@ pub fn receive(
     bytes: &[u8],
     i: usize,
 ) -> Answer
-    ensures { λ a. ⌜ (a ≡ receipt higher (lent me (now (table .entry)) (now (store .entry))) (now (bytes .entry)) i .answer)
-        × ((now (table .exit) ≡ receipt higher (lent me (now (table .entry)) (now (store .entry))) (now (bytes .entry)) i .node .table)
-        × (now (store .exit) ≡ receipt higher (lent me (now (table .entry)) (now (store .entry))) (now (bytes .entry)) i .node .store)) ⌝ }
+    ensures { λ a. ⌜ (a ≡ receipt ties (lent me (now (table .entry)) (now (store .entry))) (now (bytes .entry)) i .answer)
+        × ((now (table .exit) ≡ receipt ties (lent me (now (table .entry)) (now (store .entry))) (now (bytes .entry)) i .node .table)
+        × (now (store .exit) ≡ receipt ties (lent me (now (table .entry)) (now (store .entry))) (now (bytes .entry)) i .node .store)) ⌝ }
 {
     let a = event_in(bytes, i);
     let value = packet_reader::body(bytes, a.fetched);

@@ -44,7 +44,7 @@ use Rattle.hermes_record.specs.declared.record.Record.{Record}
 use Rattle.hermes.specs.declared.event.Replica.{Replica}
 use Rattle.hermes.specs.declared.event.Answer.{Answer}
 use Rattle.hermes.specs.declared.event.Event.{Event}
-use Rattle.hermes_record.specs.Order.{higher}
+use Rattle.hermes_record.specs.Order.{ties}
 use Rattle.hermes.specs.Node.{lent}
 use Rattle.hermes.specs.Node as node
 use Rattle.hermes_record.proofs.record.Record as R
@@ -215,7 +215,7 @@ module _ {M : Type 1} (𝓤 : URA M) (H : Heap 𝓤) (A : Atoms 𝓤) (W : Given
       move ! (3 ∷ 0 ∷ []) $ fjoin ! $ move ! (2 ∷ 0 ∷ []) $ fjoin ! $ has-replica ! me me-is $ fjoin ! $ move ! (1 ∷ 0 ∷ []) $ join ! $ frame ! $ done !
 
   abbrev outcome : Arriving → RefT (List ℕ) → node.Outcome
-  outcome c x = node.apply higher (lent me ys ss) (c .index) (c .event) (now x)
+  outcome c x = node.apply ties (lent me ys ss) (c .index) (c .event) (now x)
 
   abbrev Applied : Arriving → RefT (List ℕ) → Answer → List Record → List ℕ → Type 0
   Applied c x r ts zs = (r ≡ outcome c x .answer) × ((ts ≡ outcome c x .node .table) × (zs ≡ outcome c x .node .store))
@@ -236,7 +236,7 @@ module _ {M : Type 1} (𝓤 : URA M) (H : Heap 𝓤) (A : Atoms 𝓤) (W : Given
 
   -- what is to be ensured
   abbrev end : node.Outcome
-  end = receipt higher (lent me ys ss) bs i
+  end = receipt ties (lent me ys ss) bs i
 
   abbrev Ensured : Answer → List Record → List ℕ → Type 0
   Ensured s ts zs = (s ≡ end .answer) × ((ts ≡ end .node .table) × (zs ≡ end .node .store))
@@ -298,7 +298,7 @@ module _ {M : Type 1} (𝓤 : URA M) (H : Heap 𝓤) (A : Atoms 𝓤) (W : Given
         land ! (from ! (stop !)) (init ! 29 refl (typed-answer 𝓤 H A W s w s-is)) $
         returns ! (look ! 29 refl) $ forget ! 29 refl $ forget ! 27 refl $ forget ! 25 refl $ forget ! 23 refl $ forget ! 21 refl $ forget ! 19 refl $ forget ! 17 refl $ forget ! 15 refl $ forget ! 13 refl $ forget ! 11 refl $ forget ! 9 refl $ forget ! 7 refl $ forget ! 5 refl $
         move ! (29 ∷ 30 ∷ []) $ free1 ! $ move ! (27 ∷ 28 ∷ []) $ free1 ! $ move ! (25 ∷ 26 ∷ []) $ free1 ! $ move ! (23 ∷ 24 ∷ []) $ free1 ! $ move ! (21 ∷ 22 ∷ []) $ free1 ! $ move ! (19 ∷ 20 ∷ []) $ free1 ! $ move ! (17 ∷ 18 ∷ []) $ free1 ! $ move ! (15 ∷ 16 ∷ []) $ free1 ! $ move ! (13 ∷ 14 ∷ []) $ free1 ! $ move ! (11 ∷ 12 ∷ []) $ free1 ! $ move ! (9 ∷ 10 ∷ []) $ free1 ! $ move ! (7 ∷ 8 ∷ []) $ free1 ! $ move ! (5 ∷ 6 ∷ []) $ free1 ! $ free0 ! $
-        keep ! (0 ∷ 1 ∷ 2 ∷ 4 ∷ 5 ∷ []) $ by ! (exits s w (zs .1 .0) (zs .1 .1 .0) (receipt-met higher (lent me ys ss) bs i c (now x) r s (zs .1 .0) (zs .1 .1 .0) arrived brought said answered) same₀ same₁)))))))))))))))))))))))))))))))))
+        keep ! (0 ∷ 1 ∷ 2 ∷ 4 ∷ 5 ∷ []) $ by ! (exits s w (zs .1 .0) (zs .1 .1 .0) (receipt-met ties (lent me ys ss) bs i c (now x) r s (zs .1 .0) (zs .1 .1 .0) arrived brought said answered) same₀ same₁)))))))))))))))))))))))))))))))))
 
 module _ {M : Type 1} (𝓤 : URA M) (H : Heap 𝓤) (A : Atoms 𝓤) (W : Given 𝓤 H A) (mem : Memory → SProp 𝓤) (run : Routine → Fun 𝓤) where
   receive-walks : (C : Calls 𝓤 H) (Λ : Loops 𝓤 H) → FmC 𝓤 H (W .laws) C → Triple 𝓤 (C #packet-event·event-in) (EventIn 𝓤 H A mem run) → Triple 𝓤 (C #packet-reader·body) (BodyOf 𝓤 H A mem run)

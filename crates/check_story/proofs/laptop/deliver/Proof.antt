@@ -51,7 +51,7 @@ use Rattle.hermes.proofs.event.Event as E
 use Rattle.hermes.proofs.event.Event.Laws as E′
 use Rattle.hermes.proofs.message.Outgoing as O
 use Rattle.hermes.proofs.message.Outgoing.Laws as O′
-use Rattle.hermes_record.specs.Order.{higher}
+use Rattle.hermes_record.specs.Order.{ties}
 use Rattle.hermes.specs.Node as node
 use Rattle.check_story.specs.declared.laptop.Turned.{Turned}
 use Rattle.check_story.proofs.laptop.Turned as S
@@ -93,7 +93,7 @@ module _ {M : Type 1} (𝓤 : URA M) (H : Heap 𝓤) (A : Atoms 𝓤) (W : Given
 
   -- what `turn` ensures of an event with the value vs
   abbrev Turns : List ℕ → Turned → Type 0
-  Turns vs t = (t .answer ≡ node.apply higher (node.lent me xs bs) 0 e vs .answer) × ((t .records ≡ node.apply higher (node.lent me xs bs) 0 e vs .node .table) × (t .bytes ≡ node.apply higher (node.lent me xs bs) 0 e vs .node .store))
+  Turns vs t = (t .answer ≡ node.apply ties (node.lent me xs bs) 0 e vs .answer) × ((t .records ≡ node.apply ties (node.lent me xs bs) 0 e vs .node .table) × (t .bytes ≡ node.apply ties (node.lent me xs bs) 0 e vs .node .store))
 
   -- the part of the other laptop's store
   module _ (α β : ℕ) (γ δ : GName) (b c : ℕ) where

@@ -47,7 +47,7 @@ use Rattle.hermes.proofs.event.Replica as P
 use Rattle.hermes.proofs.event.Replica.Laws as P′
 use Rattle.hermes.proofs.event.Answer as An
 use Rattle.hermes.proofs.event.Answer.Laws as An′
-use Rattle.hermes_record.specs.Order.{higher}
+use Rattle.hermes_record.specs.Order.{ties}
 use Rattle.hermes.specs.Node as node
 use Rattle.replica_parts.proofs.read_number as engine
 use Rattle.replica_parts.proofs.read_number.Symbol as engine-def
@@ -78,7 +78,7 @@ module _ {M : Type 1} (𝓤 : URA M) (H : Heap 𝓤) (A : Atoms 𝓤) (W : Given
 
   -- what the engine ensures
   abbrev Said : Answer → Type 0
-  Said r = r ≡ node.apply higher (node.lent me xs bs) 0 Read [] .answer
+  Said r = r ≡ node.apply ties (node.lent me xs bs) 0 Read [] .answer
 
   module _ (α β : ℕ) (γ δ : GName) (b c : ℕ) where
     told : (r : Answer) → ent 𝓤 (ensured 𝓤 H A engine.ended (engine.clauses 𝓤 H A mem run) ((α ∷ []), ((β ∷ []), tt)) (args me xs bs γ δ b c) tt r) (fact 𝓤 (Said r))

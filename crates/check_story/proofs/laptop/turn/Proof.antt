@@ -56,7 +56,7 @@ use Rattle.hermes.proofs.event.Event as E
 use Rattle.hermes.proofs.event.Event.Laws as E′
 use Rattle.hermes.proofs.event.Answer as An
 use Rattle.hermes.proofs.event.Answer.Laws as An′
-use Rattle.hermes_record.specs.Order.{higher}
+use Rattle.hermes_record.specs.Order.{ties}
 use Rattle.hermes.specs.Node as node
 use Rattle.check_story.specs.declared.laptop.Turned.{Turned}
 use Rattle.check_story.proofs.laptop.Turned as S
@@ -132,7 +132,7 @@ module _ {M : Type 1} (𝓤 : URA M) (H : Heap 𝓤) (A : Atoms 𝓤) (W : Given
 
   -- what the engine ensures
   abbrev Said : Answer → List Record → List ℕ → Type 0
-  Said r zs ws = (r ≡ node.apply higher (node.lent me xs bs) 0 e vs .answer) × ((zs ≡ node.apply higher (node.lent me xs bs) 0 e vs .node .table) × (ws ≡ node.apply higher (node.lent me xs bs) 0 e vs .node .store))
+  Said r zs ws = (r ≡ node.apply ties (node.lent me xs bs) 0 e vs .answer) × ((zs ≡ node.apply ties (node.lent me xs bs) 0 e vs .node .table) × (ws ≡ node.apply ties (node.lent me xs bs) 0 e vs .node .store))
 
   exits : (s : Turned) → Is S.the-row s (SL.vals S.the-type S′.the-laws s) → Said (s .answer) (s .records) (s .bytes) → ent 𝓤 (⋆ 𝓤 H A ((‵ (flft κ q) ⊛ ‵ ftrue) ∷ ‵ Value ∷ [])) (Post (SL.val S.the-type S′.the-laws s))
   exits s s-is said =

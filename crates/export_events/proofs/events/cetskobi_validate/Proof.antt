@@ -2,7 +2,7 @@
 use Rattle.export_calls.proofs.Beginnings.{refused-done}
 use Rattle.export_calls.proofs.Ends.{taken-here, done-quiet}
 use Rattle.replica_outcome.proofs.Outcomes.{quiet}
-use Rattle.hermes_record.specs.Order.{higher}
+use Rattle.hermes_record.specs.Order.{ties}
 use Rattle.hermes.specs.declared.event.Event.the-variants as event
 use mathlib.Core.List.{[]}
 use borrow.Author.Needs.{needs}
@@ -45,7 +45,7 @@ same-length-2 c = search needs
 
 returns-2 : tie.Need-returns-2
 returns-2 c = let v = c .before .before .before .before .before .before .before .before .before .before .before .before .before .before .args in
-    done-quiet (v .me) (v .table .now) (v .i) _ _ _ (taken-here (v .me) (v .table .now) _ (v .i) _ _ _ _ (c .before .before .before .before .before .before .before .before .before .before .before .replica-of .ensures) (c .before .before .before .before .before .count .ensures) (c .before .before .before .before .before .before .before .before .before .begin .ensures) (c .before .before .before .before .before .before .before .a .given .1)) (v .store .now) event.Validate _ _ _ (quiet higher _ _ _ _ _ event.Validate [] tt) (c .before .before .before .before .validate .ensures) (c .before .before .finish .ensures)
+    done-quiet (v .me) (v .table .now) (v .i) _ _ _ (taken-here (v .me) (v .table .now) _ (v .i) _ _ _ _ (c .before .before .before .before .before .before .before .before .before .before .before .replica-of .ensures) (c .before .before .before .before .before .count .ensures) (c .before .before .before .before .before .before .before .before .before .begin .ensures) (c .before .before .before .before .before .before .before .a .given .1)) (v .store .now) event.Validate _ _ _ (quiet ties _ _ _ _ _ event.Validate [] tt) (c .before .before .before .before .validate .ensures) (c .before .before .finish .ensures)
 
 pub cetskobi-validate-spec : {M : Type 1} → statement M
 cetskobi-validate-spec =
