@@ -10,6 +10,8 @@ use lib.Dec.{leb, ltb}
 use lib.ListN.{length, getD, set}
 use lib.Seq.{sets, length-sets}
 use Rattle.hermes_record.proofs.Tests.{either, neither, and-false}
+use Rattle.hermes_record.specs.declared.timestamp.Rule.{Rule}
+use Rattle.hermes_record.specs.Order.{ruleNumber}
 use Rattle.packet_format.specs.Bytes.{be}
 use Rattle.packet_format.specs.Entry.{entryBytes}
 use Rattle.packet_format.specs.Reading.{entryPlace}
@@ -73,21 +75,22 @@ crowded total room h =
     ⊎-elim (λ l. rw (lt-leb total 1400 (ltb-true 1400 total l))) (λ l. rw (lt-leb total room (ltb-true room total l)) (and-false (leb total 1400)))
     (either (ltb 1400 total) (ltb room total) h)
 
-module _ (words bodies out : List ℕ) (n : ℕ) (e : n ≡ countIn (length words)) where
+module _ (rule : Rule) (words bodies out : List ℕ) (n : ℕ) (e : n ≡ countIn (length words)) where
   -- by question 25's answer
-  answered : (b : Bool) → question25 n bodies (length out) .yes ≡ b → cond b (sets out 0 (front n words bodies)) out ≡ fronted words bodies out
+  answered : (b : Bool) → question25 n bodies (length out) .yes ≡ b → cond b (sets out 0 (front rule n words bodies)) out ≡ fronted rule words bodies out
   answered b h =
-      ap (λ (x : Bool). cond x (sets out 0 (front n words bodies)) out) (sym h)
-      ∙ ap (λ (m : ℕ). cond (question25 m bodies (length out) .yes) (sets out 0 (front m words bodies)) out) e
+      ap (λ (x : Bool). cond x (sets out 0 (front rule n words bodies)) out) (sym h)
+      ∙ ap (λ (m : ℕ). cond (question25 m bodies (length out) .yes) (sets out 0 (front rule m words bodies)) out) e
 
-  pub front-none : (ltb 1400 (totalOf n bodies) || ltb (length out) (totalOf n bodies)) ≡ true → out ≡ fronted words bodies out
+  pub front-none : (ltb 1400 (totalOf n bodies) || ltb (length out) (totalOf n bodies)) ≡ true → out ≡ fronted rule words bodies out
   front-none h = answered false (crowded (totalOf n bodies) (length out) h)
 
-  pub front-all : (h o : List ℕ) → totalOf n bodies ≤ 1400 → totalOf n bodies ≤ length out
-      → h ≡ sets (set (set out 0 1) 1 n) 2 (be 2 (totalOf n bodies))
+  pub front-all : (first : ℕ) (h o : List ℕ) → first ≡ ruleNumber rule → totalOf n bodies ≤ 1400 → totalOf n bodies ≤ length out
+      → h ≡ sets (set (set out 0 first) 1 n) 2 (be 2 (totalOf n bodies))
       → o ≡ sets h 4 (table n 0 (entryPlace n) words)
-      → o ≡ fronted words bodies out
-  front-all h o short fits eh eo =
+      → o ≡ fronted rule words bodies out
+  front-all first h o named short fits eh eo =
       eo
-      ∙ sets-then out h 0 4 (1 ∷ n ∷ be 2 (totalOf n bodies)) (table n 0 (entryPlace n) words) eh refl
+      ∙ sets-then out h 0 4 (first ∷ n ∷ be 2 (totalOf n bodies)) (table n 0 (entryPlace n) words) eh refl
+      ∙ ap (λ (b : ℕ). sets out 0 (b ∷ n ∷ be 2 (totalOf n bodies) ++ table n 0 (entryPlace n) words)) named
       ∙ answered true (simp (le-leb _ _ short, le-leb _ _ fits))

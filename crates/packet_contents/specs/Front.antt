@@ -4,6 +4,8 @@ use mathlib.Core.Bool.{cond}
 use mathlib.Core.List.{List, [], _∷_, _++_}
 use lib.ListN.{length, getD}
 use lib.Seq.{sets}
+use Rattle.hermes_record.specs.declared.timestamp.Rule.{Rule}
+use Rattle.hermes_record.specs.Order.{ruleNumber}
 use Rattle.packet_format.specs.declared.entry.Fields.{Fields}
 use Rattle.packet_format.specs.Bytes.{be}
 use Rattle.packet_format.specs.Entry.{entryBytes}
@@ -33,11 +35,11 @@ unfoldable pub table : ℕ → ℕ → ℕ → List ℕ → List ℕ
 table zero w at words = []
 table (suc n) w at words = entryBytes (cut (fieldsAt words w at)) ++ table n (w + 7) (at + getD words (w + 6) 0) words
 
--- byte 0, the count, the total, the contents table
-abbrev pub front : ℕ → List ℕ → List ℕ → List ℕ
-front n words bodies = 1 ∷ n ∷ be 2 (totalOf n bodies) ++ table n 0 (entryPlace n) words
+-- byte 0, which is the number of the group's rule (02, Wish 6), the count, the total, the contents table
+abbrev pub front : Rule → ℕ → List ℕ → List ℕ → List ℕ
+front rule n words bodies = ruleNumber rule ∷ n ∷ be 2 (totalOf n bodies) ++ table n 0 (entryPlace n) words
 
 -- the output with them, where question 25 says yes; else it is as it was
-abbrev pub fronted : List ℕ → List ℕ → List ℕ → List ℕ
-fronted words bodies out =
-    cond (question25 (countIn (length words)) bodies (length out) .yes) (sets out 0 (front (countIn (length words)) words bodies)) out
+abbrev pub fronted : Rule → List ℕ → List ℕ → List ℕ → List ℕ
+fronted rule words bodies out =
+    cond (question25 (countIn (length words)) bodies (length out) .yes) (sets out 0 (front rule (countIn (length words)) words bodies)) out

@@ -9,9 +9,9 @@ ghost use Rattle.packet_words.specs.Words.{fieldsAt};
 ghost use Rattle.packet_contents.specs.Front.{cut, half, table, fronted};
 use crate::output::put2;
 use crate::output::put4;
+use hermes_record::Rule;
 use packet_format::ENTRY_BYTES;
 use packet_format::HEADER_BYTES;
-use packet_format::RULE;
 use packet_format::TOTAL_MAX;
 use packet_words::WORDS;
 
@@ -54,16 +54,16 @@ fn put_contents(out: &mut [u8], words: &[u32], count: usize)
     }
 }
 
-// All that stands before the bodies, where question 25 lets the packet pass; else nothing is stored.
-pub fn put_front(words: &[u32], bodies: &[u8], out: &mut [u8])
-    ensures { λ _. ⌜ now (out .exit) ≡ fronted (now (words .entry)) (now (bodies .entry)) (now (out .entry)) ⌝ }
+// All that stands before the bodies in a packet of a group of this rule, where question 25 lets it pass; else nothing is stored.
+pub fn put_front(rule: Rule, words: &[u32], bodies: &[u8], out: &mut [u8])
+    ensures { λ _. ⌜ now (out .exit) ≡ fronted rule (now (words .entry)) (now (bodies .entry)) (now (out .entry)) ⌝ }
 {
     let count = packet_words::count_in(words.len());
     let total = HEADER_BYTES + ENTRY_BYTES * count + bodies.len();
     if (TOTAL_MAX < total) | (out.len() < total) {
         return;
     }
-    out[0] = RULE;
+    out[0] = rule.number();
     out[1] = count as u8;
     put2(out, 2, total);
     put_contents(out, words, count);

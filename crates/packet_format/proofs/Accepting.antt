@@ -6,11 +6,14 @@ use mathlib.Core.Logic.{_⊎_, inl, inr, ⊎-elim}
 use Prim.Native.Nat.{ℕ, zero, suc, _+_, _*_, _-_, _≤_, _<_}
 use native.Mathlib.Nat.{not-suc-le-zero, le-of-suc-le-suc}
 use native.Mathlib.Omega.{arith}
-use borrow.Author.Tests.{ne-eqb, le-leb, lt-leb, lt-ltb, le-ltb, leb-true, leb-false, ltb-true, ltb-false, eqb-true}
+use borrow.Author.Tests.{eq-eqb, ne-eqb, le-leb, lt-leb, lt-ltb, le-ltb, leb-true, leb-false, ltb-true, ltb-false, eqb-true, eqb-false}
 use lib.Dec.{eqb, leb, ltb}
 use lib.ListN.{length, take, drop}
 use lib.Seq.{drop-drop}
 use Rattle.hermes_record.proofs.Tests.{both}
+use Rattle.hermes_record.specs.declared.timestamp.Rule.{Rule}
+use Rattle.hermes_record.specs.declared.timestamp.Rule.the-variants.{Higher, Lower}
+use Rattle.hermes_record.specs.Order.{ruleNumber}
 use Rattle.hermes.specs.Store.{Bytes}
 use Rattle.packet_format.specs.declared.entry.Fields.{Fields}
 use Rattle.packet_format.specs.declared.answer.Accepted.{Accepted}
@@ -19,9 +22,9 @@ use Rattle.packet_format.specs.declared.answer.Taken.{Taken}
 use Rattle.packet_format.specs.declared.answer.Taken.the-variants.{Entry, Refused}
 use Rattle.packet_format.specs.Bytes.{window}
 use Rattle.packet_format.specs.Entry.{fieldsOf, good}
-use Rattle.packet_format.specs.Reading.{countOf, entryPlace, question20, question21, question22, walk, fetched}
-use Rattle.packet_format.specs.Accepting.{acceptRefusal, accepted, takeRefusal, takenAs, taken, takenNumber, fetchedOf, TakenIsFetched, TakenIsGood, Tells, AcceptedTells, TakenLiesWithin}
-use Rattle.packet_format.proofs.Reading.{part-to-end, fetch-20, fetch-21, fetch-22, fetch-23, fetch-0}
+use Rattle.packet_format.specs.Reading.{ruleIn, countOf, entryPlace, question20, question27, question21, question22, walk, fetched, bodyOf}
+use Rattle.packet_format.specs.Accepting.{acceptRefusal, accepted, takeRefusal, takenAs, taken, takenNumber, fetchedOf, TakenIsFetched, TakenIsGood, Tells, AcceptedTells, TakenLiesWithin, Refuses, OtherRuleRefused, AcceptedByOne}
+use Rattle.packet_format.proofs.Reading.{part-to-end, fetch-20, fetch-27, fetch-21, fetch-22, fetch-23, fetch-0}
 use Rattle.packet_format.proofs.Width.{num-lt, window-bytes}
 use Rattle.packet_format.proofs.Contents.{bytes-drop, sixteen}
 
@@ -59,24 +62,29 @@ offset-fits p a b = rw (part-to-end p a) (num-lt (window (drop a p) 13 2) (windo
 
 -- ---- the answer of an acceptance
 
-module _ (p : List ℕ) where
-  pub accept-20 : question20 p .yes ≡ false → _≡_ {A = Accepted} (record { number = 20; count = 0 }) (accepted p)
+module _ (rule : Rule) (p : List ℕ) where
+  pub accept-20 : question20 p .yes ≡ false → _≡_ {A = Accepted} (record { number = 20; count = 0 }) (accepted rule p)
   unfolding accepted acceptRefusal
   accept-20 a = simp a
 
   module _ (a : question20 p .yes ≡ true) where
-    pub accept-21 : length p < entryPlace (countOf p) → _≡_ {A = Accepted} (record { number = 21; count = 0 }) (accepted p)
+    pub accept-27 : (ruleIn p ≡ ruleNumber rule → ⊥) → _≡_ {A = Accepted} (record { number = 27; count = 0 }) (accepted rule p)
     unfolding accepted acceptRefusal
-    accept-21 b = simp (a, lt-leb _ _ b)
+    accept-27 n = simp (a, ne-eqb _ _ n)
 
-    module _ (b : entryPlace (countOf p) ≤ length p) where
-      pub accept-22 : question22 p .yes ≡ false → _≡_ {A = Accepted} (record { number = 22; count = 0 }) (accepted p)
+    module _ (own : ruleIn p ≡ ruleNumber rule) where
+      pub accept-21 : length p < entryPlace (countOf p) → _≡_ {A = Accepted} (record { number = 21; count = 0 }) (accepted rule p)
       unfolding accepted acceptRefusal
-      accept-22 d = simp (a, le-leb _ _ b, d)
+      accept-21 b = simp (a, eq-eqb _ _ own, lt-leb _ _ b)
 
-      pub accept-0 : question22 p .yes ≡ true → _≡_ {A = Accepted} (record { number = 0; count = countOf p }) (accepted p)
-      unfolding accepted acceptRefusal
-      accept-0 d = simp (a, le-leb _ _ b, d)
+      module _ (b : entryPlace (countOf p) ≤ length p) where
+        pub accept-22 : question22 p .yes ≡ false → _≡_ {A = Accepted} (record { number = 22; count = 0 }) (accepted rule p)
+        unfolding accepted acceptRefusal
+        accept-22 d = simp (a, eq-eqb _ _ own, le-leb _ _ b, d)
+
+        pub accept-0 : question22 p .yes ≡ true → _≡_ {A = Accepted} (record { number = 0; count = countOf p }) (accepted rule p)
+        unfolding accepted acceptRefusal
+        accept-0 d = simp (a, eq-eqb _ _ own, le-leb _ _ b, d)
 
 -- ---- the answer of a taking
 
@@ -112,35 +120,43 @@ module _ (p : List ℕ) (a : Accepted) (i : ℕ) where
 
 -- ---- what is claimed
 
--- a packet that questions 20 to 22 let pass
-record Whole (p : List ℕ) : Type 0 where
+-- a packet that questions 20 to 22 and 27 let pass
+record Whole (rule : Rule) (p : List ℕ) : Type 0 where
   passed20 : question20 p .yes ≡ true
+  passed27 : ruleIn p ≡ ruleNumber rule
   passed21 : entryPlace (countOf p) ≤ length p
   passed22 : question22 p .yes ≡ true
 
 -- a packet is refused, by the same number at every fetch, or it is whole
-data Verdict (p : List ℕ) : Type 0 where
-  refused : (k : ℕ) → _≡_ {A = Accepted} (record { number = suc k; count = 0 }) (accepted p) → ((i : ℕ) → fetch.Refused (suc k) ≡ fetched p i) → Verdict p
-  whole : Whole p → Verdict p
+data Verdict (rule : Rule) (p : List ℕ) : Type 0 where
+  refused : (k : ℕ) → _≡_ {A = Accepted} (record { number = suc k; count = 0 }) (accepted rule p) → ((i : ℕ) → fetch.Refused (suc k) ≡ fetched rule p i) → Verdict rule p
+  whole : Whole rule p → Verdict rule p
 
-verdict : (p : List ℕ) → Verdict p
-verdict p = asked (question20 p .yes) (question21 p .yes) (question22 p .yes) refl refl refl
+verdict : (rule : Rule) (p : List ℕ) → Verdict rule p
+verdict rule p = asked (question20 p .yes) (question27 rule p .yes) (question21 p .yes) (question22 p .yes) refl refl refl refl
   where
-    asked : (a b c : Bool) → question20 p .yes ≡ a → question21 p .yes ≡ b → question22 p .yes ≡ c → Verdict p
-    asked false b c ea eb ec = refused 19 (accept-20 p ea) (λ i. fetch-20 p i ea)
-    asked true false c ea eb ec = let l = leb-false _ _ eb in refused 20 (accept-21 p ea l) (λ i. fetch-21 p i ea l)
-    asked true true false ea eb ec = let l = leb-true _ _ eb in refused 21 (accept-22 p ea l ec) (λ i. fetch-22 p i ea l ec)
-    asked true true true ea eb ec = whole (record { passed20 = ea; passed21 = leb-true _ _ eb; passed22 = ec })
+    asked : (a r b c : Bool) → question20 p .yes ≡ a → question27 rule p .yes ≡ r → question21 p .yes ≡ b → question22 p .yes ≡ c → Verdict rule p
+    asked false r b c ea er eb ec = refused 19 (accept-20 rule p ea) (λ i. fetch-20 rule p i ea)
+    asked true false b c ea er eb ec = let n = eqb-false _ _ er in refused 26 (accept-27 rule p ea n) (λ i. fetch-27 rule p i ea n)
+    asked true true false c ea er eb ec =
+        let own = eqb-true _ _ er in
+        let l = leb-false _ _ eb in
+        refused 20 (accept-21 rule p ea own l) (λ i. fetch-21 rule p i ea own l)
+    asked true true true false ea er eb ec =
+        let own = eqb-true _ _ er in
+        let l = leb-true _ _ eb in
+        refused 21 (accept-22 rule p ea own l ec) (λ i. fetch-22 rule p i ea own l ec)
+    asked true true true true ea er eb ec = whole (record { passed20 = ea; passed27 = eqb-true _ _ er; passed21 = leb-true _ _ eb; passed22 = ec })
 
-module _ (p : List ℕ) (i : ℕ) where
-  refused-taken : (k : ℕ) → _≡_ {A = Accepted} (record { number = suc k; count = 0 }) (accepted p) → taken p (accepted p) i ≡ Refused (suc k)
+module _ (rule : Rule) (p : List ℕ) (i : ℕ) where
+  refused-taken : (k : ℕ) → _≡_ {A = Accepted} (record { number = suc k; count = 0 }) (accepted rule p) → taken p (accepted rule p) i ≡ Refused (suc k)
   refused-taken k e = ap (λ (a : Accepted). taken p a i) (sym e) ∙ sym (take-refused p (record { number = suc k; count = 0 }) i (omega arith) (λ z. omega arith))
 
-  module _ (w : Whole p) where
-    facts : _≡_ {A = Accepted} (record { number = 0; count = countOf p }) (accepted p)
-    facts = accept-0 p (w .passed20) (w .passed21) (w .passed22)
+  module _ (w : Whole rule p) where
+    facts : _≡_ {A = Accepted} (record { number = 0; count = countOf p }) (accepted rule p)
+    facts = accept-0 rule p (w .passed20) (w .passed27) (w .passed21) (w .passed22)
 
-    beyond-taken : countOf p ≤ i → taken p (accepted p) i ≡ Refused 23
+    beyond-taken : countOf p ≤ i → taken p (accepted rule p) i ≡ Refused 23
     beyond-taken l = ap (λ (a : Accepted). taken p a i) (sym facts) ∙ sym (take-23 p (record { number = 0; count = countOf p }) i l refl)
 
     module _ (l : i < countOf p) where
@@ -151,16 +167,16 @@ module _ (p : List ℕ) (i : ℕ) where
       part : fieldsOf (drop (entryPlace i) p) ≡ fieldsOf (take (length p - entryPlace i) (drop (entryPlace i) p))
       part = ap fieldsOf (sym (part-to-end p (entryPlace i)))
 
-      found-taken : taken p (accepted p) i ≡ Entry (fieldsOf (drop (entryPlace i) p))
+      found-taken : taken p (accepted rule p) i ≡ Entry (fieldsOf (drop (entryPlace i) p))
       found-taken =
           ap (λ (a : Accepted). taken p a i) (sym facts)
           ∙ sym (take-0 p (record { number = 0; count = countOf p }) i l (omega (arith, w .passed21)) (fieldsOf (drop (entryPlace i) p)) part (known .1))
 
-      found-fetched : fetched p i ≡ fetchedOf (Entry (fieldsOf (drop (entryPlace i) p)))
-      found-fetched = sym (fetch-0 p i (w .passed20) (w .passed21) (w .passed22) l (fieldsOf (drop (entryPlace i) p)) part)
+      found-fetched : fetched rule p i ≡ fetchedOf (Entry (fieldsOf (drop (entryPlace i) p)))
+      found-fetched = sym (fetch-0 rule p i (w .passed20) (w .passed27) (w .passed21) (w .passed22) l (fieldsOf (drop (entryPlace i) p)) part)
 
-  beyond-fetched : Whole p → countOf p ≤ i → fetched p i ≡ fetch.Refused 23
-  beyond-fetched w l = sym (fetch-23 p i (w .passed20) (w .passed21) (w .passed22) l)
+  beyond-fetched : Whole rule p → countOf p ≤ i → fetched rule p i ≡ fetch.Refused 23
+  beyond-fetched w l = sym (fetch-23 rule p i (w .passed20) (w .passed27) (w .passed21) (w .passed22) l)
 
 -- a number below another, or not
 pub split : (i n : ℕ) → (i < n) ⊎ (n ≤ i)
@@ -185,26 +201,26 @@ number : {n c : ℕ} {a : Accepted} → _≡_ {A = Accepted} (record { number = 
 number e = ap (λ (a : Accepted). a .number) e
 
 pub taken-is-fetched : TakenIsFetched
-taken-is-fetched p i = by (verdict p)
+taken-is-fetched rule p i = by (verdict rule p)
   where
-    by : Verdict p → fetchedOf (taken p (accepted p) i) ≡ fetched p i
-    by (refused k e h) = ap fetchedOf (refused-taken p i k e) ∙ h i
+    by : Verdict rule p → fetchedOf (taken p (accepted rule p) i) ≡ fetched rule p i
+    by (refused k e h) = ap fetchedOf (refused-taken rule p i k e) ∙ h i
     by (whole w) =
-        ⊎-elim (λ l. ap fetchedOf (found-taken p i w l) ∙ sym (found-fetched p i w l)) (λ l. ap fetchedOf (beyond-taken p i w l) ∙ sym (beyond-fetched p i w l))
+        ⊎-elim (λ l. ap fetchedOf (found-taken rule p i w l) ∙ sym (found-fetched rule p i w l)) (λ l. ap fetchedOf (beyond-taken rule p i w l) ∙ sym (beyond-fetched rule p i w l))
         (split i (countOf p))
 
 pub taken-is-good : TakenIsGood
-taken-is-good p i f t = by (verdict p)
+taken-is-good rule p i f t = by (verdict rule p)
   where
-    by : Verdict p → good f ≡ true
-    by (refused k e h) = absurd (no-entry (sym (refused-taken p i k e) ∙ t))
+    by : Verdict rule p → good f ≡ true
+    by (refused k e h) = absurd (no-entry (sym (refused-taken rule p i k e) ∙ t))
     by (whole w) =
-        ⊎-elim (λ l. ap good (same-entry (sym t ∙ found-taken p i w l)) ∙ known p i w l .0) (λ l. absurd (no-entry (sym (beyond-taken p i w l) ∙ t))) (split i (countOf p))
+        ⊎-elim (λ l. ap good (same-entry (sym t ∙ found-taken rule p i w l)) ∙ known rule p i w l .0) (λ l. absurd (no-entry (sym (beyond-taken rule p i w l) ∙ t))) (split i (countOf p))
 
 pub accepted-tells : AcceptedTells
-accepted-tells p = by (verdict p)
+accepted-tells rule p = by (verdict rule p)
   where
-    by : Verdict p → Tells p (accepted p)
+    by : Verdict rule p → Tells rule p (accepted rule p)
     by (refused k e h) =
         record {
           refused = λ j i n. sym (h i) ∙ ap fetch.Refused (number e ∙ n);
@@ -213,10 +229,49 @@ accepted-tells p = by (verdict p)
         }
     by (whole w) =
         record {
-          refused = λ j i n. absurd (omega (arith, number (facts p 0 w) ∙ n));
-          found = λ i z l. (fieldsOf (drop (entryPlace i) p), found-fetched p i w (rw (sym (facts p 0 w)) at l));
-          beyond = λ i z l. beyond-fetched p i w (rw (sym (facts p 0 w)) at l);
+          refused = λ j i n. absurd (omega (arith, number (facts rule p 0 w) ∙ n));
+          found = λ i z l. (fieldsOf (drop (entryPlace i) p), found-fetched rule p i w (rw (sym (facts rule p 0 w)) at l));
+          beyond = λ i z l. beyond-fetched rule p i w (rw (sym (facts rule p 0 w)) at l);
         }
+
+-- ---- a packet of the other rule
+
+-- the rules have different numbers
+pub one-number : (rule other : Rule) → ruleNumber rule ≡ ruleNumber other → rule ≡ other
+one-number Higher Higher e = refl
+one-number Higher Lower e = absurd (omega arith)
+one-number Lower Higher e = absurd (omega arith)
+one-number Lower Lower e = refl
+
+pub other-rule-refused : OtherRuleRefused
+other-rule-refused rule other p different a own = record {
+  fetching = fetching;
+  fetchedBody = λ i. ap (bodyOf p) (fetching i);
+  accepting = sym facts;
+  taking = taking;
+  takenBody = λ i. ap (λ (t : Taken). bodyOf p (fetchedOf t)) (taking i);
+}
+  where
+    foreign : ruleIn p ≡ ruleNumber other → ⊥
+    foreign e = different (one-number rule other (sym (eqb-true _ _ own) ∙ e))
+
+    facts : _≡_ {A = Accepted} (record { number = 27; count = 0 }) (accepted other p)
+    facts = accept-27 other p a foreign
+
+    fetching : (i : ℕ) → fetched other p i ≡ fetch.Refused 27
+    fetching i = sym (fetch-27 other p i a foreign)
+
+    taking : (i : ℕ) → taken p (accepted other p) i ≡ Refused 27
+    taking i = refused-taken other p i 26 facts
+
+pub accepted-by-one : AcceptedByOne
+accepted-by-one rule other p different z = by (verdict rule p)
+  where
+    by : Verdict rule p → Refuses other p 27
+    by (refused k e h) = absurd (omega (arith, number e ∙ z))
+    by (whole w) = other-rule-refused rule other p different (w .passed20) (eq-eqb _ _ (w .passed27))
+
+-- ---- whatever the facts
 
 -- the questions of a taking that all said yes
 all-yes : (a b c : Bool) (k : ℕ) → 0 < k → _≡_ {A = ℕ} (cond a (cond b (cond c 0 22) 21) k) 0 → (b ≡ true) × (c ≡ true)

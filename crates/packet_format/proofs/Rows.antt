@@ -41,19 +41,20 @@ fetchedCode : Coded Fetched
 fetchedCode = record { numbers = fetchedNumbers; back = fetchedBack; had = fetched-had }
 
 test : Row → Bool
-test (packs e body p) = sameList (packetBytes 1 (e ∷ []) body) p && same fetchedCode (fetched p 0) (Found e (entryPlace 1))
-test (fetches p i k) = eqb (fetchedNumber (fetched p i)) k
-test (accepts p k count) = eqb (accepted p .number) k && eqb (accepted p .count) count
+test (packs rule e body p) = sameList (packetBytes rule (e ∷ []) body) p && same fetchedCode (fetched rule p 0) (Found e (entryPlace 1))
+test (fetches rule p i k) = eqb (fetchedNumber (fetched rule p i)) k
+test (accepts rule p k count) = eqb (accepted rule p .number) k && eqb (accepted rule p .count) count
 test (takes p number count i k) = eqb (takenNumber (taken p (record { number = number; count = count }) i)) k
 test (writes es bodies room k) = eqb (writtenNumber (packetWritten es bodies room)) k
 
 holds : (r : Row) → test r ≡ true → Holds r
 unfolding test
-holds (packs m body p) e =
-    let (s, t) = both (sameList (packetBytes 1 (m ∷ []) body) p) (same fetchedCode (fetched p 0) (Found m (entryPlace 1))) e in
-    (list-sound (packetBytes 1 (m ∷ []) body) p s, same-sound fetchedCode (fetched p 0) (Found m (entryPlace 1)) t)
-holds (fetches p i k) e = eqb-true _ k e
-holds (accepts p k count) e = let (s, t) = both (eqb (accepted p .number) k) (eqb (accepted p .count) count) e in (eqb-true _ k s, eqb-true _ count t)
+holds (packs rule m body p) e =
+    let (s, t) = both (sameList (packetBytes rule (m ∷ []) body) p) (same fetchedCode (fetched rule p 0) (Found m (entryPlace 1))) e in
+    (list-sound (packetBytes rule (m ∷ []) body) p s, same-sound fetchedCode (fetched rule p 0) (Found m (entryPlace 1)) t)
+holds (fetches rule p i k) e = eqb-true _ k e
+holds (accepts rule p k count) e =
+    let (s, t) = both (eqb (accepted rule p .number) k) (eqb (accepted rule p .count) count) e in (eqb-true _ k s, eqb-true _ count t)
 holds (takes p number count i k) e = eqb-true _ k e
 holds (writes es bodies room k) e = eqb-true _ k e
 

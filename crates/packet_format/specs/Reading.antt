@@ -1,9 +1,11 @@
--- Reading: questions 20 to 23, the message fetched and its body (01, "Reading fetches message i").
+-- Reading: questions 20 to 23 and 27, the message fetched and its body (01, "Reading fetches message i"; 02, Wish 6).
 use Prim.Native.Nat.{ℕ, zero, suc, _+_, _*_}
-use mathlib.Core.Bool.{Bool, _&&_}
+use mathlib.Core.Bool.{Bool, _&&_, _||_}
 use mathlib.Core.List.{List, [], _∷_}
 use lib.Dec.{ltb, leb, eqb}
 use lib.ListN.{length, take, drop, getD}
+use Rattle.hermes_record.specs.declared.timestamp.Rule.{Rule}
+use Rattle.hermes_record.specs.Order.{ruleNumber}
 use Rattle.hermes.specs.Guards.{Question, ask, firstNo}
 use Rattle.packet_format.specs.declared.entry.Entry.{Entry}
 use Rattle.packet_format.specs.declared.entry.Fields.{Fields}
@@ -11,6 +13,10 @@ use Rattle.packet_format.specs.declared.answer.Fetched.{Fetched}
 use Rattle.packet_format.specs.declared.answer.Fetched.the-variants.{Found, Refused}
 use Rattle.packet_format.specs.Bytes.{num, window}
 use Rattle.packet_format.specs.Entry.{fieldsOf, entryOf, entriesOf, good}
+
+-- byte 0: the rule of ties of the group that wrote the packet, by its number (02, Wish 6)
+abbrev pub ruleIn : List ℕ → ℕ
+ruleIn p = getD p 0 0
 
 -- 01, "byte 1 the count of messages"
 abbrev pub countOf : List ℕ → ℕ
@@ -27,10 +33,14 @@ packetMessages p = entriesOf (countOf p) (drop 4 p)
 abbrev pub bodiesIn : List ℕ → List ℕ
 bodiesIn p = drop (entryPlace (countOf p)) p
 
--- 20: at least 4 bytes, byte 0 is 1, count 1 to 64, total equal to the bytes lent and at most 1,400?
+-- 20: at least 4 bytes, byte 0 is 1 or 2 (02, Wish 6), count 1 to 64, total equal to the bytes lent and at most 1,400?
 abbrev pub question20 : List ℕ → Question
 question20 p =
-    ask 20 (leb 4 (length p) && eqb (getD p 0 0) 1 && leb 1 (countOf p) && leb (countOf p) 64 && eqb (num (window p 2 2)) (length p) && leb (length p) 1400)
+    ask 20 (leb 4 (length p) && (eqb (ruleIn p) 1 || eqb (ruleIn p) 2) && leb 1 (countOf p) && leb (countOf p) 64 && eqb (num (window p 2 2)) (length p) && leb (length p) 1400)
+
+-- 02, Wish 6: "27 when byte 0 names the rule that the group does not have, just after 20"
+abbrev pub question27 : Rule → List ℕ → Question
+question27 rule p = ask 27 (eqb (ruleIn p) (ruleNumber rule))
 
 -- 21: contents table whole?
 abbrev pub question21 : List ℕ → Question
@@ -50,18 +60,18 @@ question22 p = ask 22 (walk (countOf p) (drop 4 p) (entryPlace (countOf p)) (len
 abbrev pub question23 : List ℕ → ℕ → Question
 question23 p i = ask 23 (ltb i (countOf p))
 
--- the number that a fetch answers
-unfoldable pub fetchRefusal : List ℕ → ℕ → ℕ
-fetchRefusal p i = firstNo (question20 p ∷ question21 p ∷ question22 p ∷ question23 p i ∷ [])
+-- the number that a fetch answers in a group of this rule
+unfoldable pub fetchRefusal : Rule → List ℕ → ℕ → ℕ
+fetchRefusal rule p i = firstNo (question20 p ∷ question27 rule p ∷ question21 p ∷ question22 p ∷ question23 p i ∷ [])
 
 -- each case of an answer, by its number: 0 with the message and where its body begins, or the number of the question that said no
 abbrev pub fetchedAs : ℕ → Fields → Fetched
 fetchedAs zero f = Found (entryOf f) (f .offset)
 fetchedAs (suc k) f = Refused (suc k)
 
--- message i of the packet p
-unfoldable pub fetched : List ℕ → ℕ → Fetched
-fetched p i = fetchedAs (fetchRefusal p i) (fieldsOf (drop (entryPlace i) p))
+-- message i of the packet p, in a group of this rule
+unfoldable pub fetched : Rule → List ℕ → ℕ → Fetched
+fetched rule p i = fetchedAs (fetchRefusal rule p i) (fieldsOf (drop (entryPlace i) p))
 
 -- the number of an answer
 abbrev pub fetchedNumber : Fetched → ℕ

@@ -1,9 +1,11 @@
 -- The rows about packets: document 01's own, "From the ringing table"; and the number that each of questions 20 to 25 answers, with both sides
--- of every limit in it and the order in which they are asked; Wish 4's, of a packet accepted and its messages taken.
+-- of every limit in it and the order in which they are asked; Wish 4's, of a packet accepted and its messages taken; Wish 6's, of both rules.
 use Prim.Native.Nat.{ℕ, zero, suc, _+_, _/_, _%_}
 use mathlib.Core.Path.{_≡_}
 use mathlib.Core.List.{List, [], _∷_, _++_}
 use lib.ListN.{replicate}
+use Rattle.hermes_record.specs.declared.timestamp.Rule.{Rule}
+use Rattle.hermes_record.specs.declared.timestamp.Rule.the-variants.{Higher, Lower}
 use Rattle.hermes.specs.declared.message.Message.{Message}
 use Rattle.hermes.specs.declared.message.Message.the-variants.{Inv, Ack, Val}
 use Rattle.packet_format.specs.declared.entry.Entry.{Entry}
@@ -13,12 +15,12 @@ use Rattle.packet_format.specs.Accepting.{accepted, taken, takenNumber}
 use Rattle.packet_format.specs.Writing.{packetBytes, packetWritten, writtenNumber}
 
 pub data Row : Type 0 where
-  -- a message, its body, and the bytes of its packet
-  packs : Entry → List ℕ → List ℕ → Row
-  -- message i of a packet is fetched; the number answered
-  fetches : List ℕ → ℕ → ℕ → Row
-  -- a packet is looked at as a whole; the number answered and the count
-  accepts : List ℕ → ℕ → ℕ → Row
+  -- the group's rule, a message, its body, and the bytes of its packet
+  packs : Rule → Entry → List ℕ → List ℕ → Row
+  -- in a group of this rule message i of a packet is fetched; the number answered
+  fetches : Rule → List ℕ → ℕ → ℕ → Row
+  -- in a group of this rule a packet is looked at as a whole; the number answered and the count
+  accepts : Rule → List ℕ → ℕ → ℕ → Row
   -- message i of a packet is taken by the facts of this number and count; the number answered
   takes : List ℕ → ℕ → ℕ → ℕ → ℕ → Row
   -- these messages are written, with these bodies, into so many bytes of output; the number answered
@@ -26,9 +28,9 @@ pub data Row : Type 0 where
 
 -- what a row says
 abbrev pub Holds : Row → Type 0
-Holds (packs e body p) = (packetBytes 1 (e ∷ []) body ≡ p) × (fetched p 0 ≡ Found e (entryPlace 1))
-Holds (fetches p i k) = fetchedNumber (fetched p i) ≡ k
-Holds (accepts p k count) = (accepted p .number ≡ k) × (accepted p .count ≡ count)
+Holds (packs rule e body p) = (packetBytes rule (e ∷ []) body ≡ p) × (fetched rule p 0 ≡ Found e (entryPlace 1))
+Holds (fetches rule p i k) = fetchedNumber (fetched rule p i) ≡ k
+Holds (accepts rule p k count) = (accepted rule p .number ≡ k) × (accepted rule p .count ≡ count)
 Holds (takes p number count i k) = takenNumber (taken p (record { number = number; count = count }) i) ≡ k
 Holds (writes es bodies room k) = writtenNumber (packetWritten es bodies room) ≡ k
 
@@ -51,9 +53,13 @@ val tie = Val (record { version = 1; tie = tie })
 abbrev body : ℕ → List ℕ
 body n = replicate n 65
 
--- a packet that claims this count and this total
+-- a packet with this byte 0 that claims this count and this total
+abbrev begun : ℕ → ℕ → ℕ → List ℕ → List ℕ
+begun first count total rest = first ∷ count ∷ total / 256 ∷ total % 256 ∷ rest
+
+-- one of a group of document 01's rule
 abbrev packet : ℕ → ℕ → List ℕ → List ℕ
-packet count total rest = 1 ∷ count ∷ total / 256 ∷ total % 256 ∷ rest
+packet count total rest = begun 1 count total rest
 
 -- an entry of 16 bytes: kind, sender, record, tie-breaker, offset and length; its epoch is 0 and its version 1
 abbrev entry : ℕ → ℕ → ℕ → ℕ → ℕ → ℕ → List ℕ → List ℕ
@@ -88,77 +94,96 @@ pair kind offset len = packet 2 41 (entry 1 5 7 2 36 3 (entry kind 5 7 2 offset 
 unfoldable pub rows : List Row
 rows =
     -- ACK of (1,2) for record 7 from 5 at epoch 0 is packet 1,1,0,20,2,5,0,0,0,0,0,7,0,0,0,1,2,0,20,0
-    packs (record { header = record { sender = 5; epoch = 0; index = 7 }; message = Ack (record { version = 1; tie = 2 }); len = 0 }) []
+    packs Higher (record { header = record { sender = 5; epoch = 0; index = 7 }; message = Ack (record { version = 1; tie = 2 }); len = 0 }) []
     (1 ∷ 1 ∷ 0 ∷ 20 ∷ 2 ∷ 5 ∷ 0 ∷ 0 ∷ 0 ∷ 0 ∷ 0 ∷ 7 ∷ 0 ∷ 0 ∷ 0 ∷ 1 ∷ 2 ∷ 0 ∷ 20 ∷ 0 ∷ [])
     -- no rows of the paper: INV and VAL, every byte of a number another
-    ∷ packs (record { header = record { sender = 15; epoch = 168496141; index = 258 }; message = Inv (record { version = 16909060; tie = 14 }); len = 3 }) (97 ∷ 98 ∷ 99 ∷ [])
+    ∷ packs Higher (record { header = record { sender = 15; epoch = 168496141; index = 258 }; message = Inv (record { version = 16909060; tie = 14 }); len = 3 }) (97 ∷ 98 ∷ 99 ∷ [])
     (1 ∷ 1 ∷ 0 ∷ 23 ∷ 1 ∷ 15 ∷ 10 ∷ 11 ∷ 12 ∷ 13 ∷ 1 ∷ 2 ∷ 1 ∷ 2 ∷ 3 ∷ 4 ∷ 14 ∷ 0 ∷ 20 ∷ 3 ∷ 97 ∷ 98 ∷ 99 ∷ [])
-    ∷ packs (record { header = record { sender = 5; epoch = 168496141; index = 258 }; message = Val (record { version = 16909060; tie = 2 }); len = 0 }) []
+    ∷ packs Higher (record { header = record { sender = 5; epoch = 168496141; index = 258 }; message = Val (record { version = 16909060; tie = 2 }); len = 0 }) []
     (1 ∷ 1 ∷ 0 ∷ 20 ∷ 3 ∷ 5 ∷ 10 ∷ 11 ∷ 12 ∷ 13 ∷ 1 ∷ 2 ∷ 1 ∷ 2 ∷ 3 ∷ 4 ∷ 2 ∷ 0 ∷ 20 ∷ 0 ∷ [])
-    -- 20: at least 4 bytes, byte 0 is 1, count 1 to 64, total equal to the bytes lent and at most 1,400?
-    ∷ fetches [] 0 20
-    ∷ fetches (1 ∷ 1 ∷ 0 ∷ []) 0 20
-    ∷ fetches (1 ∷ 1 ∷ 0 ∷ 4 ∷ []) 0 21
-    ∷ fetches (0 ∷ 1 ∷ 0 ∷ 20 ∷ acks 1 20) 0 20
-    ∷ fetches (1 ∷ 1 ∷ 0 ∷ 20 ∷ acks 1 20) 0 0
-    ∷ fetches (2 ∷ 1 ∷ 0 ∷ 20 ∷ acks 1 20) 0 20
-    ∷ fetches (packet 0 4 []) 0 20
-    ∷ fetches (packet 64 1028 (acks 64 1028)) 0 0
-    ∷ fetches (packet 65 1044 (acks 65 1044)) 0 20
-    ∷ fetches (packet 1 19 (acks 1 20)) 0 20
-    ∷ fetches (packet 1 21 (acks 1 20)) 0 20
-    ∷ fetches (seven 132) 0 0
-    ∷ fetches (seven 133) 0 20
+    -- 02, Wish 6: the paper's own ACK, and the INV, of a group of the new rule
+    ∷ packs Lower (record { header = record { sender = 5; epoch = 0; index = 7 }; message = Ack (record { version = 1; tie = 2 }); len = 0 }) []
+    (2 ∷ 1 ∷ 0 ∷ 20 ∷ 2 ∷ 5 ∷ 0 ∷ 0 ∷ 0 ∷ 0 ∷ 0 ∷ 7 ∷ 0 ∷ 0 ∷ 0 ∷ 1 ∷ 2 ∷ 0 ∷ 20 ∷ 0 ∷ [])
+    ∷ packs Lower (record { header = record { sender = 15; epoch = 168496141; index = 258 }; message = Inv (record { version = 16909060; tie = 14 }); len = 3 }) (97 ∷ 98 ∷ 99 ∷ [])
+    (2 ∷ 1 ∷ 0 ∷ 23 ∷ 1 ∷ 15 ∷ 10 ∷ 11 ∷ 12 ∷ 13 ∷ 1 ∷ 2 ∷ 1 ∷ 2 ∷ 3 ∷ 4 ∷ 14 ∷ 0 ∷ 20 ∷ 3 ∷ 97 ∷ 98 ∷ 99 ∷ [])
+    -- 20: at least 4 bytes, byte 0 is 1 or 2, count 1 to 64, total equal to the bytes lent and at most 1,400?
+    ∷ fetches Higher [] 0 20
+    ∷ fetches Higher (1 ∷ 1 ∷ 0 ∷ []) 0 20
+    ∷ fetches Higher (1 ∷ 1 ∷ 0 ∷ 4 ∷ []) 0 21
+    ∷ fetches Higher (begun 0 1 20 (acks 1 20)) 0 20
+    ∷ fetches Higher (begun 3 1 20 (acks 1 20)) 0 20
+    ∷ fetches Higher (begun 255 1 20 (acks 1 20)) 0 20
+    ∷ fetches Lower (begun 0 1 20 (acks 1 20)) 0 20
+    ∷ fetches Lower (begun 3 1 20 (acks 1 20)) 0 20
+    ∷ fetches Lower (begun 255 1 20 (acks 1 20)) 0 20
+    ∷ fetches Higher (packet 0 4 []) 0 20
+    ∷ fetches Higher (packet 64 1028 (acks 64 1028)) 0 0
+    ∷ fetches Higher (packet 65 1044 (acks 65 1044)) 0 20
+    ∷ fetches Higher (packet 1 19 (acks 1 20)) 0 20
+    ∷ fetches Higher (packet 1 21 (acks 1 20)) 0 20
+    ∷ fetches Higher (seven 132) 0 0
+    ∷ fetches Higher (seven 133) 0 20
+    -- 02, Wish 6, 27: byte 0 names the group's rule?
+    ∷ fetches Higher (begun 1 1 20 (acks 1 20)) 0 0
+    ∷ fetches Higher (begun 2 1 20 (acks 1 20)) 0 27
+    ∷ fetches Lower (begun 1 1 20 (acks 1 20)) 0 27
+    ∷ fetches Lower (begun 2 1 20 (acks 1 20)) 0 0
     -- 21: contents table whole?
-    ∷ fetches (packet 2 36 (acks 2 36)) 0 0
-    ∷ fetches (packet 2 35 (acks 1 36 ++ (2 ∷ 5 ∷ 0 ∷ 0 ∷ 0 ∷ 0 ∷ 0 ∷ 7 ∷ 0 ∷ 0 ∷ 0 ∷ 1 ∷ 2 ∷ 0 ∷ 36 ∷ []))) 0 21
+    ∷ fetches Higher (packet 2 36 (acks 2 36)) 0 0
+    ∷ fetches Higher (packet 2 35 (acks 1 36 ++ (2 ∷ 5 ∷ 0 ∷ 0 ∷ 0 ∷ 0 ∷ 0 ∷ 7 ∷ 0 ∷ 0 ∷ 0 ∷ 1 ∷ 2 ∷ 0 ∷ 36 ∷ []))) 0 21
     -- 22: every entry good: kind known, ..
-    ∷ fetches (single 0 5 7 2 20 0 0) 0 22
-    ∷ fetches (single 1 5 7 2 20 0 0) 0 0
-    ∷ fetches (single 3 5 7 2 20 0 0) 0 0
-    ∷ fetches (single 4 5 7 2 20 0 0) 0 22
+    ∷ fetches Higher (single 0 5 7 2 20 0 0) 0 22
+    ∷ fetches Higher (single 1 5 7 2 20 0 0) 0 0
+    ∷ fetches Higher (single 3 5 7 2 20 0 0) 0 0
+    ∷ fetches Higher (single 4 5 7 2 20 0 0) 0 22
     -- .. sender and tie-breaker at most 15, record at most 4,095, ..
-    ∷ fetches (single 2 15 7 2 20 0 0) 0 0
-    ∷ fetches (single 2 16 7 2 20 0 0) 0 22
-    ∷ fetches (single 2 5 7 15 20 0 0) 0 0
-    ∷ fetches (single 2 5 7 16 20 0 0) 0 22
-    ∷ fetches (single 2 5 4095 2 20 0 0) 0 0
-    ∷ fetches (single 2 5 4096 2 20 0 0) 0 22
+    ∷ fetches Higher (single 2 15 7 2 20 0 0) 0 0
+    ∷ fetches Higher (single 2 16 7 2 20 0 0) 0 22
+    ∷ fetches Higher (single 2 5 7 15 20 0 0) 0 0
+    ∷ fetches Higher (single 2 5 7 16 20 0 0) 0 22
+    ∷ fetches Higher (single 2 5 4095 2 20 0 0) 0 0
+    ∷ fetches Higher (single 2 5 4096 2 20 0 0) 0 22
     -- .. length at most 192 and 0 unless INV, ..
-    ∷ fetches (single 1 5 7 2 20 192 192) 0 0
-    ∷ fetches (single 1 5 7 2 20 193 193) 0 22
-    ∷ fetches (single 1 5 7 2 20 1 1) 0 0
-    ∷ fetches (single 2 5 7 2 20 1 1) 0 22
-    ∷ fetches (single 3 5 7 2 20 1 1) 0 22
+    ∷ fetches Higher (single 1 5 7 2 20 192 192) 0 0
+    ∷ fetches Higher (single 1 5 7 2 20 193 193) 0 22
+    ∷ fetches Higher (single 1 5 7 2 20 1 1) 0 0
+    ∷ fetches Higher (single 2 5 7 2 20 1 1) 0 22
+    ∷ fetches Higher (single 3 5 7 2 20 1 1) 0 22
     -- .. offsets as ruled, last body ending at the total?
-    ∷ fetches (single 2 5 7 2 19 0 0) 0 22
-    ∷ fetches (single 2 5 7 2 21 0 0) 0 22
-    ∷ fetches (single 1 5 7 2 20 1 2) 0 22
-    ∷ fetches (single 1 5 7 2 20 2 1) 0 22
-    ∷ fetches (pair 1 39 2) 0 0
-    ∷ fetches (pair 1 39 2) 1 0
-    ∷ fetches (pair 1 38 2) 0 22
-    ∷ fetches (pair 1 40 2) 0 22
-    ∷ fetches (pair 1 39 1) 0 22
-    ∷ fetches (pair 1 39 3) 0 22
-    ∷ fetches (pair 4 39 2) 0 22
+    ∷ fetches Higher (single 2 5 7 2 19 0 0) 0 22
+    ∷ fetches Higher (single 2 5 7 2 21 0 0) 0 22
+    ∷ fetches Higher (single 1 5 7 2 20 1 2) 0 22
+    ∷ fetches Higher (single 1 5 7 2 20 2 1) 0 22
+    ∷ fetches Higher (pair 1 39 2) 0 0
+    ∷ fetches Higher (pair 1 39 2) 1 0
+    ∷ fetches Higher (pair 1 38 2) 0 22
+    ∷ fetches Higher (pair 1 40 2) 0 22
+    ∷ fetches Higher (pair 1 39 1) 0 22
+    ∷ fetches Higher (pair 1 39 3) 0 22
+    ∷ fetches Higher (pair 4 39 2) 0 22
     -- 23: i below the count?
-    ∷ fetches (packet 1 20 (acks 1 20)) 1 23
-    ∷ fetches (pair 1 39 2) 2 23
-    ∷ fetches (packet 64 1028 (acks 64 1028)) 63 0
-    ∷ fetches (packet 64 1028 (acks 64 1028)) 64 23
+    ∷ fetches Higher (packet 1 20 (acks 1 20)) 1 23
+    ∷ fetches Higher (pair 1 39 2) 2 23
+    ∷ fetches Higher (packet 64 1028 (acks 64 1028)) 63 0
+    ∷ fetches Higher (packet 64 1028 (acks 64 1028)) 64 23
     -- 02, Wish 4: a packet accepted, once for all of its messages; a refused one has none
-    ∷ accepts [] 20 0
-    ∷ accepts (packet 2 35 (acks 1 36 ++ (2 ∷ 5 ∷ 0 ∷ 0 ∷ 0 ∷ 0 ∷ 0 ∷ 7 ∷ 0 ∷ 0 ∷ 0 ∷ 1 ∷ 2 ∷ 0 ∷ 36 ∷ []))) 21 0
-    ∷ accepts (pair 4 39 2) 22 0
-    ∷ accepts (pair 1 39 1) 22 0
-    ∷ accepts (pair 1 39 2) 0 2
-    ∷ accepts (packet 64 1028 (acks 64 1028)) 0 64
+    ∷ accepts Higher [] 20 0
+    ∷ accepts Higher (packet 2 35 (acks 1 36 ++ (2 ∷ 5 ∷ 0 ∷ 0 ∷ 0 ∷ 0 ∷ 0 ∷ 7 ∷ 0 ∷ 0 ∷ 0 ∷ 1 ∷ 2 ∷ 0 ∷ 36 ∷ []))) 21 0
+    ∷ accepts Higher (pair 4 39 2) 22 0
+    ∷ accepts Higher (pair 1 39 1) 22 0
+    ∷ accepts Higher (pair 1 39 2) 0 2
+    ∷ accepts Higher (packet 64 1028 (acks 64 1028)) 0 64
+    ∷ accepts Higher (begun 0 1 20 (acks 1 20)) 20 0
+    ∷ accepts Higher (begun 2 1 20 (acks 1 20)) 27 0
+    ∷ accepts Lower (begun 1 1 20 (acks 1 20)) 27 0
+    ∷ accepts Lower (begun 2 1 20 (acks 1 20)) 0 1
+    ∷ accepts Lower (begun 3 1 20 (acks 1 20)) 20 0
     -- its messages taken; a refused packet's number stands for all of them
     ∷ takes (pair 1 39 2) 0 2 0 0
     ∷ takes (pair 1 39 2) 0 2 1 0
     ∷ takes (pair 1 39 2) 0 2 2 23
     ∷ takes (pair 4 39 2) 22 0 0 22
+    ∷ takes (begun 2 1 20 (acks 1 20)) 27 0 0 27
     -- by the facts of another: entry i within this packet, and its body; else the entry as it stands
     ∷ takes (pair 1 39 2) 20 0 0 20
     ∷ takes (packet 1 35 (entry 2 5 7 2 20 0 (body 15))) 0 2 1 21
@@ -196,8 +221,18 @@ rows =
     ∷ writes (sevenOf 132) (body 1284) 1399 25
     ∷ writes (message 5 7 (ack 2) 0 ∷ []) [] 19 25
     -- where two questions say no, the first of them answers
-    ∷ fetches (2 ∷ 1 ∷ 0 ∷ 4 ∷ []) 0 20
-    ∷ fetches (packet 2 20 (entry 4 5 7 2 20 0 [])) 0 21
-    ∷ fetches (single 4 5 7 2 20 0 0) 1 22
+    ∷ fetches Higher (begun 0 1 4 []) 0 20
+    ∷ fetches Higher (begun 2 0 4 []) 0 20
+    ∷ fetches Higher (begun 2 1 19 (acks 1 20)) 0 20
+    ∷ fetches Lower (begun 1 65 1044 (acks 65 1044)) 0 20
+    ∷ fetches Higher (begun 2 1 4 []) 0 27
+    ∷ fetches Lower (begun 1 1 20 (entry 4 5 7 2 20 0 [])) 0 27
+    ∷ fetches Higher (begun 2 1 20 (acks 1 20)) 1 27
+    ∷ fetches Higher (packet 2 20 (entry 4 5 7 2 20 0 [])) 0 21
+    ∷ fetches Higher (single 4 5 7 2 20 0 0) 1 22
+    ∷ accepts Higher (begun 2 1 19 (acks 1 20)) 20 0
+    ∷ accepts Lower (begun 1 1 4 []) 27 0
+    ∷ accepts Higher (begun 2 1 20 (entry 4 5 7 2 20 0 [])) 27 0
+    ∷ accepts Higher (packet 2 20 (entry 4 5 7 2 20 0 [])) 21 0
     ∷ writes [] [] 0 24
     ∷ []

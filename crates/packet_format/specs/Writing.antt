@@ -4,6 +4,8 @@ use mathlib.Core.Bool.{Bool, true, _&&_}
 use mathlib.Core.List.{List, [], _∷_, _++_}
 use lib.Dec.{leb, eqb}
 use lib.ListN.{length, drop}
+use Rattle.hermes_record.specs.declared.timestamp.Rule.{Rule}
+use Rattle.hermes_record.specs.Order.{ruleNumber}
 use Rattle.hermes.specs.Guards.{Question, ask, firstNo}
 use Rattle.packet_format.specs.declared.entry.Entry.{Entry}
 use Rattle.packet_format.specs.declared.answer.Written.{Written}
@@ -26,10 +28,10 @@ contents at (e ∷ es) = entryBytes (fieldsFor e at) ++ contents (at + e .len) e
 abbrev pub totalOf : ℕ → List ℕ → ℕ
 totalOf count bodies = entryPlace count + length bodies
 
--- 01, "contents first": byte 0, the count, the total, the contents table, the bodies
-unfoldable pub packetBytes : ℕ → List Entry → List ℕ → List ℕ
+-- 01, "contents first": byte 0, the count, the total, the contents table, the bodies. Byte 0 is the number of the group's rule (02, Wish 6)
+unfoldable pub packetBytes : Rule → List Entry → List ℕ → List ℕ
 packetBytes rule es bodies =
-    rule ∷ length es ∷ be 2 (totalOf (length es) bodies) ++ contents (entryPlace (length es)) es ++ bodies
+    ruleNumber rule ∷ length es ∷ be 2 (totalOf (length es) bodies) ++ contents (entryPlace (length es)) es ++ bodies
 
 -- fields as in 22, of every message; an offset is none of them
 unfoldable pub allGood : List Entry → Bool
@@ -61,7 +63,7 @@ abbrev pub writtenNumber : Written → ℕ
 writtenNumber (answer.Total n) = 0
 writtenNumber (answer.Refused k) = k
 
--- 01, "Byte 0 is 1"; "Output past the total is untouched"; a "no" leaves every lent byte as found
-unfoldable pub outputOf : Written → List Entry → List ℕ → List ℕ → List ℕ
-outputOf (answer.Total n) es bodies out = packetBytes 1 es bodies ++ drop n out
-outputOf (answer.Refused k) es bodies out = out
+-- the output after a write of a group of this rule: 01, "Output past the total is untouched"; a "no" leaves every lent byte as found
+unfoldable pub outputOf : Rule → Written → List Entry → List ℕ → List ℕ → List ℕ
+outputOf rule (answer.Total n) es bodies out = packetBytes rule es bodies ++ drop n out
+outputOf rule (answer.Refused k) es bodies out = out

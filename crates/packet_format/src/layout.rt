@@ -1,8 +1,5 @@
 // The sizes of a packet.
 
-// Byte 0: the rule that the packet is laid out by.
-pub const RULE: u8 = 1;
-
 // The bytes before the contents table.
 pub const HEADER_BYTES: usize = 4;
 

@@ -16,5 +16,4 @@ pub use fields::fields_for;
 pub use layout::COUNT_MAX;
 pub use layout::ENTRY_BYTES;
 pub use layout::HEADER_BYTES;
-pub use layout::RULE;
 pub use layout::TOTAL_MAX;

@@ -6,18 +6,25 @@ use crate::entry::fields_of;
 use crate::reader::header_good;
 use crate::reader::part;
 use crate::walk::table_good;
+use hermes::Rule;
 use packet_format::Accepted;
 use packet_format::ENTRY_BYTES;
 use packet_format::HEADER_BYTES;
 use packet_format::Taken;
 
-// The facts of a packet: questions 20 to 22, once for all of its messages.
-pub fn accept(packet: &[u8]) -> Accepted
-    ensures { λ r. ⌜ r ≡ accepted (now (packet .entry)) ⌝ }
+// The facts of a packet in a group of this rule: questions 20, 27, 21 and 22, once for all of its messages.
+pub fn accept(rule: Rule, packet: &[u8]) -> Accepted
+    ensures { λ r. ⌜ r ≡ accepted rule (now (packet .entry)) ⌝ }
 {
     if !header_good(packet) {
         return Accepted {
             number: 20,
+            count: 0,
+        };
+    }
+    if packet[0] != rule.number() {
+        return Accepted {
+            number: 27,
             count: 0,
         };
     }

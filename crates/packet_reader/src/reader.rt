@@ -7,11 +7,11 @@ use crate::numbers::num2;
 use crate::walk::fits;
 use crate::walk::table_good;
 use crate::walk::walk;
+use hermes::Rule;
 use packet_format::COUNT_MAX;
 use packet_format::ENTRY_BYTES;
 use packet_format::Fetched;
 use packet_format::HEADER_BYTES;
-use packet_format::RULE;
 use packet_format::TOTAL_MAX;
 use packet_format::entry_of;
 
@@ -23,18 +23,26 @@ pub(crate) fn header_good(packet: &[u8]) -> bool
     if n < HEADER_BYTES {
         return false;
     }
+    let first = packet[0];
     let count = packet[1] as usize;
     let total = num2(packet[2], packet[3]);
-    (packet[0] == RULE) & (1 <= count) & (count <= COUNT_MAX) & (total == n) & (n <= TOTAL_MAX)
+    ((first == Rule::HIGHER) | (first == Rule::LOWER))
+        & (1 <= count)
+        & (count <= COUNT_MAX)
+        & (total == n)
+        & (n <= TOTAL_MAX)
 }
 
-// Message i of a packet, for every byte string and every i, in one walk of the contents table: the entries before it, its own, those behind it.
-// No entry is read twice.
-pub fn fetch(packet: &[u8], i: usize) -> Fetched
-    ensures { λ r. ⌜ r ≡ fetched (now (packet .entry)) i ⌝ }
+// Message i of a packet in a group of this rule, for every byte string and every i, in one walk of the contents table: the entries before it, its own,
+// those behind it. No entry is read twice.
+pub fn fetch(rule: Rule, packet: &[u8], i: usize) -> Fetched
+    ensures { λ r. ⌜ r ≡ fetched rule (now (packet .entry)) i ⌝ }
 {
     if !header_good(packet) {
         return Fetched::Refused(20);
+    }
+    if packet[0] != rule.number() {
+        return Fetched::Refused(27);
     }
     let count = packet[1] as usize;
     let first = HEADER_BYTES + ENTRY_BYTES * count;

@@ -1,4 +1,4 @@
--- Demand 2 of packets, over words: the laws over messages of crate `packet_format`, and that good words and their messages say the same.
+-- Demand 2 of packets, over words and the rule: the laws over messages of crate `packet_format`, and that good words and their messages say the same.
 use Prim.Native.Nat.{ℕ, zero, suc, _+_, _*_, _/_, _%_, _≤_, _<_}
 use mathlib.Core.Path.{_≡_, refl, sym, ap, ap₂, _∙_}
 use mathlib.Core.Bool.{true}
@@ -9,6 +9,7 @@ use borrow.Author.Tests.{eq-eqb, le-leb}
 use lib.ListN.{length, take, drop, getD}
 use lib.Seq.{getD-drop}
 use Rattle.hermes_record.proofs.Tests.{both}
+use Rattle.hermes_record.specs.declared.timestamp.Rule.{Rule}
 use Rattle.packet_format.specs.declared.entry.Entry.{Entry}
 use Rattle.packet_format.specs.declared.answer.Fetched.the-variants.{Found}
 use Rattle.packet_format.specs.declared.answer.Written.the-variants.{Total}
@@ -20,9 +21,9 @@ use Rattle.packet_format.specs.Writing.{summed, allGood, outputOf}
 use Rattle.packet_format.specs.RoundTrip.{ReadsBack}
 use Rattle.packet_format.proofs.Writing.{Accepts, accepts, total-yes}
 use Rattle.packet_format.proofs.Entries.{entry-back, good-parts}
-use Rattle.packet_format.proofs.RoundTrip.{written-reads-back, accepted-is-written}
+use Rattle.packet_format.proofs.RoundTrip.{written-reads-back, written-other-rule, accepted-is-written}
 use Rattle.packet_words.specs.Words.{entryIn, countIn, fieldsAt, entryAt, entriesFrom, wordMessages, packed}
-use Rattle.packet_words.specs.ReadBack.{manyIn, word, saidBy, bodyFrom, WordsReadBack, wordsOf, AcceptedIsPacked}
+use Rattle.packet_words.specs.ReadBack.{manyIn, word, saidBy, bodyFrom, WordsReadBack, WordsOtherRule, wordsOf, AcceptedIsPacked}
 use Rattle.packet_words.proofs.Places.{sevens, Counted, counted, message-at}
 use Rattle.packet_words.proofs.Fit.{good-fit, entry-fit}
 
@@ -93,12 +94,12 @@ module _ (words bodies out : List ℕ) (n : ℕ) (e : packed words bodies (lengt
   begins zero l = refl
   begins (suc k) l = summed-more (wordMessages words) k (omega (arith, size)) ∙ (λ i. begins k (omega arith) i + says k l i .len)
 
-  reads : ReadsBack (take n (outputOf (Total n) (wordMessages words) bodies out)) (wordMessages words) bodies
-  reads = written-reads-back (wordMessages words) bodies out n e
+  reads : (rule : Rule) → ReadsBack rule (take n (outputOf rule (Total n) (wordMessages words) bodies out)) (wordMessages words) bodies
+  reads rule = written-reads-back rule (wordMessages words) bodies out n e
 
 pub words-read-back : WordsReadBack
-words-read-back words bodies out n e =
-    let r = reads words bodies out n e in
+words-read-back rule words bodies out n e =
+    let r = reads words bodies out n e rule in
     let s = size words bodies out n e in
     let says = says words bodies out n e in
     let begins = begins words bodies out n e in
@@ -109,6 +110,9 @@ words-read-back words bodies out n e =
       body = λ k l. r .body k (omega (arith, s)) ∙ (λ i. take (says k l i .len) (drop (begins k (omega arith) i) bodies));
       beyond = λ k l. r .beyond k (omega (arith, s));
     }
+
+pub words-other-rule : WordsOtherRule
+words-other-rule rule other words bodies out n different e = written-other-rule rule other (wordMessages words) bodies out n different e
 
 -- ---- an accepted packet is packed again from its messages' words
 
@@ -147,9 +151,9 @@ messages-back es few h =
     ap (λ (n : ℕ). entriesFrom n 0 (wordsOf es)) count ∙ all-back es h
 
 pub accepted-is-packed : AcceptedIsPacked
-accepted-is-packed p i e at out b h l =
+accepted-is-packed rule p i e at out b h l =
     let es = packetMessages p in
-    let w = accepted-is-written p i e at out b h l in
+    let w = accepted-is-written rule p i e at out b h l in
     let a = accepts es (bodiesIn p) (length out) (total-yes es (bodiesIn p) (length out) (length p) (w .answer) .0) in
     let back = messages-back es (a .few) (a .good) in
     record { answer = rw back (w .answer); output = rw back (w .output) }

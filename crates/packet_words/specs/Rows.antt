@@ -1,19 +1,24 @@
 -- The rows about words: question 24 where messages cross as words. A word can say a kind that there is not, and a number too wide for its field;
--- the rows of `packet_format` begin with messages, which cannot.
+-- the rows of `packet_format` begin with messages, which cannot. And the packet that words make, in a group of each rule.
 use Prim.Native.Nat.{ℕ, zero, suc, _+_}
 use mathlib.Core.Path.{_≡_}
 use mathlib.Core.List.{List, [], _∷_}
-use lib.ListN.{replicate}
-use Rattle.packet_format.specs.Writing.{writtenNumber}
-use Rattle.packet_words.specs.Words.{packed}
+use lib.ListN.{length, replicate}
+use Rattle.hermes_record.specs.declared.timestamp.Rule.{Rule}
+use Rattle.hermes_record.specs.declared.timestamp.Rule.the-variants.{Higher, Lower}
+use Rattle.packet_format.specs.Writing.{writtenNumber, outputOf}
+use Rattle.packet_words.specs.Words.{wordMessages, packed}
 
 pub data Row : Type 0 where
   -- these words are packed, with these bodies, into so many bytes of output; the number answered
   packs : List ℕ → List ℕ → ℕ → ℕ → Row
+  -- a group of this rule packs these words, with these bodies, into this output; the output after it
+  makes : Rule → List ℕ → List ℕ → List ℕ → List ℕ → Row
 
 -- what a row says
 abbrev pub Holds : Row → Type 0
 Holds (packs words bodies room k) = writtenNumber (packed words bodies room) ≡ k
+Holds (makes rule words bodies out after) = outputOf rule (packed words bodies (length out)) (wordMessages words) bodies out ≡ after
 
 -- ---- words; none of this uses the rules that the rows are about
 
@@ -83,4 +88,13 @@ rows =
     ∷ packs (acks 1 []) [] 20 0
     ∷ packs (acks 1 []) [] 19 25
     ∷ packs (seven 4 5 7 2 0 []) [] 19 24
+    -- document 01's own ACK, of document 01's rule, and of the new one (02, Wish 6); output past the total is untouched
+    ∷ makes Higher (2 ∷ 5 ∷ 0 ∷ 7 ∷ 1 ∷ 2 ∷ 0 ∷ []) [] (replicate 21 9)
+    (1 ∷ 1 ∷ 0 ∷ 20 ∷ 2 ∷ 5 ∷ 0 ∷ 0 ∷ 0 ∷ 0 ∷ 0 ∷ 7 ∷ 0 ∷ 0 ∷ 0 ∷ 1 ∷ 2 ∷ 0 ∷ 20 ∷ 0 ∷ 9 ∷ [])
+    ∷ makes Lower (2 ∷ 5 ∷ 0 ∷ 7 ∷ 1 ∷ 2 ∷ 0 ∷ []) [] (replicate 21 9)
+    (2 ∷ 1 ∷ 0 ∷ 20 ∷ 2 ∷ 5 ∷ 0 ∷ 0 ∷ 0 ∷ 0 ∷ 0 ∷ 7 ∷ 0 ∷ 0 ∷ 0 ∷ 1 ∷ 2 ∷ 0 ∷ 20 ∷ 0 ∷ 9 ∷ [])
+    -- an INV with its body, every byte of a number another; and a refused one, which leaves the output as it was
+    ∷ makes Lower (1 ∷ 15 ∷ 168496141 ∷ 258 ∷ 16909060 ∷ 14 ∷ 3 ∷ []) (97 ∷ 98 ∷ 99 ∷ []) (replicate 23 9)
+    (2 ∷ 1 ∷ 0 ∷ 23 ∷ 1 ∷ 15 ∷ 10 ∷ 11 ∷ 12 ∷ 13 ∷ 1 ∷ 2 ∷ 1 ∷ 2 ∷ 3 ∷ 4 ∷ 14 ∷ 0 ∷ 20 ∷ 3 ∷ 97 ∷ 98 ∷ 99 ∷ [])
+    ∷ makes Lower (4 ∷ 5 ∷ 0 ∷ 7 ∷ 1 ∷ 2 ∷ 0 ∷ []) [] (9 ∷ 9 ∷ []) (9 ∷ 9 ∷ [])
     ∷ []

@@ -8,6 +8,8 @@ use native.Mathlib.Omega.{arith}
 use borrow.Author.Tests.{le-leb}
 use lib.ListN.{length, drop, getD}
 use lib.Seq.{sets, sets-eq}
+use Rattle.hermes_record.specs.declared.timestamp.Rule.{Rule}
+use Rattle.hermes_record.specs.Order.{ruleNumber}
 use Rattle.packet_format.specs.declared.entry.Fields.{Fields}
 use Rattle.packet_format.specs.Bytes.{be}
 use Rattle.packet_format.specs.Entry.{fieldsFor, entryBytes, good}
@@ -63,27 +65,27 @@ table-good (suc n) w at words a small =
     λ i. entryBytes (here i) ++ rest i
 
 -- header, contents table and bodies, stored one after another, are the packet, and the rest of the output is as it was
-pub packet-stored : (words d t o bodies : List ℕ) (n : ℕ) → n ≡ countIn (length words) → Counted words n → allGood (wordMessages words) ≡ true → summed (wordMessages words) ≡ length bodies
+pub packet-stored : (rule : Rule) (words d t o bodies : List ℕ) (n : ℕ) → n ≡ countIn (length words) → Counted words n → allGood (wordMessages words) ≡ true → summed (wordMessages words) ≡ length bodies
     → totalOf n bodies ≤ 1400
     → totalOf n bodies ≤ length d
-    → t ≡ fronted words bodies d
+    → t ≡ fronted rule words bodies d
     → o ≡ sets t (entryPlace n) bodies
-    → o ≡ packetBytes 1 (wordMessages words) bodies ++ drop (totalOf n bodies) d
+    → o ≡ packetBytes rule (wordMessages words) bodies ++ drop (totalOf n bodies) d
 unfolding packetBytes
-packet-stored words d t o bodies n e c g sum short room et eo =
+packet-stored rule words d t o bodies n e c g sum short room et eo =
     let es = wordMessages words in
-    let whole = packetBytes 1 es bodies in
-    let before = 1 ∷ n ∷ be 2 (totalOf n bodies) ++ contents (entryPlace n) es in
+    let whole = packetBytes rule es bodies in
+    let before = ruleNumber rule ∷ n ∷ be 2 (totalOf n bodies) ++ contents (entryPlace n) es in
     let same : table n 0 (entryPlace n) words ≡ contents (entryPlace n) es =
     table-good n 0 (entryPlace n) words (ap allGood (c .whole) ∙ g) (omega (arith, ap summed (c .whole), sum)) ∙ ap (contents (entryPlace n)) (c .whole) in
     let yes : question25 n bodies (length d) .yes ≡ true = simp (le-leb _ _ short, le-leb _ _ room) in
     let s1 : t ≡ sets d 0 before =
     et
-    ∙ ap (λ (m : ℕ). cond (question25 m bodies (length d) .yes) (sets d 0 (front m words bodies)) d) (sym e)
-    ∙ (λ i. cond (yes i) (sets d 0 (1 ∷ n ∷ be 2 (totalOf n bodies) ++ same i)) d) in
+    ∙ ap (λ (m : ℕ). cond (question25 m bodies (length d) .yes) (sets d 0 (front rule m words bodies)) d) (sym e)
+    ∙ (λ i. cond (yes i) (sets d 0 (ruleNumber rule ∷ n ∷ be 2 (totalOf n bodies) ++ same i)) d) in
     let p : entryPlace n ≡ 0 + length before = omega (arith, length-contents es (entryPlace n), c .size) in
     let s2 : o ≡ sets d 0 (before ++ bodies) = eo ∙ sets-then d t 0 (entryPlace n) before bodies s1 p in
     let en = sym (c .size) in
-    let is : before ++ bodies ≡ whole = λ i. 1 ∷ en i ∷ be 2 (totalOf (en i) bodies) ++ contents (entryPlace (en i)) es ++ bodies in
-    let len : length whole ≡ totalOf n bodies = packet-length 1 es bodies ∙ ap (λ (x : ℕ). totalOf x bodies) (c .size) in
+    let is : before ++ bodies ≡ whole = λ i. ruleNumber rule ∷ en i ∷ be 2 (totalOf (en i) bodies) ++ contents (entryPlace (en i)) es ++ bodies in
+    let len : length whole ≡ totalOf n bodies = packet-length rule es bodies ∙ ap (λ (x : ℕ). totalOf x bodies) (c .size) in
     s2 ∙ ap (sets d 0) is ∙ sets-eq whole d 0 (omega arith) ∙ ap (λ (x : ℕ). whole ++ drop x d) (zero-add (length whole) ∙ len)

@@ -5,6 +5,7 @@ ghost use lib.ListN.{length};
 ghost use lib.Seq.{sets};
 ghost use Rattle.packet_format.specs.Writing.{outputOf};
 ghost use Rattle.packet_words.specs.Words.{wordMessages, packed};
+use hermes_record::Rule;
 use packet_contents::put_front;
 use packet_format::ENTRY_BYTES;
 use packet_format::HEADER_BYTES;
@@ -25,10 +26,10 @@ fn put_all(out: &mut [u8], at: usize, bytes: &[u8])
     }
 }
 
-// A packet of the messages that the words hold, whose bodies stand end to end, written to the front of `out`.
-pub fn write(words: &[u32], bodies: &[u8], out: &mut [u8]) -> Written
+// A packet of the messages that the words hold, whose bodies stand end to end, written to the front of `out` in a group of this rule.
+pub fn write(rule: Rule, words: &[u32], bodies: &[u8], out: &mut [u8]) -> Written
     ensures answer { λ r. ⌜ r ≡ packed (now (words .entry)) (now (bodies .entry)) (length (now (out .entry))) ⌝ }
-    ensures output { λ r. ⌜ now (out .exit) ≡ outputOf r (wordMessages (now (words .entry))) (now (bodies .entry)) (now (out .entry)) ⌝ }
+    ensures output { λ r. ⌜ now (out .exit) ≡ outputOf rule r (wordMessages (now (words .entry))) (now (bodies .entry)) (now (out .entry)) ⌝ }
 {
     let count = packet_words::count_in(words.len());
     if count < 1 {
@@ -46,7 +47,7 @@ pub fn write(words: &[u32], bodies: &[u8], out: &mut [u8]) -> Written
     if (TOTAL_MAX < total) | (out.len() < total) {
         return Written::Refused(25);
     }
-    put_front(words, bodies, out);
+    put_front(rule, words, bodies, out);
     put_all(out, start, bodies);
     Written::Total(total)
 }

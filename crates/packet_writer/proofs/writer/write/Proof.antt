@@ -77,10 +77,10 @@ put-front-requires : tie.Need-put-front-requires
 put-front-requires c κs = search needs
 
 put-all-requires : tie.Need-put-all-requires
-put-all-requires c κs = let r = roomy (entryPlace (c .before .before .before .before .before .before .before .before .before .before .before .before .count-in .result) + c .before .before .before .before .before .before .before .before .asked .given .0 .0) (length (c .before .before .before .before .before .before .before .before .before .before .before .before .before .before .before .before .args .out .now)) (c .before .before .before .before .before .if3 .left) in omega (arith, c .before .before .before .put-front .kept .1 .1 .0)
+put-all-requires c κs = let r = roomy (entryPlace (c .before .before .before .before .before .before .before .before .before .before .before .before .count-in .result) + c .before .before .before .before .before .before .before .before .asked .given .0 .0) (length (c .before .before .before .before .before .before .before .before .before .before .before .before .before .before .before .before .args .out .now)) (c .before .before .before .before .before .if3 .left) in omega (arith, c .before .before .before .put-front .kept .1 .1 .1 .0)
 
 same-length : tie.Need-same-length
-same-length c = c .before .before .put-all .kept .0 ∙ c .before .before .before .before .before .before .put-front .kept .1 .1 .0
+same-length c = c .before .before .put-all .kept .0 ∙ c .before .before .before .before .before .before .put-front .kept .1 .1 .1 .0
 
 returns-5 : tie.Need-returns-5
 unfolding outputOf
@@ -94,8 +94,8 @@ returns-5 c =
     let t : entryPlace (c .before .before .before .before .before .before .before .before .before .before .before .before .before .before .before .count-in .result) + sum ≡ totalOf (length es) (c .before .before .before .before .before .before .before .before .before .before .before .before .before .before .before .before .before .before .before .args .bodies .now) = omega arith in
     let u : entryPlace (c .before .before .before .before .before .before .before .before .before .before .before .before .before .before .before .count-in .result) + sum ≡ totalOf (c .before .before .before .before .before .before .before .before .before .before .before .before .before .before .before .count-in .result) (c .before .before .before .before .before .before .before .before .before .before .before .before .before .before .before .before .before .before .before .args .bodies .now) = ap (λ (k : ℕ). entryPlace (c .before .before .before .before .before .before .before .before .before .before .before .before .before .before .before .count-in .result) + k) (c .before .before .before .before .before .before .before .before .before .if2 .left) in (
       written-whole es _ _ (omega arith) (omega arith) (p .0) (p .1 ∙ c .before .before .before .before .before .before .before .before .before .if2 .left) _ t (r .0) (r .1),
-      packet-stored words (c .before .before .before .before .before .before .before .before .before .before .before .before .before .before .before .before .before .before .before .args .out .now) (c .before .before .before .before .before .before .put-front .last .1 .1 .0) (c .before .before .put-all .last .0) (c .before .before .before .before .before .before .before .before .before .before .before .before .before .before .before .before .before .before .before .args .bodies .now) (c .before .before .before .before .before .before .before .before .before .before .before .before .before .before .before .count-in .result) (c .before .before .before .before .before .before .before .before .before .before .before .before .before .before .before .count-in .ensures) n (p .0) (p .1 ∙ c .before .before .before .before .before .before .before .before .before .if2 .left) (omega arith) (omega arith) (c .before .before .before .before .before .before .put-front .ensures) (c .before .before .put-all .ensures)
-          ∙ ap (λ (k : ℕ). packetBytes 1 es (c .before .before .before .before .before .before .before .before .before .before .before .before .before .before .before .before .before .before .before .args .bodies .now) ++ drop k (c .before .before .before .before .before .before .before .before .before .before .before .before .before .before .before .before .before .before .before .args .out .now)) (sym u),
+      packet-stored (c .before .before .before .before .before .before .before .before .before .before .before .before .before .before .before .before .before .before .before .args .rule) words (c .before .before .before .before .before .before .before .before .before .before .before .before .before .before .before .before .before .before .before .args .out .now) (c .before .before .before .before .before .before .put-front .last .1 .1 .1 .0) (c .before .before .put-all .last .0) (c .before .before .before .before .before .before .before .before .before .before .before .before .before .before .before .before .before .before .before .args .bodies .now) (c .before .before .before .before .before .before .before .before .before .before .before .before .before .before .before .count-in .result) (c .before .before .before .before .before .before .before .before .before .before .before .before .before .before .before .count-in .ensures) n (p .0) (p .1 ∙ c .before .before .before .before .before .before .before .before .before .if2 .left) (omega arith) (omega arith) (c .before .before .before .before .before .before .put-front .ensures) (c .before .before .put-all .ensures)
+          ∙ ap (λ (k : ℕ). packetBytes (c .before .before .before .before .before .before .before .before .before .before .before .before .before .before .before .before .before .before .before .args .rule) es (c .before .before .before .before .before .before .before .before .before .before .before .before .before .before .before .before .before .before .before .args .bodies .now) ++ drop k (c .before .before .before .before .before .before .before .before .before .before .before .before .before .before .before .before .before .before .before .args .out .now)) (sym u),
     )
 
 pub write-spec : {M : Type 1} → statement M
