@@ -3,6 +3,7 @@ use Prim.Native.Nat.{ℕ}
 use mathlib.Core.Path.{_≡_}
 use mathlib.Core.List.{List}
 use lib.ListN.{length}
+use Rattle.hermes.specs.declared.event.Settings.{Settings}
 use Rattle.hermes.specs.declared.event.Admission.{Admission}
 use Rattle.hermes.specs.declared.event.Admission.the-variants.{Admitted, Refused}
 use Rattle.hermes.specs.Node.{newcomer, firstRecord, start}
@@ -16,9 +17,9 @@ abbrev pub filledBy : Admission → List ℕ → ℕ → List ℕ
 filledBy (Admitted me) bytes view = fill (countOf (length bytes)) bytes (firstRecord view)
 filledBy (Refused k) bytes view = bytes
 
--- the admission, the bytes, the table that they hold, and the store after a fresh start
-pub record StartDone (number view : ℕ) (before : List ℕ) (memory : List ℕ) (a : CetskobiAdmission) (bytes′ store′ : List ℕ) : Type 0 where
-  pub admission : a ≡ admissionOut (start number view (tableOf before) memory .admission) (identityOf (newcomer number view))
-  pub bytes : bytes′ ≡ filledBy (start number view (tableOf before) memory .admission) before view
-  pub table : tableOf bytes′ ≡ start number view (tableOf before) memory .table
-  pub store : store′ ≡ start number view (tableOf before) memory .store
+-- the admission, the bytes, the table that they hold, and the store after a fresh start in a group with these settings
+pub record StartDone (number view : ℕ) (settings : Settings) (before : List ℕ) (memory : List ℕ) (a : CetskobiAdmission) (bytes′ store′ : List ℕ) : Type 0 where
+  pub admission : a ≡ admissionOut (start number view settings (tableOf before) memory .admission) (identityOf (newcomer number view settings))
+  pub bytes : bytes′ ≡ filledBy (start number view settings (tableOf before) memory .admission) before view
+  pub table : tableOf bytes′ ≡ start number view settings (tableOf before) memory .table
+  pub store : store′ ≡ start number view settings (tableOf before) memory .store

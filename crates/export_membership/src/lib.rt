@@ -5,3 +5,4 @@ pub use admission::cetskobi_start;
 pub use admission::cetskobi_view;
 pub use export_numbers::CetskobiAdmission;
 pub use export_numbers::CetskobiReplica;
+pub use export_numbers::CetskobiSettings;
