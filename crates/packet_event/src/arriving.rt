@@ -7,6 +7,7 @@ use hermes::Answer;
 use hermes::Event;
 use hermes::Received;
 use hermes::Record;
+use hermes::Replica;
 use packet_format::Entry;
 use packet_format::Fetched;
 
@@ -29,11 +30,13 @@ fn received(entry: Entry) -> Received
     }
 }
 
-// The event of message i: its delivery. A refused packet's is refused too.
-pub fn event_in(bytes: &[u8], i: usize) -> Arriving
-    ensures { λ a. ⌜ a ≡ arrivingOf (fetched (now (bytes .entry)) i) ⌝ }
+// The event of message i, read by the rule of replica me's group: its delivery. A refused packet's is refused too.
+pub fn event_in(me: Replica, bytes: &[u8], i: usize) -> Arriving
+    ensures { λ a. ⌜ a ≡ arrivingOf (fetched (me .settings .rule) (now (bytes .entry)) i) ⌝ }
 {
-    let f = packet_reader::fetch(bytes, i);
+    let settings = me.settings;
+    let rule = settings.rule;
+    let f = packet_reader::fetch(rule, bytes, i);
     match f {
         Fetched::Found(entry, _) => {
             let m = received(entry);

@@ -1,10 +1,10 @@
 -- The event that a fetch comes to has the outcome that the packet's receipt says: of a refused packet the event is refused, and nothing changes.
 use Prim.Native.Nat.{ℕ}
 use mathlib.Core.Path.{_≡_, refl, ap, _∙_}
-use mathlib.Core.Bool.{Bool}
 use mathlib.Core.List.{List, []}
 use native.Mathlib.Omega.{arith}
 use Rattle.hermes_record.specs.declared.record.Record.{Record}
+use Rattle.hermes_record.specs.Order.{Orders}
 use Rattle.hermes.specs.declared.event.Event.the-variants.{Read}
 use Rattle.hermes.specs.declared.event.Answer.{Answer}
 use Rattle.hermes.specs.Node.{Node, Outcome, apply}
@@ -16,7 +16,7 @@ use Rattle.packet_event.specs.declared.arriving.Arriving.{Arriving}
 use Rattle.packet_event.specs.Arrival.{receiptOf, receipt}
 use Rattle.packet_event.specs.Arriving.{arrivingOf, answerIn}
 
-module _ (wins : ℕ → ℕ → Bool) (n : Node) (p : List ℕ) where
+module _ (wins : Orders) (n : Node) (p : List ℕ) where
   -- questions 2 and 4 together refuse record 4096
   still : (o : Outcome) → Applied wins n 4096 Read [] o → o .node ≡ n
   still o (refused k z q) = ap (λ (x : Outcome). x .node) q
@@ -37,13 +37,13 @@ module _ (wins : ℕ → ℕ → Bool) (n : Node) (p : List ℕ) where
       (refl, (ap (λ (m : Node). m .table) s, ap (λ (m : Node). m .store) s))
 
   -- the receipt, from what each call says
-  pub receipt-met : (i : ℕ) (c : Arriving) (v : List ℕ) (r s : Answer) (ts : List Record) (zs : List ℕ) → c ≡ arrivingOf (fetched p i) → v ≡ bodyOf p (c .fetched)
+  pub receipt-met : (i : ℕ) (c : Arriving) (v : List ℕ) (r s : Answer) (ts : List Record) (zs : List ℕ) → c ≡ arrivingOf (fetched (n .me .settings .rule) p i) → v ≡ bodyOf p (c .fetched)
       → (r ≡ apply wins n (c .index) (c .event) v .answer) × ((ts ≡ apply wins n (c .index) (c .event) v .node .table) × (zs ≡ apply wins n (c .index) (c .event) v .node .store))
       → s ≡ answerIn (c .fetched) r
       → (s ≡ receipt wins n p i .answer) × ((ts ≡ receipt wins n p i .node .table) × (zs ≡ receipt wins n p i .node .store))
   unfolding receipt
   receipt-met i c v r s ts zs ec ev said es =
-      let q = same (fetched p i) in (
+      let q = same (fetched (n .me .settings .rule) p i) in (
         es ∙ ap (λ (x : Answer). answerIn (c .fetched) x) (said .0) ∙ ap (λ (x : List ℕ). answerIn (c .fetched) (apply wins n (c .index) (c .event) x .answer)) ev
             ∙ ap (λ (x : Arriving). answerIn (x .fetched) (outcomeOf x .answer)) ec ∙ q .0,
         (

@@ -21,7 +21,7 @@ pub fn receive(
         × ((now (table .exit) ≡ receipt ties (lent me (now (table .entry)) (now (store .entry))) (now (bytes .entry)) i .node .table)
         × (now (store .exit) ≡ receipt ties (lent me (now (table .entry)) (now (store .entry))) (now (bytes .entry)) i .node .store)) ⌝ }
 {
-    let a = event_in(bytes, i);
+    let a = event_in(me, bytes, i);
     let value = packet_reader::body(bytes, a.fetched);
     let answer = replica_table::apply(me, table, store, a.index, a.event, value);
     answer_in(a.fetched, answer)
