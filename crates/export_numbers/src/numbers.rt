@@ -81,9 +81,7 @@ pub fn settings_of(settings: CetskobiSettings) -> Settings
     ensures { λ r. ⌜ r ≡ settingsOf settings ⌝ }
 {
     let rule = rule_of(settings.rule);
-    Settings {
-        rule: rule,
-    }
+    Settings { rule: rule }
 }
 
 pub fn settings_out(settings: Settings) -> CetskobiSettings

@@ -33,9 +33,7 @@ impl Member {
     pub fn fresh(k: u8, view: u16) -> Member
         ensures { λ r. ⌜ r ≡ freshIn view k ⌝ }
     {
-        let settings = Settings {
-            rule: Rule::Higher,
-        };
+        let settings = Settings { rule: Rule::Higher };
         let a = replica_membership::admit(k, view, settings, 1, Record::VALUE_MAX);
         match a {
             Admission::Admitted(me) => Member {
