@@ -2,13 +2,14 @@
 ghost use Rattle.packet_format.specs.Reading.{fetched};
 ghost use Rattle.export_arrival.specs.Arrival.{Arrived};
 ghost use Rattle.export_calls.specs.Calls.{nodeOf};
+ghost use Rattle.export_numbers.specs.Crossing.{settingsOf};
 use export_numbers::CetskobiAnswer;
 use export_numbers::CetskobiMessage;
 use export_numbers::CetskobiReplica;
 use hermes::Answer;
 use packet_format::Fetched;
 
-// Delivery of message i of a packet, with its body, to the record that it is about: that of `cetskobi_deliver`.
+// Delivery of message i of a packet, read by the laptop's own rule, with its body, to the record that it is about: that of `cetskobi_deliver`.
 #[no_mangle]
 pub extern "C" fn cetskobi_deliver_packet(
     me: CetskobiReplica,
@@ -17,9 +18,12 @@ pub extern "C" fn cetskobi_deliver_packet(
     packet: &[u8],
     i: usize,
 ) -> CetskobiAnswer
-    ensures { λ a. ⌜ Arrived (nodeOf me (now (table .entry)) (now (store .entry))) (now (table .entry)) (now (packet .entry)) (fetched (now (packet .entry)) i) a (now (table .exit)) (now (store .exit)) ⌝ }
+    ensures { λ a. ⌜ Arrived (nodeOf me (now (table .entry)) (now (store .entry))) (now (table .entry)) (now (packet .entry)) (fetched (settingsOf (me .settings) .rule) (now (packet .entry)) i) a (now (table .exit)) (now (store .exit)) ⌝ }
 {
-    let fetched = packet_reader::fetch(packet, i);
+    let given = me.settings;
+    let settings = export_numbers::settings_of(given);
+    let rule = settings.rule;
+    let fetched = packet_reader::fetch(rule, packet, i);
     match fetched {
         Fetched::Found(entry, at) => {
             let f = packet_format::fields_for(entry, at);

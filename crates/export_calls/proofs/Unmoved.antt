@@ -11,6 +11,7 @@ use Rattle.hermes.specs.declared.message.Received.{Received}
 use Rattle.hermes.specs.declared.event.Event.{Event}
 use Rattle.hermes.specs.declared.event.Event.the-variants.{Deliver, Resend}
 use Rattle.hermes_record.specs.Order.{ties, later}
+use Rattle.hermes.specs.Settings.{under}
 use Rattle.hermes.specs.Store.{Bytes}
 use Rattle.hermes.specs.Event.{Step, movedBy, effect}
 use Rattle.hermes.specs.Node.{recordAt, effectOf}
@@ -21,7 +22,7 @@ use Rattle.export_records.proofs.Lent.{length-table}
 use Rattle.export_storing.proofs.Back.{settled-back}
 use Rattle.export_numbers.specs.declared.numbers.CetskobiReplica.{CetskobiReplica}
 use Rattle.export_numbers.specs.declared.numbers.CetskobiAnswer.{CetskobiAnswer}
-use Rattle.export_numbers.specs.Crossing.{replicaOf}
+use Rattle.export_numbers.specs.Crossing.{settingsOf, replicaOf}
 use Rattle.export_calls.specs.Calls.{nodeOf, Done}
 
 -- a step that leaves the record, done or refused
@@ -48,6 +49,6 @@ module _ (me : CetskobiReplica) (bytes store : List ℕ) (i : ℕ) (v : List ℕ
   resend-unmoved d = unmoved Resend d (step-unmoved Resend refl)
 
   -- 01, Deliver INV: "only if that stamp is greater" is it taken
-  pub inv-unmoved : (m : Received) (t : Timestamp) → m .message ≡ Inv t → later ties t (recordAt (tableOf bytes) i .timestamp) ≡ false
+  pub inv-unmoved : (m : Received) (t : Timestamp) → m .message ≡ Inv t → later (under ties (settingsOf (me .settings))) t (recordAt (tableOf bytes) i .timestamp) ≡ false
       → Done (nodeOf me bytes store) bytes i (Deliver m) v a bytes′ store′ → bytes′ ≡ bytes
   inv-unmoved m t e g d = unmoved (Deliver m) d (step-unmoved (Deliver m) (rw (e, g)))

@@ -33,7 +33,9 @@ fn arrive_inv(
     };
     let count = export_records::count(table.len());
     let now = r.timestamp;
-    let newer = t.later(now);
+    let settings = who.settings;
+    let rule = settings.rule;
+    let newer = t.later(now, rule);
     let m = replica_delivery::move_inv(who, count, store.len(), i, r, sender, epoch, t, value);
     if newer {
         let out = export_calls::finish(table, i, m);

@@ -22,6 +22,7 @@ use Rattle.hermes.specs.declared.event.Event.{Event}
 use Rattle.hermes.specs.declared.event.Event.the-variants.{Read, Ask, Write, Commit, Replay, Deliver, Validate, Resend}
 use Rattle.hermes_record.specs.Members.{with, without}
 use Rattle.hermes_record.specs.Order.{ties, later}
+use Rattle.hermes.specs.Settings.{under}
 use Rattle.hermes.specs.Kind as kind
 use Rattle.hermes.specs.Store.{valueAt}
 use Rattle.hermes.specs.Event.{leavingBody, recipients, sentBy, send, Step, step, movedBy, deliverStep, invStep, ackStep, completes, resent, refusal, effect}
@@ -130,7 +131,7 @@ module _ (me : Replica) (i sender : ℕ) where
     settling false = nothing (Deliver m)
 
     delivered : (x : Message) → Tells me (Deliver m) sender i (Accepted (deliverStep ties me i r (m .sender) x v .sent))
-    delivered (Inv t) = ack (later ties t (r .timestamp)) t
+    delivered (Inv t) = ack (later (under ties (me .settings)) t (r .timestamp)) t
     delivered (Ack t) = settling (completes me r (m .sender))
     delivered (Val t) = nothing (Deliver m)
 
@@ -166,7 +167,7 @@ module _ (me : Replica) (i : ℕ) (r : Record) (v : List ℕ) where
   again-stamped state.Replay = refl
 
   delivered-stamped : (sender : ℕ) (x : Message) → Stamped (deliverStep ties me i r sender x v .sent) (deliverStep ties me i r sender x v .after)
-  delivered-stamped sender (Inv t) = go (later ties t (r .timestamp))
+  delivered-stamped sender (Inv t) = go (later (under ties (me .settings)) t (r .timestamp))
     where
       go : (b : Bool) → Stamped (invStep b me i r t sender v .sent) (invStep b me i r t sender v .after)
       go true = tt

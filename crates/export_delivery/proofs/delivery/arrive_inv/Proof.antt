@@ -54,10 +54,10 @@ same-length-3 : tie.Need-same-length-3
 same-length-3 c = search needs
 
 returns-2 : tie.Need-returns-2
-returns-2 c = let v = c .before .before .before .before .before .before .before .before .before .before .before .before .before .before .before .before .before .before .before .before .before .before .args in
+returns-2 c = let v = c .before .before .before .before .before .before .before .before .before .before .before .before .before .before .before .before .before .before .before .before .before .before .before .args in
     let moves = c .before .before .before .before .before .before .before .before .before .move-inv .ensures ∙ inv-moved _ _ (v .i) _ (v .store .now) (v .value .now) (v .sender) (v .epoch) (v .t) in
     let stores = c .before .before .stored .ensures ∙ inv-newer _ _ (v .i) _ (v .store .now) (v .value .now) (v .sender) (v .epoch) (v .t) _ (c .before .before .before .before .before .before .before .before .before .move-inv .ensures) (sym (c .before .before .before .before .before .before .before .before .before .before .later .ensures) ∙ c .before .before .before .before .before .before .before .before .if1 .taken) in
-    done (v .me) (v .table .now) (v .i) _ _ _ (taken-here (v .me) (v .table .now) _ (v .i) _ _ _ _ (c .before .before .before .before .before .before .before .before .before .before .before .before .before .before .before .before .before .before .replica-of .ensures) (c .before .before .before .before .before .before .before .before .before .before .before .before .count .ensures) (c .before .before .before .before .before .before .before .before .before .before .before .before .before .before .before .before .begin .ensures) (c .before .before .before .before .before .before .before .before .before .before .before .before .before .before .a .given .1)) (v .store .now) (Deliver (cameFrom (v .sender) (v .epoch) (Inv (v .t)))) (v .value .now) _ _ _ _ (moves, stores) (c .before .before .before .before .before .before .finish .ensures)
+    done (v .me) (v .table .now) (v .i) _ _ _ (taken-here (v .me) (v .table .now) _ (v .i) _ _ _ _ (c .before .before .before .before .before .before .before .before .before .before .before .before .before .before .before .before .before .before .before .replica-of .ensures) (c .before .before .before .before .before .before .before .before .before .before .before .before .before .count .ensures) (c .before .before .before .before .before .before .before .before .before .before .before .before .before .before .before .before .before .begin .ensures) (c .before .before .before .before .before .before .before .before .before .before .before .before .before .before .before .a .given .1)) (v .store .now) (Deliver (cameFrom (v .sender) (v .epoch) (Inv (v .t)))) (v .value .now) _ _ _ _ (moves, stores) (c .before .before .before .before .before .before .finish .ensures)
 
 finish-requires-2 : tie.Need-finish-requires-2
 finish-requires-2 c κs = search needs
@@ -66,10 +66,10 @@ same-length-4 : tie.Need-same-length-4
 same-length-4 c = search needs
 
 returns-3 : tie.Need-returns-3
-returns-3 c = let v = c .before .before .before .before .before .before .before .before .before .before .before .before .before .before .before .before .before .before .args in
+returns-3 c = let v = c .before .before .before .before .before .before .before .before .before .before .before .before .before .before .before .before .before .before .before .args in
     let moves = c .before .before .before .before .before .move-inv .ensures ∙ inv-moved _ _ (v .i) _ (v .store .now) (v .value .now) (v .sender) (v .epoch) (v .t) in
     let stores = inv-older _ _ (v .i) _ (v .store .now) (v .value .now) (v .sender) (v .epoch) (v .t) (sym (c .before .before .before .before .before .before .later .ensures) ∙ c .before .before .before .before .if1 .left) in
-    done (v .me) (v .table .now) (v .i) _ _ _ (taken-here (v .me) (v .table .now) _ (v .i) _ _ _ _ (c .before .before .before .before .before .before .before .before .before .before .before .before .before .before .replica-of .ensures) (c .before .before .before .before .before .before .before .before .count .ensures) (c .before .before .before .before .before .before .before .before .before .before .before .before .begin .ensures) (c .before .before .before .before .before .before .before .before .before .before .a .given .1)) (v .store .now) (Deliver (cameFrom (v .sender) (v .epoch) (Inv (v .t)))) (v .value .now) _ _ _ _ (moves, stores) (c .before .before .finish2 .ensures)
+    done (v .me) (v .table .now) (v .i) _ _ _ (taken-here (v .me) (v .table .now) _ (v .i) _ _ _ _ (c .before .before .before .before .before .before .before .before .before .before .before .before .before .before .before .replica-of .ensures) (c .before .before .before .before .before .before .before .before .before .count .ensures) (c .before .before .before .before .before .before .before .before .before .before .before .before .before .begin .ensures) (c .before .before .before .before .before .before .before .before .before .before .before .a .given .1)) (v .store .now) (Deliver (cameFrom (v .sender) (v .epoch) (Inv (v .t)))) (v .value .now) _ _ _ _ (moves, stores) (c .before .before .finish2 .ensures)
 
 pub arrive-inv-spec : {M : Type 1} → statement M
 arrive-inv-spec =
