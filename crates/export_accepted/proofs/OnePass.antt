@@ -22,7 +22,7 @@ use Rattle.export_records.specs.Layout.{tableOf}
 use Rattle.export_calls.specs.Calls.{nodeOf}
 use Rattle.export_arrival.specs.Arrival.{numbersOf}
 use Rattle.export_accepted.specs.Arrival.{Came, takenReceipt}
-use Rattle.export_accepted.specs.OnePass.{AsFetched, DeliversAll}
+use Rattle.export_accepted.specs.OnePass.{ruleOf, AsFetched, DeliversAll}
 
 -- the numbers of an entry of a known kind stand for its message
 stands : (f : Fields) → known (f .kind) ≡ true → receivedIn (numbersOf f) ≡ receivedOf (entryOf f)
@@ -30,23 +30,23 @@ stands f k =
     λ i. record { sender = f .sender; epoch = f .epoch; message = messageOf (f .kind) (record { version = f .version; tie = cond (k i) (f .tie) 255 }) }
 
 -- so the delivery comes to that of a fetch
-pub own-receipt : (n : Node) (p : List ℕ) (i : ℕ) → takenReceipt n p (taken p (accepted p) i) ≡ receipt ties n p i
+pub own-receipt : (n : Node) (p : List ℕ) (i : ℕ) → takenReceipt n p (taken p (accepted (n .me .settings .rule) p) i) ≡ receipt ties n p i
 unfolding receipt
-own-receipt n p i = by (taken p (accepted p) i) refl ∙ ap (receiptOf ties n p) (taken-is-fetched p i)
+own-receipt n p i = by (taken p (accepted (n .me .settings .rule) p) i) refl ∙ ap (receiptOf ties n p) (taken-is-fetched (n .me .settings .rule) p i)
   where
-    by : (t : Taken) → taken p (accepted p) i ≡ t → takenReceipt n p t ≡ receiptOf ties n p (fetchedOf t)
+    by : (t : Taken) → taken p (accepted (n .me .settings .rule) p) i ≡ t → takenReceipt n p t ≡ receiptOf ties n p (fetchedOf t)
     by (Entry f) e =
-        ap (λ (m : Received). apply ties n (f .index) (Deliver m) (bodyOf p (fetchedOf (Entry f)))) (stands f (good-parts f (taken-is-good p i f e) .kind))
+        ap (λ (m : Received). apply ties n (f .index) (Deliver m) (bodyOf p (fetchedOf (Entry f)))) (stands f (good-parts f (taken-is-good (n .me .settings .rule) p i f e) .kind))
     by (Refused k) e = refl
 
 pub delivers-all : DeliversAll
-delivers-all me table store packet i r table′ store′ came = by (taken packet (accepted packet) i) refl came
+delivers-all me table store packet i r table′ store′ came = by (taken packet (accepted (ruleOf me) packet) i) refl came
   where
-    by : (t : Taken) → taken packet (accepted packet) i ≡ t → Came (nodeOf me table store) table packet t r table′ store′ → AsFetched me table store packet i r table′ store′
+    by : (t : Taken) → taken packet (accepted (ruleOf me) packet) i ≡ t → Came (nodeOf me table store) table packet t r table′ store′ → AsFetched me table store packet i r table′ store′
     by (Entry f) e c =
-        let same = sym (taken-is-fetched packet i) ∙ ap fetchedOf e in
-        let d = rw (stands f (good-parts f (taken-is-good packet i f e) .kind)) at (c .done) in
+        let same = sym (taken-is-fetched (ruleOf me) packet i) ∙ ap fetchedOf e in
+        let d = rw (stands f (good-parts f (taken-is-good (ruleOf me) packet i f e) .kind)) at (c .done) in
         record { arrived = rw same (record { answer = d .answer; bytes = d .bytes; table = d .table; store = d .store }); message = rw same (c .message) }
     by (Refused k) e c =
-        let same = sym (taken-is-fetched packet i) ∙ ap fetchedOf e in
+        let same = sym (taken-is-fetched (ruleOf me) packet i) ∙ ap fetchedOf e in
         record { arrived = rw same (record { answer = c .done .0; bytes = c .done .1; table = ap tableOf (c .done .1); store = c .done .2 }); message = rw same (c .message) }
