@@ -7,6 +7,7 @@ use native.Mathlib.Omega.{arith}
 use lib.ListN.{length, take, drop, getD, length-append}
 use lib.Seq.{getD-append-add, take-append-seam, drop-append-seam}
 use Rattle.hermes_record.specs.declared.timestamp.Timestamp.{Timestamp}
+use Rattle.hermes_record.specs.declared.timestamp.Rule.{Rule}
 use Rattle.hermes_record.specs.declared.record.Record.{Record}
 use Rattle.hermes_record.specs.declared.record.State.{State}
 use Rattle.hermes_record.specs.declared.record.State.the-variants as state
@@ -20,6 +21,7 @@ use Rattle.hermes.specs.declared.event.Answer.the-variants.{Accepted, Refused}
 use Rattle.hermes.specs.declared.event.Event.{Event}
 use Rattle.hermes.specs.declared.event.Event.the-variants.{Read, Ask, Write, Commit, Replay, Deliver, Validate, Resend}
 use Rattle.hermes_record.specs.Order.{ties, later}
+use Rattle.hermes.specs.Settings.{under}
 use Rattle.hermes.specs.Kind.{messageOf}
 use Rattle.hermes.proofs.Kind.{message-back}
 use Rattle.hermes.specs.Event.{sentBy, step, deliverStep, invStep, ackStep, completes, resent}
@@ -40,7 +42,7 @@ use Rattle.export_calls.specs.Part.{PartAt}
 use Rattle.export_outgoing.specs.Leaving.{Along, along, alongOf, AlongAt}
 use Rattle.export_outgoing.proofs.Sent.{asked-body}
 use Rattle.export_arrival.specs.Arrival.{Arrived}
-use Rattle.export_accepted.specs.OnePass.{arrivalFor}
+use Rattle.export_accepted.specs.OnePass.{ruleOf, arrivalFor}
 use Rattle.export_accepted.proofs.OnePass.{delivers-all}
 use Rattle.check_air.specs.Air.{Sending, sevenOf, wordsSent, bodiesSent, Called, Packed, ThroughTheAir, AcceptedThroughTheAir}
 
@@ -60,7 +62,7 @@ module _ (me : Replica) (i : ℕ) (r : Record) (v : List ℕ) where
   again state.Replay t = refl
 
   delivered : (sender : ℕ) (x : Message) → Headed me i (deliverStep ties me i r sender x v .sent)
-  delivered sender (Inv t) = go (later ties t (r .timestamp))
+  delivered sender (Inv t) = go (later (under ties (me .settings)) t (r .timestamp))
     where
       go : (b : Bool) → Headed me i (invStep b me i r t sender v .sent)
       go true = refl
@@ -205,31 +207,31 @@ delivers n table p e at v a table′ store′ brings h =
     rw (sym brings) (record { answer = h .answer; bytes = h .bytes; table = h .table; store = h .store })
 
 -- a packet reads back as what was sent
-reads : (ss : List Sending) (packet : List ℕ) → Packed ss packet → ReadsAs packet (wordsSent ss) (bodiesSent ss)
-reads ss packet p = rw (p .front) (packed-reads (wordsSent ss) (bodiesSent ss) (p .out) (p .accepted))
+reads : (rule : Rule) (ss : List Sending) (packet : List ℕ) → Packed rule ss packet → ReadsAs rule packet (wordsSent ss) (bodiesSent ss)
+reads rule ss packet p = rw (p .front) (packed-reads rule (wordsSent ss) (bodiesSent ss) (p .out) (p .accepted))
 
-module _ (before after : List Sending) (s : Sending) (x : Logged) (packet : List ℕ) (c : Called x s) (p : Packed (before ++ s ∷ after) packet) where
+module _ (rule : Rule) (before after : List Sending) (s : Sending) (x : Logged) (packet : List ℕ) (c : Called x s) (p : Packed rule (before ++ s ∷ after) packet) where
   -- what the packet's reader finds
-  pub found-left : (at : ℕ) × (fetched packet (length before) ≡ Found (entryLeft x) at) × (bodyOf packet (Found (entryLeft x) at) ≡ x .body)
+  pub found-left : (at : ℕ) × (fetched rule packet (length before) ≡ Found (entryLeft x) at) × (bodyOf packet (Found (entryLeft x) at) ≡ x .body)
   found-left =
       let ss = before ++ s ∷ after in
-      let r : ReadsAs packet (wordsSent ss) (bodiesSent ss) = reads ss packet p in
+      let r : ReadsAs rule packet (wordsSent ss) (bodiesSent ss) = reads rule ss packet p in
       let k : length before < manyIn (wordsSent ss) = omega (arith, length-words ss, length-append before (s ∷ after)) in
       let at = entryPlace (manyIn (wordsSent ss)) + bodyFrom (wordsSent ss) (length before) in
-      let found : fetched packet (length before) ≡ Found (entryLeft x) at = r .message (length before) k ∙ ap (λ (e : Entry). Found e at) (said before after s x c) in
+      let found : fetched rule packet (length before) ≡ Found (entryLeft x) at = r .message (length before) k ∙ ap (λ (e : Entry). Found e at) (said before after s x c) in
       (at, found, sym (ap (bodyOf packet) found) ∙ r .body (length before) k ∙ body-said before after s x c)
 
 pub through-the-air : ThroughTheAir
-through-the-air before after s x packet c p me table store table′ store′ a h =
-    let (at, found, brings) = found-left before after s x packet c p in
+through-the-air before after s x packet me c p table store table′ store′ a h =
+    let (at, found, brings) = found-left (ruleOf me) before after s x packet c p in
     let arrived : Arrived (nodeOf me table store) table packet (Found (entryLeft x) at) a table′ store′ =
     subst (λ (f : Fetched). Arrived (nodeOf me table store) table packet f a table′ store′) found h in
     delivers (nodeOf me table store) table packet (entryLeft x) at (x .body) a table′ store′ brings arrived
 
 pub accepted-through-the-air : AcceptedThroughTheAir
-accepted-through-the-air before after s x packet c p me table store table′ store′ r h =
+accepted-through-the-air before after s x packet me c p table store table′ store′ r h =
     let d = delivers-all me table store packet (length before) r table′ store′ h in
     record {
-      done = through-the-air before after s x packet c p me table store table′ store′ (r .answer) (d .arrived);
-      tells = d .message ∙ ap (λ (f : Fetched). arrivalFor f (r .answer)) (found-left before after s x packet c p .1);
+      done = through-the-air before after s x packet me c p table store table′ store′ (r .answer) (d .arrived);
+      tells = d .message ∙ ap (λ (f : Fetched). arrivalFor f (r .answer)) (found-left (ruleOf me) before after s x packet c p .1);
     }

@@ -1,13 +1,14 @@
 -- Every call may follow, and on every laptop has its answer.
 use Prim.Native.Nat.{ℕ, zero, suc, _*_, _<_}
 use mathlib.Core.Path.{_≡_, refl, sym, ap, _∙_}
-use mathlib.Core.List.{List, [], _∷_}
-use mathlib.Core.Logic.{inl, inr}
+use mathlib.Core.List.{List, [], _∷_, _++_}
+use mathlib.Core.Logic.{inl, inr, _≢_}
 use native.Mathlib.Omega.{arith}
 use native.Mathlib.Decide.{decLt}
 use lib.ListN.{length, take, drop}
 use borrow.Author.Tests.{lt-ltb, le-ltb}
 use Rattle.hermes.specs.declared.message.Outgoing.the-variants.{None}
+use Rattle.hermes_record.specs.declared.timestamp.Rule.{Rule}
 use Rattle.hermes.specs.declared.event.Answer.{Answer}
 use Rattle.hermes.specs.declared.event.Answer.the-variants.{Accepted, Refused}
 use Rattle.hermes.specs.declared.event.Admission.{Admission}
@@ -20,7 +21,8 @@ use Rattle.hermes.specs.Store.{valueAt}
 use Rattle.hermes.specs.Event as event
 use Rattle.hermes.specs.Event.{answerOf, refusal, step, effect, partOf, readPart, askHands}
 use Rattle.hermes.specs.Node as hermes
-use Rattle.hermes.specs.Node.{recordAt, recordOf, effectOf, apply, viewed, identity, admissionNumber}
+use Rattle.hermes.specs.Node.{recordAt, recordOf, effectOf, apply, viewed, admissionNumber}
+use Rattle.hermes.specs.Run.{Logged}
 use Rattle.packet_format.specs.declared.answer.Fetched.{Fetched}
 use Rattle.packet_format.specs.declared.answer.Fetched.the-variants as fetch
 use Rattle.packet_format.specs.declared.answer.Taken.{Taken}
@@ -32,7 +34,7 @@ use Rattle.packet_event.specs.Arrival.{receivedOf, receiptOf, receipt}
 use Rattle.export_records.specs.Layout.{countOf, tableOf}
 use Rattle.export_storing.specs.Storing.{bytesAfter, tableAfter}
 use Rattle.export_storing.proofs.Table.{settled-table, settled-nowhere, settled-step}
-use Rattle.export_numbers.specs.Crossing.{replicaOf, identityOf, answerOut, admissionOut, receivedIn}
+use Rattle.export_numbers.specs.Crossing.{replicaOf, answerOut, admissionOut, receivedIn}
 use Rattle.export_fields.specs.declared.answers.CetskobiAccepted.{CetskobiAccepted}
 use Rattle.export_fields.specs.Answers.{acceptedIn}
 use Rattle.export_packets.specs.Calls.{acceptAnswer}
@@ -40,7 +42,10 @@ use Rattle.export_reading.specs.Reading.{AskDone}
 use Rattle.export_arrival.specs.Arrival.{numbersOf, bytesArrived}
 use Rattle.export_accepted.specs.declared.accepted.CetskobiArrival.{CetskobiArrival}
 use Rattle.export_accepted.specs.Arrival.{arrivalOf, takenReceipt, Came}
-use Rattle.check_air.specs.Callers.{Laptop, node, read, ask, write, commit, replay, deliver, deliverPacket, deliverAccepted, validate, resend, view, Moves, Returns, Broken, Untaken, validates, acknowledges}
+use Rattle.export_packets.proofs.RoundTrip.{packed-for-others}
+use Rattle.export_accepted.specs.OnePass.{ruleOf}
+use Rattle.check_air.specs.Air.{wordsSent, bodiesSent}
+use Rattle.check_air.specs.Callers.{Laptop, node, FromAir, read, ask, write, commit, replay, deliver, deliverPacket, deliverAccepted, validate, resend, view, Moves, Returns, Broken, Untaken, validates, acknowledges}
 use Rattle.check_air.specs.Answered.{callNumber, askAnswer, afterEvent, afterTaken, afterCall, EveryCallMayFollow, EveryCallFinishes, EveryCallAnswers}
 use Rattle.check_air.proofs.Callers.{number-out, is-found}
 
@@ -69,10 +74,10 @@ moves l i e v =
 -- a delivery from a packet
 arrives : (l : Laptop) (p : List ℕ) (i : ℕ) → Returns (deliverPacket p i) l (callNumber (deliverPacket p i) l) (afterCall (deliverPacket p i) l)
 unfolding receipt
-arrives l p i = (answerOut a, record { answer = refl; bytes = refl; table = go (fetched p i); store = refl }, number-out a, refl)
+arrives l p i = (answerOut a, record { answer = refl; bytes = refl; table = go (fetched (ruleOf (l .me)) p i); store = refl }, number-out a, refl)
   where
     a : Answer
-    a = receiptOf ties (node l) p (fetched p i) .answer
+    a = receiptOf ties (node l) p (fetched (ruleOf (l .me)) p i) .answer
 
     go : (f : Fetched) → tableOf (bytesArrived (node l) (l .table) p f) ≡ receiptOf ties (node l) p f .node .table
     go (fetch.Found e at) = after-table l (e .header .index) (Deliver (receivedOf e)) (bodyOf p (fetch.Found e at))
@@ -124,7 +129,7 @@ asks l i = record {
 -- a change of view
 views : (l : Laptop) (epoch set : ℕ) → Returns (view epoch set) l (callNumber (view epoch set) l) (afterCall (view epoch set) l)
 unfolding viewed
-views l epoch set = (admissionOut a (l .me), refl, said a, left a)
+views l epoch set = (admissionOut a (l .me), refl, said a, refl)
   where
     a : Admission
     a = hermes.view (replicaOf (l .me)) epoch set
@@ -136,10 +141,6 @@ views l epoch set = (admissionOut a (l .me), refl, said a, left a)
     said : (a : Admission) → admissionOut a (l .me) .number ≡ event.numberOf (answerOf (admissionNumber a) None)
     said (admission.Admitted x) = refl
     said (admission.Refused k) = sym (zeros k)
-
-    left : (a : Admission) → _≡_ {A = Laptop} (record { me = identityOf (identity a (replicaOf (l .me))); table = l .table; store = l .store }) (record { me = admissionOut a (l .me) .replica; table = l .table; store = l .store })
-    left (admission.Admitted x) = refl
-    left (admission.Refused k) = refl
 
 pub every-call-answers : EveryCallAnswers
 every-call-answers (read i) l = reads l i
@@ -155,15 +156,21 @@ every-call-answers (resend i) l = moves l i Resend []
 every-call-answers (view epoch set) l = views l epoch set
 
 -- a broken packet's own facts
-untaken : (p : List ℕ) (i : ℕ) → Broken p i → Untaken p (acceptAnswer p) i
-untaken p i h = by (taken p (accepted p) i) refl
+untaken : (rule : Rule) (p : List ℕ) (i : ℕ) → Broken rule p i → Untaken p (acceptAnswer rule p) i
+untaken rule p i h = by (taken p (accepted rule p) i) refl
   where
-    by : (t : Taken) → taken p (accepted p) i ≡ t → Untaken p (acceptAnswer p) i
-    by (take.Entry f) e = absurd (omega (arith, ap is-found (sym (ap fetchedOf e) ∙ taken-is-fetched p i ∙ h .refused)))
+    by : (t : Taken) → taken p (accepted rule p) i ≡ t → Untaken p (acceptAnswer rule p) i
+    by (take.Entry f) e = absurd (omega (arith, ap is-found (sym (ap fetchedOf e) ∙ taken-is-fetched rule p i ∙ h .refused)))
     by (take.Refused k) e = record { number = k; refused = e }
 
+-- a packet for the other rule is refused by 27
+for-others : (other rule : Rule) (log : List Logged) (p : List ℕ) (i : ℕ) → other ≢ rule → FromAir other log p i → Broken rule p i
+for-others other rule log p i different f =
+    let ss = f .before ++ f .sending ∷ f .after in
+    record { number = 27; refused = rw (f .packed .front) (packed-for-others other rule (wordsSent ss) (bodiesSent ss) (f .packed .out) different (f .packed .accepted) .fetching i) }
+
 pub every-call-may-follow : EveryCallMayFollow
-every-call-may-follow issued log = record {
+every-call-may-follow issued log rule = record {
   reads = λ i. tt;
   asks = λ i. tt;
   writes = λ i v. tt;
@@ -172,10 +179,11 @@ every-call-may-follow issued log = record {
   deliveries = λ i m v h. inl h;
   unknowns = λ i m v h. inr h;
   packets = λ p i h. inl h;
+  others = λ other p i different h. inr (for-others other rule log p i different h);
   broken = λ p i h. inr h;
-  accepted = λ p a i h. inl h;
+  accepted = λ packing p a i h. inl (packing, h);
   foreign = λ p a i k e. inr (record { number = k; refused = e });
-  unaccepted = λ p i h. inr (untaken p i h);
+  unaccepted = λ p i h. inr (untaken rule p i h);
   validations = λ i. tt;
   resends = λ i. tt;
   views = λ epoch. refl;

@@ -13,6 +13,8 @@ use Rattle.hermes.specs.declared.event.Answer.{Answer}
 use Rattle.hermes.specs.declared.event.Answer.the-variants.{Accepted, Refused}
 use Rattle.hermes.specs.declared.event.Admission.{Admission}
 use Rattle.hermes.specs.declared.event.Admission.the-variants as admission
+use Rattle.hermes.specs.declared.event.Replica.{Replica}
+use Rattle.hermes.specs.declared.event.Settings.{Settings}
 use Rattle.hermes.specs.declared.event.Event.{Event}
 use Rattle.hermes.specs.declared.event.Event.the-variants.{Read, Ask, Write, Commit, Replay, Deliver, Validate, Resend}
 use Rattle.hermes.specs.declared.message.Outgoing.{Outgoing}
@@ -21,7 +23,10 @@ use Rattle.hermes.specs.declared.message.Message.{Message}
 use Rattle.hermes.specs.declared.message.Message.the-variants.{Inv, Ack, Val}
 use Rattle.hermes_record.specs.declared.record.Record.{Record}
 use Rattle.hermes_record.specs.declared.timestamp.Timestamp.{Timestamp}
-use Rattle.hermes_record.specs.Order.{ties, later, NotAfter}
+use Rattle.hermes_record.specs.declared.timestamp.Rule.{Rule}
+use Rattle.hermes_record.specs.declared.timestamp.Rule.the-variants.{Higher, Lower}
+use Rattle.hermes_record.specs.Order.{ties, ruleNumber, later, NotAfter}
+use Rattle.hermes.specs.Settings.{under}
 use Rattle.hermes_record.specs.Record.{freshRecord}
 use Rattle.hermes.specs.Kind.{inv, ack, known}
 use Rattle.hermes.specs.Guards.{shapely}
@@ -51,11 +56,13 @@ use Rattle.export_numbers.specs.declared.numbers.CetskobiReplica.{CetskobiRepli
 use Rattle.export_numbers.specs.declared.numbers.CetskobiAnswer.{CetskobiAnswer}
 use Rattle.export_numbers.specs.declared.numbers.CetskobiAdmission.{CetskobiAdmission}
 use Rattle.export_numbers.specs.declared.numbers.CetskobiMessage.{CetskobiMessage}
-use Rattle.export_numbers.specs.Crossing.{replicaOf, identityOf, answerOut, admissionOut, messageIn, receivedIn}
+use Rattle.export_numbers.specs.Crossing as crossing
+use Rattle.export_numbers.specs.Crossing.{settingsOf, replicaOf, identityOf, answerOut, admissionOut, messageIn, receivedIn}
 use Rattle.export_fields.specs.declared.answers.CetskobiAccepted.{CetskobiAccepted}
 use Rattle.export_fields.specs.Answers.{acceptedIn}
 use Rattle.export_arrival.specs.Arrival.{numbersOf}
 use Rattle.export_accepted.specs.Arrival.{Delivered, takenReceipt}
+use Rattle.export_accepted.specs.OnePass.{ruleOf}
 use Rattle.export_accepted.proofs.OnePass.{own-receipt}
 use Rattle.check_air.specs.Callers.{Laptop, node, Call, read, ask, write, commit, replay, deliver, deliverPacket, deliverAccepted, validate, resend, view, Moves, Returns, Hut, Turn, outcome, logOf, next, after, FromAir, Fair, Follows, Begun, AllBegun, laptop, Delivers, Finishes, validates, acknowledges, CallsAgree, CalledDemand3}
 use Rattle.check_air.proofs.Air.{found-left}
@@ -84,42 +91,42 @@ taken-action log j (take.Entry g) = run.deliver j
 taken-action log j (take.Refused k) = run.deliver (length log)
 
 -- the entry of a call
-pub action : (issued : ℕ → ℕ) (log : List Logged) (c : Call) → Fair issued log c → Action
-action issued log (read i) f = run.read i
-action issued log (ask i) f = run.ask i
-action issued log (write i v) f = run.write i v
-action issued log (commit i version tie v) f = run.commit i (record { version = version; tie = tie }) v
-action issued log (replay i) f = run.replay i
-action issued log (deliver i m v) (inl f) = run.deliver (log-number (f .message) log (f .earlier) .0)
-action issued log (deliver i m v) (inr f) = run.deliver (length log)
-action issued log (deliverPacket p i) (inl f) = run.deliver (log-number (f .message) log (f .earlier) .0)
-action issued log (deliverPacket p i) (inr f) = run.deliver (length log)
-action issued log (deliverAccepted p a i) (inl f) = taken-action log (log-number (f .message) log (f .earlier) .0) (taken p (acceptedIn a) i)
-action issued log (deliverAccepted p a i) (inr f) = run.deliver (length log)
-action issued log (validate i) f = run.validate i
-action issued log (resend i) f = run.resend i
-action issued log (view epoch set) f = run.view epoch set
+pub action : (issued : ℕ → ℕ) (log : List Logged) (rule : Rule) (c : Call) → Fair issued log rule c → Action
+action issued log rule (read i) f = run.read i
+action issued log rule (ask i) f = run.ask i
+action issued log rule (write i v) f = run.write i v
+action issued log rule (commit i version tie v) f = run.commit i (record { version = version; tie = tie }) v
+action issued log rule (replay i) f = run.replay i
+action issued log rule (deliver i m v) (inl f) = run.deliver (log-number (f .message) log (f .earlier) .0)
+action issued log rule (deliver i m v) (inr f) = run.deliver (length log)
+action issued log rule (deliverPacket p i) (inl f) = run.deliver (log-number (f .message) log (f .earlier) .0)
+action issued log rule (deliverPacket p i) (inr f) = run.deliver (length log)
+action issued log rule (deliverAccepted p a i) (inl (packing, f)) = taken-action log (log-number (f .message) log (f .earlier) .0) (taken p (acceptedIn a) i)
+action issued log rule (deliverAccepted p a i) (inr f) = run.deliver (length log)
+action issued log rule (validate i) f = run.validate i
+action issued log rule (resend i) f = run.resend i
+action issued log rule (view epoch set) f = run.view epoch set
 
-as-issued : (issued : ℕ → ℕ) (log : List Logged) (c : Call) (f : Fair issued log c) → AsIssued issued (action issued log c f)
+as-issued : (issued : ℕ → ℕ) (log : List Logged) (rule : Rule) (c : Call) (f : Fair issued log rule c) → AsIssued issued (action issued log rule c f)
 unfolding action
-as-issued issued log (read i) f = tt
-as-issued issued log (ask i) f = tt
-as-issued issued log (write i v) f = tt
-as-issued issued log (commit i version tie v) f = tt
-as-issued issued log (replay i) f = tt
-as-issued issued log (deliver i m v) (inl f) = tt
-as-issued issued log (deliver i m v) (inr f) = tt
-as-issued issued log (deliverPacket p i) (inl f) = tt
-as-issued issued log (deliverPacket p i) (inr f) = tt
-as-issued issued log (deliverAccepted p a i) (inl f) = by (taken p (acceptedIn a) i)
+as-issued issued log rule (read i) f = tt
+as-issued issued log rule (ask i) f = tt
+as-issued issued log rule (write i v) f = tt
+as-issued issued log rule (commit i version tie v) f = tt
+as-issued issued log rule (replay i) f = tt
+as-issued issued log rule (deliver i m v) (inl f) = tt
+as-issued issued log rule (deliver i m v) (inr f) = tt
+as-issued issued log rule (deliverPacket p i) (inl f) = tt
+as-issued issued log rule (deliverPacket p i) (inr f) = tt
+as-issued issued log rule (deliverAccepted p a i) (inl (packing, f)) = by (taken p (acceptedIn a) i)
   where
     by : (t : Taken) → AsIssued issued (taken-action log (log-number (f .message) log (f .earlier) .0) t)
     by (take.Entry g) = tt
     by (take.Refused k) = tt
-as-issued issued log (deliverAccepted p a i) (inr f) = tt
-as-issued issued log (validate i) f = tt
-as-issued issued log (resend i) f = tt
-as-issued issued log (view epoch set) f = f
+as-issued issued log rule (deliverAccepted p a i) (inr f) = tt
+as-issued issued log rule (validate i) f = tt
+as-issued issued log rule (resend i) f = tt
+as-issued issued log rule (view epoch set) f = f
 
 -- the entry does what the call's event comes to
 record Does (log : List Logged) (n : Node) (a : Action) (o : Outcome) : Type 0 where
@@ -165,12 +172,11 @@ unknown-refused n i m v e = go (applied ties n i (Deliver (receivedIn m)) v)
     go (accepted y c p) = absurd (false≢true (sym (unknown-shape (m .kind) (m .version) (m .tie) (length v) e) ∙ its-own n i (Deliver (receivedIn m)) v y .1 .1 .0))
 
 -- a packet brings the message that left
-carried : (log : List Logged) (n : Node) (p : List ℕ) (i : ℕ) (f : FromAir log p i)
-    → receipt ties n p i ≡ apply ties n (f .message .header .index) (Deliver (received (f .message))) (f .message .body)
-unfolding receipt
-carried log n p i f =
-    let (at, finds, brings) = found-left (f .before) (f .after) (f .sending) (f .message) p (f .called) (f .packed) in
-    ap (λ (j : ℕ). receiptOf ties n p (fetched p j)) (f .place) ∙ ap (receiptOf ties n p) finds ∙ ap (apply ties n (f .message .header .index) (Deliver (received (f .message)))) brings
+carried : (rule : Rule) (log : List Logged) (n : Node) (p : List ℕ) (i : ℕ) (f : FromAir rule log p i)
+    → receiptOf ties n p (fetched rule p i) ≡ apply ties n (f .message .header .index) (Deliver (received (f .message))) (f .message .body)
+carried rule log n p i f =
+    let (at, finds, brings) = found-left rule (f .before) (f .after) (f .sending) (f .message) p (f .called) (f .packed) in
+    ap (λ (j : ℕ). receiptOf ties n p (fetched rule p j)) (f .place) ∙ ap (receiptOf ties n p) finds ∙ ap (apply ties n (f .message .header .index) (Deliver (received (f .message)))) brings
 
 -- a message is found, or there is none
 abbrev pub is-found : Fetched → ℕ
@@ -178,38 +184,38 @@ is-found (fetch.Found e at) = 1
 is-found (fetch.Refused k) = 0
 
 -- so does one that left, by whatever facts it is taken
-carried-taken : (log : List Logged) (n : Node) (p : List ℕ) (a : CetskobiAccepted) (i : ℕ) (f : FromAir log p i) (g : Fields) → taken p (acceptedIn a) i ≡ take.Entry g
+carried-taken : (rule : Rule) (log : List Logged) (n : Node) (p : List ℕ) (a : CetskobiAccepted) (i : ℕ) (f : FromAir rule log p i) (g : Fields) → taken p (acceptedIn a) i ≡ take.Entry g
     → takenReceipt n p (take.Entry g) ≡ apply ties n (f .message .header .index) (Deliver (received (f .message))) (f .message .body)
-carried-taken log n p a i f g e = own (taken p (format.accepted p) i) refl ∙ own-receipt n p i ∙ carried log n p i f
+carried-taken rule log n p a i f g e = own (taken p (format.accepted rule p) i) refl ∙ own-receipt rule n p i ∙ carried rule log n p i f
   where
-    own : (t : Taken) → taken p (format.accepted p) i ≡ t → takenReceipt n p (take.Entry g) ≡ takenReceipt n p (taken p (format.accepted p) i)
-    own (take.Entry h) e′ = ap (λ (x : Fields). takenReceipt n p (take.Entry x)) (taken-alike p (acceptedIn a) (format.accepted p) i g h e e′) ∙ sym (ap (takenReceipt n p) e′)
+    own : (t : Taken) → taken p (format.accepted rule p) i ≡ t → takenReceipt n p (take.Entry g) ≡ takenReceipt n p (taken p (format.accepted rule p) i)
+    own (take.Entry h) e′ = ap (λ (x : Fields). takenReceipt n p (take.Entry x)) (taken-alike p (acceptedIn a) (format.accepted rule p) i g h e e′) ∙ sym (ap (takenReceipt n p) e′)
     own (take.Refused k) e′ =
-        let finds = found-left (f .before) (f .after) (f .sending) (f .message) p (f .called) (f .packed) in
-        let no-such : fetched p i ≡ fetch.Refused k = sym (taken-is-fetched p i) ∙ ap fetchedOf e′ in
-        absurd (omega (arith, ap is-found (sym no-such ∙ ap (fetched p) (f .place) ∙ finds .1)))
+        let finds = found-left rule (f .before) (f .after) (f .sending) (f .message) p (f .called) (f .packed) in
+        let no-such : fetched rule p i ≡ fetch.Refused k = sym (taken-is-fetched rule p i) ∙ ap fetchedOf e′ in
+        absurd (omega (arith, ap is-found (sym no-such ∙ ap (fetched rule p) (f .place) ∙ finds .1)))
 
 module _ (issued : ℕ → ℕ) (log : List Logged) where
-  does : (c : Call) (f : Fair issued log c) (n : Node) → Does log n (action issued log c f) (outcome c n)
+  does : (c : Call) (n : Node) (f : Fair issued log (n .me .settings .rule) c) → Does log n (action issued log (n .me .settings .rule) c f) (outcome c n)
   unfolding action receipt
-  does (read i) f n = event-does log n (run.read i) _ refl
-  does (ask i) f n = event-does log n (run.ask i) _ refl
-  does (write i v) f n = event-does log n (run.write i v) _ refl
-  does (commit i version tie v) f n = event-does log n (run.commit i (record { version = version; tie = tie }) v) _ refl
-  does (replay i) f n = event-does log n (run.replay i) _ refl
-  does (deliver i m v) (inl f) n = sent-does log n (f .message) (f .earlier) (outcome (deliver i m v) n) (rw (f .index, f .same, f .bytes))
-  does (deliver i m v) (inr f) n = let (k, e) = unknown-refused n i m v f in nothing-does log n k (outcome (deliver i m v) n) e
-  does (deliverPacket p i) (inl f) n = sent-does log n (f .message) (f .earlier) (receipt ties n p i) (carried log n p i f)
-  does (deliverPacket p i) (inr f) n = nothing-does log n (f .number) (receipt ties n p i) (ap (receiptOf ties n p) (f .refused))
-  does (deliverAccepted p a i) (inl f) n = by (taken p (acceptedIn a) i) refl
+  does (read i) n f = event-does log n (run.read i) _ refl
+  does (ask i) n f = event-does log n (run.ask i) _ refl
+  does (write i v) n f = event-does log n (run.write i v) _ refl
+  does (commit i version tie v) n f = event-does log n (run.commit i (record { version = version; tie = tie }) v) _ refl
+  does (replay i) n f = event-does log n (run.replay i) _ refl
+  does (deliver i m v) n (inl f) = sent-does log n (f .message) (f .earlier) (outcome (deliver i m v) n) (rw (f .index, f .same, f .bytes))
+  does (deliver i m v) n (inr f) = let (k, e) = unknown-refused n i m v f in nothing-does log n k (outcome (deliver i m v) n) e
+  does (deliverPacket p i) n (inl f) = sent-does log n (f .message) (f .earlier) (receipt ties n p i) (carried (n .me .settings .rule) log n p i f)
+  does (deliverPacket p i) n (inr f) = nothing-does log n (f .number) (receipt ties n p i) (ap (receiptOf ties n p) (f .refused))
+  does (deliverAccepted p a i) n (inl (packing, f)) = by (taken p (acceptedIn a) i) refl
     where
       by : (t : Taken) → taken p (acceptedIn a) i ≡ t → Does log n (taken-action log (log-number (f .message) log (f .earlier) .0) t) (takenReceipt n p t)
-      by (take.Entry g) e = sent-does log n (f .message) (f .earlier) (takenReceipt n p (take.Entry g)) (carried-taken log n p a i f g e)
+      by (take.Entry g) e = sent-does log n (f .message) (f .earlier) (takenReceipt n p (take.Entry g)) (carried-taken packing log n p a i f g e)
       by (take.Refused k) e = nothing-does log n k (takenReceipt n p (take.Refused k)) refl
-  does (deliverAccepted p a i) (inr f) n = nothing-does log n (f .number) (takenReceipt n p (taken p (acceptedIn a) i)) (ap (takenReceipt n p) (f .refused))
-  does (validate i) f n = event-does log n (run.validate i) _ refl
-  does (resend i) f n = event-does log n (run.resend i) _ refl
-  does (view epoch set) f n = event-does log n (run.view epoch set) _ refl
+  does (deliverAccepted p a i) n (inr f) = nothing-does log n (f .number) (takenReceipt n p (taken p (acceptedIn a) i)) (ap (takenReceipt n p) (f .refused))
+  does (validate i) n f = event-does log n (run.validate i) _ refl
+  does (resend i) n f = event-does log n (run.resend i) _ refl
+  does (view epoch set) n f = event-does log n (run.view epoch set) _ refl
 
 -- the laptop that a call leaves is the one that its event leaves
 keeps-me : (n : Node) (i : ℕ) (e : Event) (v : List ℕ) → apply ties n i e v .node .me ≡ n .me
@@ -233,8 +239,16 @@ receipt-keeps : (n : Node) (p : List ℕ) (f : Fetched) → receiptOf ties n p f
 receipt-keeps n p (fetch.Found e at) = keeps-me n (e .header .index) (Deliver (receivedOf e)) (bodyOf p (fetch.Found e at))
 receipt-keeps n p (fetch.Refused k) = refl
 
+-- an identity that went out comes back: its rule has a number
+pub replica-back : (x : Replica) → replicaOf (identityOf x) ≡ x
+replica-back x = ap (λ (r : Rule). record { number = x .number; epoch = x .epoch; view = x .view; settings = record { rule = r } }) (back (x .settings .rule))
+  where
+    back : (r : Rule) → crossing.ruleOf (ruleNumber r) ≡ r
+    back Higher = refl
+    back Lower = refl
+
 admits : (a : Admission) (me : CetskobiReplica) → replicaOf (admissionOut a me .replica) ≡ identity a (replicaOf me)
-admits (admission.Admitted x) me = refl
+admits (admission.Admitted x) me = replica-back x
 admits (admission.Refused k) me = refl
 
 pub lands : (c : Call) (l l′ : Laptop) (number : ℕ) → Returns c l number l′ → node l′ ≡ outcome c (node l) .node
@@ -246,7 +260,7 @@ lands (commit i version tie v) l l′ number r = moves l l′ i (Commit (record 
 lands (replay i) l l′ number r = moves l l′ i Replay [] number r
 lands (deliver i m v) l l′ number r = moves l l′ i (Deliver (receivedIn m)) v number r
 lands (deliverPacket p i) l l′ number (a, d, q, same) =
-    let me : replicaOf (l′ .me) ≡ receipt ties (node l) p i .node .me = ap replicaOf same ∙ sym (receipt-keeps (node l) p (fetched p i)) in
+    let me : replicaOf (l′ .me) ≡ receipt ties (node l) p i .node .me = ap replicaOf same ∙ sym (receipt-keeps (node l) p (fetched (ruleOf (l .me)) p i)) in
     λ j. record { me = me j; table = d .table j; store = d .store j }
 lands (deliverAccepted p a i) l l′ number (r, d, q, same) = by (taken p (acceptedIn a) i) (d .done)
   where
@@ -276,11 +290,11 @@ number-out (Accepted (Sent (Val t) h)) = refl
 number-out (Refused k) = refl
 
 module _ (member : ℕ → Bool) (issued : ℕ → ℕ) where
-  abbrev pub entry : (h : Hut) (s : Turn) → Fair issued (h .log) (s .call) → Entry
-  entry h s f = record { who = s .who; what = action issued (h .log) (s .call) f }
+  abbrev pub entry : (h : Hut) (s : Turn) → Fair issued (h .log) (ruleOf (h .at (s .who) .me)) (s .call) → Entry
+  entry h s f = record { who = s .who; what = action issued (h .log) (ruleOf (h .at (s .who) .me)) (s .call) f }
 
   -- one call, one entry
-  pub turn-matches : (g : Group) (h : Hut) (s : Turn) (f : Fair issued (h .log) (s .call)) → Returns (s .call) (h .at (s .who)) (s .number) (s .left)
+  pub turn-matches : (g : Group) (h : Hut) (s : Turn) (f : Fair issued (h .log) (ruleOf (h .at (s .who) .me)) (s .call)) → Returns (s .call) (h .at (s .who)) (s .number) (s .left)
       → Match g h → Match (advance ties g (entry h s f)) (next h s)
   unfolding advance result
   turn-matches g h s f r e = record { nodes = λ k. at k (eqb k (s .who)) refl; logs = ap₂ logAfter same (e .logs) ∙ d .logs }
@@ -289,10 +303,10 @@ module _ (member : ℕ → Bool) (issued : ℕ → ℕ) where
       n = node (h .at (s .who))
 
       a : Action
-      a = action issued (h .log) (s .call) f
+      a = action issued (h .log) (ruleOf (h .at (s .who) .me)) (s .call) f
 
       d : Does (h .log) n a (outcome (s .call) n)
-      d = does issued (h .log) (s .call) f n
+      d = does issued (h .log) (s .call) n f
 
       same : result ties g (entry h s f) ≡ perform ties a (h .log) n
       same = ap₂ (perform ties a) (e .logs) (e .nodes (s .who))
@@ -314,7 +328,7 @@ module _ (member : ℕ → Bool) (issued : ℕ → ℕ) where
   pub are-entries : (h : Hut) (turns : List Turn) (f : Follows member issued h turns) → Entries member issued (entries h turns f)
   unfolding entries
   are-entries h [] f = tt
-  are-entries h (s ∷ rest) (m, fair, r, f) = (m, as-issued issued (h .log) (s .call) fair, are-entries (next h s) rest f)
+  are-entries h (s ∷ rest) (m, fair, r, f) = (m, as-issued issued (h .log) (ruleOf (h .at (s .who) .me)) (s .call) fair, are-entries (next h s) rest f)
 
   pub matches : (g : Group) (h : Hut) (turns : List Turn) (f : Follows member issued h turns) → Match g h → Match (run.run ties g (entries h turns f)) (after h turns)
   unfolding entries
@@ -337,29 +351,29 @@ module _ (member : ℕ → Bool) (issued : ℕ → ℕ) where
   both-parts h (s ∷ before) rest (m, fair, r, f) = ap (λ (es : List Entry). entry h s fair ∷ es) (both-parts (next h s) before rest f)
 
 -- the entry of an accepted validation is an accepted validation
-module _ (issued : ℕ → ℕ) (log : List Logged) (i : ℕ) where
-  is-validate : (c : Call) → c ≡ validate i → (f : Fair issued log c) → action issued log c f ≡ run.validate i
+module _ (issued : ℕ → ℕ) (log : List Logged) (rule : Rule) (i : ℕ) where
+  is-validate : (c : Call) → c ≡ validate i → (f : Fair issued log rule c) → action issued log rule c f ≡ run.validate i
   unfolding action
-  is-validate c e = subst (λ (x : Call). (f : Fair issued log x) → action issued log x f ≡ run.validate i) (sym e) (λ f. refl)
+  is-validate c e = subst (λ (x : Call). (f : Fair issued log rule x) → action issued log rule x f ≡ run.validate i) (sym e) (λ f. refl)
 
   is-accepted : (l l′ : Laptop) (number : ℕ) → number ≡ 0 → (c : Call) → c ≡ validate i → Returns c l number l′ → IsAccepted (perform ties (run.validate i) log (node l))
   is-accepted l l′ number z c e = subst (λ (x : Call). Returns x l number l′ → IsAccepted (perform ties (run.validate i) log (node l))) (sym e)
       (λ r. sym (ap (λ (x : CetskobiAnswer). x .number) (r .1 .answer) ∙ number-out (apply ties (node l) i Validate [] .answer)) ∙ r .2 ∙ z)
 
 -- the entry of a read is that read, and so of an ask and a commit
-module _ (issued : ℕ → ℕ) (log : List Logged) (i : ℕ) where
-  pub is-read : (c : Call) → c ≡ read i → (f : Fair issued log c) → action issued log c f ≡ run.read i
+module _ (issued : ℕ → ℕ) (log : List Logged) (rule : Rule) (i : ℕ) where
+  pub is-read : (c : Call) → c ≡ read i → (f : Fair issued log rule c) → action issued log rule c f ≡ run.read i
   unfolding action
-  is-read c e = subst (λ (x : Call). (f : Fair issued log x) → action issued log x f ≡ run.read i) (sym e) (λ f. refl)
+  is-read c e = subst (λ (x : Call). (f : Fair issued log rule x) → action issued log rule x f ≡ run.read i) (sym e) (λ f. refl)
 
-  pub is-ask : (c : Call) → c ≡ ask i → (f : Fair issued log c) → action issued log c f ≡ run.ask i
+  pub is-ask : (c : Call) → c ≡ ask i → (f : Fair issued log rule c) → action issued log rule c f ≡ run.ask i
   unfolding action
-  is-ask c e = subst (λ (x : Call). (f : Fair issued log x) → action issued log x f ≡ run.ask i) (sym e) (λ f. refl)
+  is-ask c e = subst (λ (x : Call). (f : Fair issued log rule x) → action issued log rule x f ≡ run.ask i) (sym e) (λ f. refl)
 
-  pub is-commit : (version tie : ℕ) (v : List ℕ) (c : Call) → c ≡ commit i version tie v → (f : Fair issued log c) → action issued log c f ≡ run.commit i (record { version = version; tie = tie }) v
+  pub is-commit : (version tie : ℕ) (v : List ℕ) (c : Call) → c ≡ commit i version tie v → (f : Fair issued log rule c) → action issued log rule c f ≡ run.commit i (record { version = version; tie = tie }) v
   unfolding action
   is-commit version tie v c e =
-      subst (λ (x : Call). (f : Fair issued log x) → action issued log x f ≡ run.commit i (record { version = version; tie = tie }) v) (sym e) (λ f. refl)
+      subst (λ (x : Call). (f : Fair issued log rule x) → action issued log rule x f ≡ run.commit i (record { version = version; tie = tie }) v) (sym e) (λ f. refl)
 
 -- ---- a delivery with which a VAL leaves is that of a last ACK
 
@@ -387,7 +401,7 @@ module _ (n : Node) (i : ℕ) (t : Timestamp) where
   step-last : (k sender : ℕ) (m : Message) (v : List ℕ) → deliverStep ties (n .me) k (recordOf k n) sender m v .sent ≡ send (n .me) i (Val t)
       → (k ≡ i) × ((s : Timestamp) × (m ≡ Ack s)) × (completes (n .me) (recordOf k n) sender ≡ true)
   unfolding valued
-  step-last k sender (Inv s) v e = absurd (omega (arith, ap valued e, none (later ties s (recordOf k n .timestamp))))
+  step-last k sender (Inv s) v e = absurd (omega (arith, ap valued e, none (later (under ties (n .me .settings)) s (recordOf k n .timestamp))))
     where
       none : (b : Bool) → valued (invStep b (n .me) k (recordOf k n) s sender v .sent) ≡ 0
       none true = refl
@@ -429,15 +443,16 @@ module _ (n : Node) (i : ℕ) (t : Timestamp) where
               accepted = subst (λ (f : Found). IsAccepted (run.delivery ties f n)) (sym (log-number x log m .1)) (ap (λ (z : Outcome). numberOf (z .answer)) p);
             }
 
-    call-last : (issued : ℕ → ℕ) (c : Call) (f : Fair issued log c) → Delivers c → sentBy (outcome c n .answer) ≡ send (n .me) i (Val t) → LastAck log n i (action issued log c f)
+    call-last : (issued : ℕ → ℕ) (c : Call) (f : Fair issued log (n .me .settings .rule) c) → Delivers c → sentBy (outcome c n .answer) ≡ send (n .me) i (Val t)
+        → LastAck log n i (action issued log (n .me .settings .rule) c f)
     unfolding action receipt
     call-last issued (deliver j m v) (inl f) d e = sent-last (f .message) (f .earlier) (outcome (deliver j m v) n) (rw (f .index, f .same, f .bytes)) e
     call-last issued (deliver j m v) (inr f) d e = let (k, q) = unknown-refused n j m v f in absurd (silent k (ap (λ (z : Outcome). sentBy (z .answer)) (sym q) ∙ e))
-    call-last issued (deliverPacket p j) (inl f) d e = sent-last (f .message) (f .earlier) (receipt ties n p j) (carried log n p j f) e
-    call-last issued (deliverAccepted p a j) (inl f) d e = by (taken p (acceptedIn a) j) refl e
+    call-last issued (deliverPacket p j) (inl f) d e = sent-last (f .message) (f .earlier) (receipt ties n p j) (carried (n .me .settings .rule) log n p j f) e
+    call-last issued (deliverAccepted p a j) (inl (packing, f)) d e = by (taken p (acceptedIn a) j) refl e
       where
         by : (x : Taken) → taken p (acceptedIn a) j ≡ x → sentBy (takenReceipt n p x .answer) ≡ send (n .me) i (Val t) → LastAck log n i (taken-action log (log-number (f .message) log (f .earlier) .0) x)
-        by (take.Entry g) q e = sent-last (f .message) (f .earlier) (takenReceipt n p (take.Entry g)) (carried-taken log n p a j f g q) e
+        by (take.Entry g) q e = sent-last (f .message) (f .earlier) (takenReceipt n p (take.Entry g)) (carried-taken packing log n p a j f g q) e
         by (take.Refused k) q e = absurd (silent k e)
     call-last issued (deliverAccepted p a j) (inr f) d e =
         absurd (silent (f .number) (ap (λ (z : Outcome). sentBy (z .answer)) (sym (ap (takenReceipt n p) (f .refused))) ∙ e))
@@ -446,41 +461,41 @@ module _ (n : Node) (i : ℕ) (t : Timestamp) where
 -- ---- the start
 
 -- an accepted start admits the identity that it answers
-admitted : (k set : ℕ) (table : List Record) (store : List ℕ) (old : CetskobiReplica) → admissionOut (start k set table store .admission) old .number ≡ 0
-    → start k set table store .admission ≡ admission.Admitted (replicaOf (admissionOut (start k set table store .admission) old .replica))
+admitted : (k set : ℕ) (settings : Settings) (table : List Record) (store : List ℕ) (old : CetskobiReplica) → admissionOut (start k set settings table store .admission) old .number ≡ 0
+    → start k set settings table store .admission ≡ admission.Admitted (replicaOf (admissionOut (start k set settings table store .admission) old .replica))
 unfolding start
-admitted k set table store old e = go (startRefusal k set (length table) (length store)) e
+admitted k set settings table store old e = go (startRefusal k set settings (length table) (length store)) e
   where
-    go : (q : ℕ) → admissionOut (begin q (newcomer k set) table store .admission) old .number ≡ 0
-        → begin q (newcomer k set) table store .admission ≡ admission.Admitted (replicaOf (admissionOut (begin q (newcomer k set) table store .admission) old .replica))
-    go zero e = refl
+    go : (q : ℕ) → admissionOut (begin q (newcomer k set settings) table store .admission) old .number ≡ 0
+        → begin q (newcomer k set settings) table store .admission ≡ admission.Admitted (replicaOf (admissionOut (begin q (newcomer k set settings) table store .admission) old .replica))
+    go zero e = ap admission.Admitted (sym (replica-back (newcomer k set settings)))
     go (suc q) e = absurd (omega arith)
 
 -- the run's group of the callers' laptops
 abbrev pub groupOf : Hut → Group
 groupOf h = record { at = λ k. node (h .at k); log = h .log }
 
-begins : (count : ℕ) (issued : ℕ → ℕ) (k : ℕ) (l : Laptop) → Begun count issued k l → FreshStart count issued k (node l)
-begins count issued k l b =
+begins : (count : ℕ) (issued : ℕ → ℕ) (settings : Settings) (k : ℕ) (l : Laptop) → Begun count issued settings k l → FreshStart count issued settings k (node l)
+begins count issued settings k l b = subst (λ (x : Settings). FreshStart count issued x k (node l)) (b .fixed) (
     let table = tableOf (b .table) in
-    let a = start k (issued 0) table (b .store) .admission in
-    let old = identityOf (newcomer k (issued 0)) in
+    let a = start k (issued 0) (settingsOf (b .given)) table (b .store) .admission in
+    let old = identityOf (newcomer k (issued 0) (settingsOf (b .given))) in
     let zero-said : admissionOut a old .number ≡ 0 = sym (ap (λ (x : CetskobiAdmission). x .number) (b .started .admission)) ∙ b .accepted in
     let me : admissionOut a old .replica ≡ l .me = sym (ap (λ (x : CetskobiAdmission). x .replica) (b .started .admission)) ∙ sym (b .identity) in
     record {
       table = table;
       store = b .store;
       records = length-table (b .table) ∙ b .records;
-      accepted = admitted k (issued 0) table (b .store) old zero-said ∙ ap (λ (x : CetskobiReplica). admission.Admitted (replicaOf x)) me;
+      accepted = admitted k (issued 0) (settingsOf (b .given)) table (b .store) old zero-said ∙ ap (λ (x : CetskobiReplica). admission.Admitted (replicaOf x)) me;
       tableAfter = b .started .table;
       storeAfter = b .started .store;
-    }
+    })
 
 -- ---- demand 3
 
-module _ (member : ℕ → Bool) (count : ℕ) (issued : ℕ → ℕ) (h : Hut) (begun : AllBegun member count issued h) where
-  pub started : Started member count issued (groupOf h)
-  started = record { fresh = λ k m. begins count issued k (h .at k) (begun .fresh k m); silent = begun .silent }
+module _ (member : ℕ → Bool) (count : ℕ) (issued : ℕ → ℕ) (settings : Settings) (h : Hut) (begun : AllBegun member count issued settings h) where
+  pub started : Started member count issued settings (groupOf h)
+  started = record { fresh = λ k m. begins count issued settings k (h .at k) (begun .fresh k m); silent = begun .silent }
 
   -- the run's laptops are the callers'
   abbrev entriesOf : (turns : List Turn) → Follows member issued h turns → List Entry
@@ -492,8 +507,8 @@ module _ (member : ℕ → Bool) (count : ℕ) (issued : ℕ → ℕ) (h : Hut) 
   same : (turns : List Turn) (f : Follows member issued h turns) (k : ℕ) → run.run ties (groupOf h) (entriesOf turns f) .at k ≡ laptop h turns k
   same turns f = match turns f .nodes
 
-  agree : (turns : List Turn) (f : Follows member issued h turns) → Agreement ties member count (groupOf h) (entriesOf turns f)
-  agree turns f = agreement member count issued (groupOf h) started (entriesOf turns f) (are-entries member issued h turns f)
+  agree : (turns : List Turn) (f : Follows member issued h turns) → Agreement ties member count settings (groupOf h) (entriesOf turns f)
+  agree turns f = agreement member count issued settings (groupOf h) started (entriesOf turns f) (are-entries member issued h turns f)
 
   alike : (turns : List Turn) (f : Follows member issued h turns) (i k m : ℕ) → i < count → member k ≡ true → member m ≡ true
       → Sees (laptop h turns k) m → Sees (laptop h turns m) k → Shows (laptop h turns k) i → Shows (laptop h turns m) i
@@ -504,7 +519,7 @@ module _ (member : ℕ → Bool) (count : ℕ) (issued : ℕ → ℕ) (h : Hut) 
       rw (← p, ← q) (agree turns f .alike i k m l mk mm (rw p sk) (rw q sm) (rw p vk) (rw q vm))
 
   -- an accepted validation among the calls is one among the entries
-  valid : (i : ℕ) (before : List Turn) (s : Turn) (f : Follows member issued h before) (fair : Fair issued (after h before .log) (s .call))
+  valid : (i : ℕ) (before : List Turn) (s : Turn) (f : Follows member issued h before) (fair : Fair issued (after h before .log) (ruleOf (after h before .at (s .who) .me)) (s .call))
       → Returns (s .call) (after h before .at (s .who)) (s .number) (s .left) → Finishes (laptop h before (s .who)) i (s .call) → s .number ≡ 0
       → Validation ties (run.run ties (groupOf h) (entriesOf before f)) (entry member issued (after h before) s fair) i
   unfolding result
@@ -512,15 +527,15 @@ module _ (member : ℕ → Bool) (count : ℕ) (issued : ℕ → ℕ) (h : Hut) 
       let e = match before f in
       let l = after h before .at (s .who) in
       let log = after h before .log in
-      let is : action issued log (s .call) fair ≡ run.validate i = is-validate issued log i (s .call) what fair in
+      let is : action issued log (ruleOf (after h before .at (s .who) .me)) (s .call) fair ≡ run.validate i = is-validate issued log (ruleOf (after h before .at (s .who) .me)) i (s .call) what fair in
       let same : result ties (run.run ties (groupOf h) (entriesOf before f)) (entry member issued (after h before) s fair) ≡ perform ties (run.validate i) log (node l) =
       λ j. perform ties (is j) (e .logs j) (e .nodes (s .who) j) in
-      agreement-of.validates is (subst IsAccepted (sym same) (is-accepted issued log i l (s .left) (s .number) said (s .call) what r))
+      agreement-of.validates is (subst IsAccepted (sym same) (is-accepted issued log (ruleOf (after h before .at (s .who) .me)) i l (s .left) (s .number) said (s .call) what r))
   valid i before s f fair r (acknowledges d t out) said =
       let e = match before f in
       let n = laptop h before (s .who) in
       let log = after h before .log in
-      let a = action issued log (s .call) fair in
+      let a = action issued log (ruleOf (after h before .at (s .who) .me)) (s .call) fair in
       let k = call-last n i t log issued (s .call) fair d out in
       let same : result ties (run.run ties (groupOf h) (entriesOf before f)) (entry member issued (after h before) s fair) ≡ perform ties a log n =
       λ j. perform ties a (e .logs j) (e .nodes (s .who) j) in
@@ -530,7 +545,7 @@ module _ (member : ℕ → Bool) (count : ℕ) (issued : ℕ → ℕ) (h : Hut) 
   lasting : (i m : ℕ) (before rest : List Turn) (s : Turn) (f : Follows member issued h (before ++ s ∷ rest)) → i < count → member m ≡ true
       → Finishes (laptop h before (s .who)) i (s .call) → s .number ≡ 0
       → Sees (laptop h before (s .who)) m → Shows (laptop h (before ++ s ∷ rest) m) i
-      → NotAfter ties (recordOf i (laptop h before (s .who)) .timestamp) (recordOf i (laptop h (before ++ s ∷ rest) m) .timestamp)
+      → NotAfter (under ties settings) (recordOf i (laptop h before (s .who)) .timestamp) (recordOf i (laptop h (before ++ s ∷ rest) m) .timestamp)
   unfolding entries
   lasting i m before rest s f l mm what said sees shows =
       let f1 = first-part member issued h before (s ∷ rest) f in
@@ -542,11 +557,11 @@ module _ (member : ℕ → Bool) (count : ℕ) (issued : ℕ → ℕ) (h : Hut) 
       (both-parts member issued h before (s ∷ rest) f) (valid i before s f1 (f2 .1) (f2 .2) what said) (rw p sees) (rw q shows) in
       rw (p, q) at kept
 
-  agreeing : (turns : List Turn) → Follows member issued h turns → CallsAgree member count h turns
+  agreeing : (turns : List Turn) → Follows member issued h turns → CallsAgree member count settings h turns
   agreeing turns f = record {
     alike = alike turns f;
     lasting = λ i m before rest s l mm e what said sees shows.
-        subst (λ (all : List Turn). NotAfter ties (recordOf i (laptop h before (s .who)) .timestamp) (recordOf i (laptop h all m) .timestamp)) (sym e)
+        subst (λ (all : List Turn). NotAfter (under ties settings) (recordOf i (laptop h before (s .who)) .timestamp) (recordOf i (laptop h all m) .timestamp)) (sym e)
         (lasting i m before rest s (subst (Follows member issued h) e f) l mm what said sees (subst (λ (all : List Turn). Shows (laptop h all m) i) e shows));
   }
 

@@ -15,17 +15,20 @@ use Rattle.hermes_record.specs.declared.record.Record.{Record}
 use Rattle.hermes.specs.declared.message.Message.{Message}
 use Rattle.hermes.specs.declared.message.Message.the-variants.{Inv, Ack, Val}
 use Rattle.hermes.specs.declared.event.Replica.{Replica}
+use Rattle.hermes.specs.declared.event.Settings.{Settings}
 use Rattle.hermes.specs.declared.event.Event.{Event}
 use Rattle.hermes.specs.declared.event.Event.the-variants.{Read, Ask, Write, Commit, Replay, Deliver, Validate, Resend}
-use Rattle.hermes_record.specs.Order.{ties, later, sameTimestamp, NotAfter, equal, rises}
+use Rattle.hermes_record.specs.Order.{TieOrder, ties, later, sameTimestamp, NotAfter, equal, rises}
 use Rattle.hermes_record.proofs.Tests.{both}
-use Rattle.hermes_record.proofs.Order.{higher-order, same-equal, greater-later, later-apart, notAfter-trans, notAfter-antisym}
+use Rattle.hermes_record.proofs.Order.{ties-order, same-equal, greater-later, later-apart, notAfter-trans, notAfter-antisym}
 use Rattle.hermes.specs.Guards.{AllYes, question9}
 use Rattle.hermes.specs.Kind as kind
 use Rattle.hermes.specs.Store.{slot, valueAt}
-use Rattle.hermes.specs.Event.{Stored, kept, Step, own, step, writeStep, deliverStep, invStep, ackStep, completes}
+use Rattle.hermes.specs.Settings.{under}
+use Rattle.hermes.specs.Event.{Stored, kept, Step, own, step, writeStep, deliverStep, invStep, ackStep, completes, numberOf}
 use Rattle.hermes.specs.Node.{Node, Outcome, recordOf, apply, viewed}
 use Rattle.hermes.specs.Frame.{bytesAfter, Changed}
+use Rattle.hermes.proofs.Frame.{view-frame}
 use Rattle.hermes.proofs.Guards.{slot-fits}
 use Rattle.hermes.proofs.Steps.{next-version}
 use Rattle.hermes.proofs.Store.{slot-elsewhere, value-slot}
@@ -52,25 +55,36 @@ use Rattle.check_air.proofs.Answered.{own-length}
 
 -- ---- one record, from one laptop to what became of it
 
--- its timestamp never goes back, and as long as it is the same so are length and bytes
+-- the order of ties of a laptop's group
+abbrev order : Node → ℕ → ℕ → Bool
+order n = under ties (n .me .settings)
+
+-- its timestamp never goes back, by the rule that stays, and as long as it is the same so are length and bytes
 record Since (i : ℕ) (n m : Node) : Type 0 where
-  up : NotAfter ties (recordOf i n .timestamp) (recordOf i m .timestamp)
+  fixed : m .me .settings ≡ n .me .settings
+  up : NotAfter (order n) (recordOf i n .timestamp) (recordOf i m .timestamp)
   text : recordOf i n .timestamp ≡ recordOf i m .timestamp → (recordOf i m .len ≡ recordOf i n .len) × (slot i (m .store) ≡ slot i (n .store))
 
 module _ (i : ℕ) where
-  stays : (n m : Node) → recordOf i m .timestamp ≡ recordOf i n .timestamp → recordOf i m .len ≡ recordOf i n .len → slot i (m .store) ≡ slot i (n .store) → Since i n m
-  stays n m t l b = record { up = equal (sym t); text = λ e. (l, b) }
+  stays : (n m : Node) → m .me .settings ≡ n .me .settings → recordOf i m .timestamp ≡ recordOf i n .timestamp → recordOf i m .len ≡ recordOf i n .len → slot i (m .store) ≡ slot i (n .store) → Since i n m
+  stays n m s t l b = record { fixed = s; up = equal (sym t); text = λ e. (l, b) }
 
   since-refl : (n : Node) → Since i n n
-  since-refl n = stays n n refl refl refl
+  since-refl n = stays n n refl refl refl refl
 
   since-trans : (n m o : Node) → Since i n m → Since i m o → Since i n o
-  since-trans n m o p q = record { up = notAfter-trans ties higher-order (p .up) (q .up); text = text }
+  since-trans n m o p q = record { fixed = q .fixed ∙ p .fixed; up = notAfter-trans (order n) ord (p .up) on; text = text }
     where
+      ord : TieOrder (order n)
+      ord = ties-order (n .me .settings .rule)
+
+      on : NotAfter (order n) (recordOf i m .timestamp) (recordOf i o .timestamp)
+      on = subst (λ (x : Settings). NotAfter (under ties x) (recordOf i m .timestamp) (recordOf i o .timestamp)) (p .fixed) (q .up)
+
       text : recordOf i n .timestamp ≡ recordOf i o .timestamp → (recordOf i o .len ≡ recordOf i n .len) × (slot i (o .store) ≡ slot i (n .store))
       text e =
-          let back : NotAfter ties (recordOf i m .timestamp) (recordOf i n .timestamp) = subst (λ (t : Timestamp). NotAfter ties (recordOf i m .timestamp) t) (sym e) (q .up) in
-          let here = notAfter-antisym ties higher-order (p .up) back in
+          let back : NotAfter (order n) (recordOf i m .timestamp) (recordOf i n .timestamp) = subst (λ (t : Timestamp). NotAfter (order n) (recordOf i m .timestamp) t) (sym e) on in
+          let here = notAfter-antisym (order n) ord (p .up) back in
           let (l, b) = p .text here in
           let (l′, b′) = q .text (sym here ∙ e) in
           (l′ ∙ l, b′ ∙ b)
@@ -81,30 +95,30 @@ module _ (i : ℕ) where
 abbrev Keeps : Record → Step → Type 0
 Keeps r s = (s .after .timestamp ≡ r .timestamp) × (s .after .len ≡ r .len) × (s .stored ≡ kept)
 
-abbrev KeepsOrRises : Record → Step → Type 0
-KeepsOrRises r s = Keeps r s ⊎ (later ties (s .after .timestamp) (r .timestamp) ≡ true)
+abbrev KeepsOrRises : Replica → Record → Step → Type 0
+KeepsOrRises me r s = Keeps r s ⊎ (later (under ties (me .settings)) (s .after .timestamp) (r .timestamp) ≡ true)
 
 module _ (me : Replica) (k : ℕ) (r : Record) (v : List ℕ) where
-  delivered : (sender : ℕ) (m : Message) → KeepsOrRises r (deliverStep ties me k r sender m v)
-  delivered sender (Inv t) = go (later ties t (r .timestamp)) refl
+  delivered : (sender : ℕ) (m : Message) → KeepsOrRises me r (deliverStep ties me k r sender m v)
+  delivered sender (Inv t) = go (later (under ties (me .settings)) t (r .timestamp)) refl
     where
-      go : (g : Bool) → later ties t (r .timestamp) ≡ g → KeepsOrRises r (invStep g me k r t sender v)
+      go : (g : Bool) → later (under ties (me .settings)) t (r .timestamp) ≡ g → KeepsOrRises me r (invStep g me k r t sender v)
       go true g = inr g
       go false g = inl (refl, refl, refl)
   delivered sender (Ack t) = go (completes me r sender)
     where
-      go : (c : Bool) → KeepsOrRises r (ackStep c me k r sender)
+      go : (c : Bool) → KeepsOrRises me r (ackStep c me k r sender)
       go true = inl (refl, refl, refl)
       go false = inl (refl, refl, refl)
   delivered sender (Val t) = inl (refl, refl, refl)
 
   -- a write's step, below the greatest version
-  raised : question9 r .yes ≡ true → KeepsOrRises r (writeStep me k r v)
+  raised : question9 r .yes ≡ true → KeepsOrRises me r (writeStep me k r v)
   raised h =
       let more = next-version (r .timestamp .version) h in
-      inr (greater-later ties (writeStep me k r v .after .timestamp) (r .timestamp) (inl (omega (arith, more))))
+      inr (greater-later (under ties (me .settings)) (writeStep me k r v .after .timestamp) (r .timestamp) (inl (omega (arith, more))))
 
-  steps : (e : Event) → AllYes (own me r e (length v)) → KeepsOrRises r (step ties me k r e v)
+  steps : (e : Event) → AllYes (own me r e (length v)) → KeepsOrRises me r (step ties me k r e v)
   steps Read y = inl (refl, refl, refl)
   steps Ask y = inl (refl, refl, refl)
   steps Write y = raised (y .1 .1 .0)
@@ -121,12 +135,12 @@ event-since i n k e v = go (apply ties n k e v) (applied ties n k e v)
     s : Step
     s = stepOf ties n k e v
 
-    here : Changed k s n (done n k s) → KeepsOrRises (recordOf k n) s → Since k n (done n k s)
+    here : Changed k s n (done n k s) → KeepsOrRises (n .me) (recordOf k n) s → Since k n (done n k s)
     here c (inl (t, l, b)) =
-        stays k n (done n k s) (ap (λ (r : Record). r .timestamp) (c .here) ∙ t) (ap (λ (r : Record). r .len) (c .here) ∙ l) (c .bytes ∙ ap (λ (x : Stored). bytesAfter x (slot k (n .store))) b)
+        stays k n (done n k s) refl (ap (λ (r : Record). r .timestamp) (c .here) ∙ t) (ap (λ (r : Record). r .len) (c .here) ∙ l) (c .bytes ∙ ap (λ (x : Stored). bytesAfter x (slot k (n .store))) b)
     here c (inr g) =
-        let up : later ties (recordOf k (done n k s) .timestamp) (recordOf k n .timestamp) ≡ true = rw (c .here) g in
-        record { up = rises up; text = λ same. absurd (later-apart ties higher-order _ _ up same) }
+        let up : later (order n) (recordOf k (done n k s) .timestamp) (recordOf k n .timestamp) ≡ true = rw (c .here) g in
+        record { fixed = refl; up = rises up; text = λ same. absurd (later-apart (order n) (ties-order (n .me .settings .rule)) _ _ up same) }
 
     go : (o : Outcome) → Applied ties n k e v o → Since i n (o .node)
     go o (refused z q p) = rw p (since-refl i n)
@@ -137,8 +151,16 @@ event-since i n k e v = go (apply ties n k e v) (applied ties n k e v)
         at (no d) =
             let room : 192 * k ≤ length (n .store) = omega (arith, slot-fits (first-five n k e v y)) in
             let other = c .others i d in
-            stays i n (done n k s) (ap (λ (r : Record). r .timestamp) other) (ap (λ (r : Record). r .len) other)
+            stays i n (done n k s) refl (ap (λ (r : Record). r .timestamp) other) (ap (λ (r : Record). r .len) other)
             (slot-elsewhere k (done n k s .store) (n .store) (omega (arith, c .room)) room (c .before) (c .behind) i d)
+
+-- a change of view leaves the settings
+view-fixes : (n : Node) (epoch set : ℕ) → viewed n epoch set .node .me .settings ≡ n .me .settings
+view-fixes n epoch set = go (ℕ-discrete (numberOf (viewed n epoch set .answer)) 0)
+  where
+    go : Dec (numberOf (viewed n epoch set .answer) ≡ 0) → viewed n epoch set .node .me .settings ≡ n .me .settings
+    go (yes e) = ap (λ (x : Node). x .me .settings) (view-frame n epoch set .accepted e)
+    go (no d) = ap (λ (x : Node). x .me .settings) (view-frame n epoch set .refused d)
 
 -- ---- a call, and a list of calls
 
@@ -159,11 +181,11 @@ module _ (i : ℕ) where
   call-since (commit k version tie v) n = event-since i n k (Commit (record { version = version; tie = tie })) v
   call-since (replay k) n = event-since i n k Replay []
   call-since (deliver k m v) n = event-since i n k (Deliver (receivedIn m)) v
-  call-since (deliverPacket p k) n = receipt-since n p (fetched p k)
+  call-since (deliverPacket p k) n = receipt-since n p (fetched (n .me .settings .rule) p k)
   call-since (deliverAccepted p a k) n = taken-since n p (taken p (acceptedIn a) k)
   call-since (validate k) n = event-since i n k Validate []
   call-since (resend k) n = event-since i n k Resend []
-  call-since (view epoch set) n = stays i n _ refl refl refl
+  call-since (view epoch set) n = stays i n _ (view-fixes n epoch set) refl refl refl
 
   module _ (k : ℕ) where
     turn-since : (h : Hut) (s : Turn) → Returns (s .call) (h .at (s .who)) (s .number) (s .left) → Since i (node (h .at k)) (node (next h s .at k))

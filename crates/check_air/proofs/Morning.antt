@@ -8,7 +8,9 @@ use native.Mathlib.Omega.{arith}
 use lib.ListN.{length, take, drop, replicate}
 use borrow.Author.Tests.{ltb-true}
 use Rattle.hermes_record.specs.Members.{has, size, lowest, within, othersIn, with}
+use Rattle.hermes_record.specs.declared.timestamp.Rule.the-variants.{Higher, Lower}
 use Rattle.hermes_record.specs.Order.{ties, later, sameTimestamp}
+use Rattle.hermes.specs.Settings.{under, newSettings}
 use Rattle.hermes_record.proofs.Tests as tests
 use Rattle.hermes.specs.Store.{padded, place}
 use Rattle.hermes.specs.Event.{refusal, effect, askStamp, askHands}
@@ -35,7 +37,8 @@ use Rattle.export_packets.specs.Calls.{acceptAnswer, packAnswer}
 use Rattle.check_air.specs.Air.{Sending, wordsSent, bodiesSent, Leaves, Called, Packed}
 use Rattle.check_air.specs.Callers.{Laptop, node, laptop, Broken, Untaken, AsNumbers, Begun, AllBegun, Hut, Fair, Follows, FromAir, next, after, validates, acknowledges}
 use Rattle.check_air.specs.Callers as callers
-use Rattle.check_air.specs.Morning.{val, valNumbers, inv2, ack2, val2, three, issued, lentTable, lentStore, fresh, hut, inv, ack, packetOf, Plan, turn, plans, turnsOf, morning, a1, asking, committing, by, Morning}
+use Rattle.export_accepted.specs.OnePass.{ruleOf}
+use Rattle.check_air.specs.Morning.{val, valNumbers, inv2, ack2, val2, three, issued, lentTable, lentStore, fresh, hut, inv, ack, packetBy, packetOf, Plan, turn, plans, turnsOf, morning, a1, asking, committing, by, Morning}
 use Rattle.check_air.specs.Answered.{askAnswer, afterEvent, afterCall}
 use Rattle.check_air.specs.Opened as callers-opened
 use Rattle.check_air.specs.Opened.{Hands, CallsApart, CallsOpened}
@@ -44,13 +47,13 @@ use Rattle.check_air.proofs.Opened.{called-asking}
 use Rattle.check_air.proofs.Answered.{after-table, asks, every-call-answers}
 
 abbrev admitted : ℕ → CetskobiAdmission
-admitted k = record { number = 0; replica = identityOf (newcomer k 7) }
+admitted k = record { number = 0; replica = identityOf (newcomer k 7 newSettings) }
 
-begins : (k : ℕ) → three k ≡ true → Begun 1 issued k (fresh k)
+begins : (k : ℕ) → three k ≡ true → Begun 1 issued newSettings k (fresh k)
 unfolding start has size lowest decode tableOf
-begins zero e = record { table = lentTable; store = lentStore; records = refl; admission = admitted 0; started = record { admission = refl; bytes = refl; table = refl; store = refl }; accepted = refl; identity = refl }
-begins (suc zero) e = record { table = lentTable; store = lentStore; records = refl; admission = admitted 1; started = record { admission = refl; bytes = refl; table = refl; store = refl }; accepted = refl; identity = refl }
-begins (suc (suc zero)) e = record { table = lentTable; store = lentStore; records = refl; admission = admitted 2; started = record { admission = refl; bytes = refl; table = refl; store = refl }; accepted = refl; identity = refl }
+begins zero e = record { given = record { rule = 2 }; fixed = refl; table = lentTable; store = lentStore; records = refl; admission = admitted 0; started = record { admission = refl; bytes = refl; table = refl; store = refl }; accepted = refl; identity = refl }
+begins (suc zero) e = record { given = record { rule = 2 }; fixed = refl; table = lentTable; store = lentStore; records = refl; admission = admitted 1; started = record { admission = refl; bytes = refl; table = refl; store = refl }; accepted = refl; identity = refl }
+begins (suc (suc zero)) e = record { given = record { rule = 2 }; fixed = refl; table = lentTable; store = lentStore; records = refl; admission = admitted 2; started = record { admission = refl; bytes = refl; table = refl; store = refl }; accepted = refl; identity = refl }
 begins (suc (suc (suc k))) e = absurd (omega (arith, ltb-true (suc (suc (suc k))) 3 e))
 
 -- the messages that left, as the run of a group logs them
@@ -118,26 +121,26 @@ unfolding has size lowest within othersIn with later sameTimestamp padded place 
 called-val = call valLogged val struck Validate [] (record { who = refl; answer = refl; bytes = refl; there = refl; leaves = refl })
 
 -- packed together
-packs : (ss : List Sending) → packAnswer (wordsSent ss) (bodiesSent ss) (replicate 60 0) .number ≡ 0 → Packed ss (packetOf ss)
+packs : (ss : List Sending) → packAnswer (wordsSent ss) (bodiesSent ss) (replicate 60 0) .number ≡ 0 → Packed Lower ss (packetOf ss)
 packs ss e = record { out = replicate 60 0; accepted = e; front = refl }
 
-inv-packed : Packed (inv ∷ inv ∷ []) (packetOf (inv ∷ inv ∷ []))
+inv-packed : Packed Lower (inv ∷ inv ∷ []) (packetOf (inv ∷ inv ∷ []))
 unfolding has size lowest within othersIn with later sameTimestamp padded place refusal effect start apply view viewed good entryBytes walk fetchRefusal fetched acceptRefusal accepted takeRefusal taken summed contents packetBytes allGood writeRefusal packetWritten outputOf entryIn wordMessages receipt decode tableOf
 inv-packed = packs (inv ∷ inv ∷ []) refl
 
-ack-packed : Packed (inv ∷ ack ∷ []) (packetOf (inv ∷ ack ∷ []))
+ack-packed : Packed Lower (inv ∷ ack ∷ []) (packetOf (inv ∷ ack ∷ []))
 unfolding has size lowest within othersIn with later sameTimestamp padded place refusal effect start apply view viewed good entryBytes walk fetchRefusal fetched acceptRefusal accepted takeRefusal taken summed contents packetBytes allGood writeRefusal packetWritten outputOf entryIn wordMessages receipt decode tableOf
 ack-packed = packs (inv ∷ ack ∷ []) refl
 
-val-packed : Packed (val ∷ []) (packetOf (val ∷ []))
+val-packed : Packed Lower (val ∷ []) (packetOf (val ∷ []))
 unfolding has size lowest within othersIn with later sameTimestamp padded place refusal effect start apply view viewed good entryBytes walk fetchRefusal fetched acceptRefusal accepted takeRefusal taken summed contents packetBytes allGood writeRefusal packetWritten outputOf entryIn wordMessages receipt decode tableOf
 val-packed = packs (val ∷ []) refl
 
 -- what a delivery rests on: the three messages in their packets, the VAL as numbers, a broken packet
-inv-came : FromAir (invLogged ∷ []) (packetOf (inv ∷ inv ∷ [])) 0
+inv-came : FromAir Lower (invLogged ∷ []) (packetOf (inv ∷ inv ∷ [])) 0
 inv-came = record { message = invLogged; earlier = List·Memᴰ·head refl; sending = inv; called = called-inv; before = []; after = inv ∷ []; packed = inv-packed; place = refl }
 
-ack-came : FromAir (invLogged ∷ ackLogged ∷ []) (packetOf (inv ∷ ack ∷ [])) 1
+ack-came : FromAir Lower (invLogged ∷ ackLogged ∷ []) (packetOf (inv ∷ ack ∷ [])) 1
 ack-came = record {
   message = ackLogged;
   earlier = List·Memᴰ·tail (List·Memᴰ·head refl);
@@ -159,7 +162,7 @@ fifth m = List·Memᴰ·tail (List·Memᴰ·tail (List·Memᴰ·tail (List·Mem�
 val-earlier : List·Memᴰ valLogged log
 val-earlier = List·Memᴰ·tail (List·Memᴰ·tail (List·Memᴰ·head refl))
 
-val-came : FromAir log (packetOf (val ∷ [])) 0
+val-came : FromAir Lower log (packetOf (val ∷ [])) 0
 val-came = record { message = valLogged; earlier = val-earlier; sending = val; called = called-val; before = []; after = []; packed = val-packed; place = refl }
 
 val-numbers : AsNumbers log 0 valNumbers []
@@ -175,18 +178,22 @@ ack2-numbers = record { message = ack2Logged; earlier = fifth (List·Memᴰ·tai
 val2-numbers : AsNumbers (invLogged ∷ ackLogged ∷ valLogged ∷ valLogged ∷ inv2Logged ∷ ack2Logged ∷ val2Logged ∷ []) 0 val2 []
 val2-numbers = record { message = val2Logged; earlier = fifth (List·Memᴰ·tail (List·Memᴰ·tail (List·Memᴰ·head refl))); index = refl; same = refl; bytes = refl }
 
-broken : Broken (1 ∷ 1 ∷ 0 ∷ []) 0
+broken : Broken Lower (1 ∷ 1 ∷ 0 ∷ []) 0
 unfolding fetched fetchRefusal walk
 broken = record { number = 20; refused = refl }
 
-untaken : Untaken (1 ∷ 1 ∷ 0 ∷ []) (acceptAnswer (packetOf (inv ∷ inv ∷ []))) 0
+of-others : Broken Lower (packetBy Higher (inv ∷ [])) 0
+unfolding good entryBytes walk fetched fetchRefusal summed contents packetBytes allGood writeRefusal packetWritten outputOf entryIn wordMessages
+of-others = record { number = 27; refused = refl }
+
+untaken : Untaken (1 ∷ 1 ∷ 0 ∷ []) (acceptAnswer Lower (packetOf (inv ∷ inv ∷ []))) 0
 unfolding good entryBytes walk accepted acceptRefusal taken takeRefusal summed contents packetBytes allGood writeRefusal packetWritten outputOf entryIn wordMessages
 untaken = record { number = 21; refused = refl }
 
 -- each call is answered as its function's contract has it, so that it is enough that each is fair and a laptop's of the group
 abbrev AllFair : Hut → List Plan → Type 0
 AllFair h [] = Unit
-AllFair h (t ∷ rest) = Fair issued (h .log) (t .call) × AllFair (next h (turn h t)) rest
+AllFair h (t ∷ rest) = Fair issued (h .log) (ruleOf (h .at (t .who) .me)) (t .call) × AllFair (next h (turn h t)) rest
 
 members : List Plan → Bool
 members [] = true
@@ -201,13 +208,13 @@ follow h (t ∷ rest) m (fair, f) =
 fair : AllFair hut plans
 unfolding has size lowest within othersIn with later sameTimestamp padded place refusal effect start apply view viewed good entryBytes walk fetchRefusal fetched acceptRefusal accepted takeRefusal taken summed contents packetBytes allGood writeRefusal packetWritten outputOf entryIn wordMessages receipt decode tableOf
 fair =
-    (tt, (tt, (tt, (tt, (inl inv-came, (inr broken, (inr untaken, (tt, (inl ack-came, (tt, (refl, (tt, (tt, (tt, (refl, (refl, (inl val-came, (inl val-numbers, (inr refl, (tt, (tt, (tt, (tt, (tt, (tt, (inl inv2-numbers, (inl ack2-numbers, (inl val2-numbers, (tt, tt)))))))))))))))))))))))))))))
+    (tt, (tt, (tt, (tt, (inl inv-came, (inr broken, (inr untaken, (tt, (inl (Lower, ack-came), (tt, (refl, (tt, (tt, (tt, (refl, (refl, (inl (Lower, val-came), (inl val-numbers, (inr refl, (tt, (tt, (tt, (tt, (tt, (tt, (inl inv2-numbers, (inl ack2-numbers, (inl val2-numbers, (tt, (inr of-others, tt))))))))))))))))))))))))))))))
 
 followed : Follows three issued hut morning
 unfolding members
 followed = follow hut plans refl fair
 
-begun : AllBegun three 1 issued hut
+begun : AllBegun three 1 issued newSettings hut
 begun = record { fresh = begins; silent = refl }
 
 -- 1 as its ask finds it, and what that answers
@@ -235,14 +242,14 @@ rereads : CallsApart morning (take 19 morning) [] asking (turn (after hut (take 
 unfolding has size lowest within othersIn with later sameTimestamp padded place refusal effect askStamp askHands start apply view viewed good entryBytes walk fetchRefusal fetched acceptRefusal accepted takeRefusal taken summed contents packetBytes allGood writeRefusal packetWritten outputOf entryIn wordMessages receipt decode tableOf
 rereads = record { rest = drop 21 morning; split = refl; one = refl }
 
-opened : CallsOpened hut morning
-opened = called-asking three 1 issued hut begun morning followed
+opened : CallsOpened newSettings hut morning
+opened = called-asking three 1 issued newSettings hut begun morning followed
 
 kept : (recordOf 0 (laptop hut (take 22 morning) 1) .timestamp ≡ a1) × Shows (laptop hut (take 22 morning) 1) 0 × Alike 0 (laptop hut (take 22 morning) 1) (laptop hut (take 19 morning) 1)
 unfolding has size lowest within othersIn with later sameTimestamp padded place refusal effect askStamp askHands start apply view viewed good entryBytes walk fetchRefusal fetched acceptRefusal accepted takeRefusal taken summed contents packetBytes allGood writeRefusal packetWritten outputOf entryIn wordMessages receipt decode tableOf
 kept = opened .kept 0 (take 19 morning) (take 2 (drop 20 morning)) asking (committing 22) saves a1 (65 ∷ 49 ∷ []) (66 ∷ []) asked refl refl (take 2 (drop 20 morning)) [] refl
 
-newer : later ties (recordOf 0 (laptop hut (take 24 morning) 1) .timestamp) a1 ≡ true
+newer : later (under ties newSettings) (recordOf 0 (laptop hut (take 24 morning) 1) .timestamp) a1 ≡ true
 unfolding has size lowest within othersIn with later sameTimestamp padded place refusal effect askStamp askHands start apply view viewed good entryBytes walk fetchRefusal fetched acceptRefusal accepted takeRefusal taken summed contents packetBytes allGood writeRefusal packetWritten outputOf entryIn wordMessages receipt decode tableOf
 newer = opened .newer 0 (take 19 morning) (take 4 (drop 20 morning)) asking (committing 24) late a1 (65 ∷ 49 ∷ []) (66 ∷ []) asked refl refl
 
@@ -255,7 +262,7 @@ unfolding has size lowest within othersIn with later sameTimestamp padded place 
 morning-holds = record {
   begun = begun;
   follows = followed;
-  agrees = called-demand3 three 1 issued hut begun morning followed;
+  agrees = called-demand3 three 1 issued newSettings hut begun morning followed;
   numbers = refl;
   sees = refl;
   seen = refl;

@@ -5,7 +5,9 @@ use mathlib.Core.Bool.{Bool, true}
 use mathlib.Core.List.{List, [], _∷_, _++_}
 use Rattle.hermes_record.specs.declared.timestamp.Timestamp.{Timestamp}
 use Rattle.hermes.specs.declared.event.Event.the-variants.{Read, Ask, Commit}
+use Rattle.hermes.specs.declared.event.Settings.{Settings}
 use Rattle.hermes_record.specs.Order.{ties, later, NotAfter}
+use Rattle.hermes.specs.Settings.{under}
 use Rattle.hermes.specs.Event.{numberOf}
 use Rattle.hermes.specs.Node as hermes
 use Rattle.hermes.specs.Node.{Node, apply, asked, recordOf}
@@ -17,6 +19,7 @@ use Rattle.hermes.specs.Asking.{Still, HandsOut, Apart, Opened}
 use Rattle.hermes.proofs.Agreement.{run-append}
 use Rattle.hermes.proofs.Asking.{asking}
 use Rattle.export_numbers.specs.declared.numbers.CetskobiAnswer.{CetskobiAnswer}
+use Rattle.export_accepted.specs.OnePass.{ruleOf}
 use Rattle.check_air.specs.Callers.{Laptop, node, Call, commit, Returns, Hut, Turn, next, after, Follows, AllBegun, laptop}
 use Rattle.check_air.specs.Opened.{Hands, asks, reads, CallsApart, CalledAsking}
 use Rattle.check_air.proofs.Callers.{action, Match, number-out, is-read, is-ask, is-commit, entry, turn-matches, entries, first-entry, are-entries, matches, first-part, second-part, both-parts, groupOf, started, match}
@@ -55,21 +58,21 @@ module _ (member : ℕ → Bool) (issued : ℕ → ℕ) (g : Group) (h : Hut) (m
   hands i t text (asks p c d z e b) = asking-of.asks is (subst IsAccepted (sym (entry-does (run.ask i) is)) (sym (d .number) ∙ z)) out
     where
       is : a .what ≡ run.ask i
-      is = is-ask issued (h .log) i (s .call) c (f .1)
+      is = is-ask issued (h .log) (ruleOf (h .at (s .who) .me)) i (s .call) c (f .1)
 
       out : asked (g .at (s .who)) i ≡ record { part = text; timestamp = t }
       out = ap (λ (x : Node). asked x i) (m .nodes (s .who)) ∙ λ j. record { part = (sym (d .part .part) ∙ b) j; timestamp = ((λ k. record { version = sym (d .version) k; tie = sym (d .tie) k }) ∙ e) j }
   hands i t text (reads p c d z e b) = asking-of.reads is (subst IsAccepted (sym (entry-does (run.read i) is)) (sym (d .number) ∙ z)) out (ap (λ (x : Node). recordOf i x .timestamp) (m .nodes (s .who)) ∙ e)
     where
       is : a .what ≡ run.read i
-      is = is-read issued (h .log) i (s .call) c (f .1)
+      is = is-read issued (h .log) (ruleOf (h .at (s .who) .me)) i (s .call) c (f .1)
 
       out : hermes.read (g .at (s .who)) i ≡ text
       out = ap (λ (x : Node). hermes.read x i) (m .nodes (s .who)) ∙ sym (d .part .part) ∙ b
 
 -- ---- two calls of one laptop, and those between
 
-module _ (member : ℕ → Bool) (count : ℕ) (issued : ℕ → ℕ) (h : Hut) (begun : AllBegun member count issued h) (before upto beyond rest : List Turn) (s c : Turn)
+module _ (member : ℕ → Bool) (count : ℕ) (issued : ℕ → ℕ) (settings : Settings) (h : Hut) (begun : AllBegun member count issued settings h) (before upto beyond rest : List Turn) (s c : Turn)
     (f : Follows member issued h (before ++ s ∷ ((upto ++ beyond) ++ c ∷ rest))) (one : s .who ≡ c .who) where
   -- the group at the first, after it, and at the second
   abbrev h1 : Hut
@@ -113,8 +116,8 @@ module _ (member : ℕ → Bool) (count : ℕ) (issued : ℕ → ℕ) (h : Hut) 
   abbrev atSecond : Group
   atSecond = run.run ties (groupOf h) (e1 ++ first ∷ entries-after (upto ++ beyond) between)
 
-  claim : Opened ties (groupOf h) (entries member issued h (before ++ s ∷ ((upto ++ beyond) ++ c ∷ rest)) f)
-  claim = asking member count issued (groupOf h) (started member count issued h begun) _ (are-entries member issued h (before ++ s ∷ ((upto ++ beyond) ++ c ∷ rest)) f)
+  claim : Opened ties settings (groupOf h) (entries member issued h (before ++ s ∷ ((upto ++ beyond) ++ c ∷ rest)) f)
+  claim = asking member count issued settings (groupOf h) (started member count issued settings h begun) _ (are-entries member issued h (before ++ s ∷ ((upto ++ beyond) ++ c ∷ rest)) f)
 
   apart : Apart (entries member issued h (before ++ s ∷ ((upto ++ beyond) ++ c ∷ rest)) f) e1 (entries-after (upto ++ beyond) between) first second
   unfolding f1 f2 f3 between
@@ -129,7 +132,7 @@ module _ (member : ℕ → Bool) (count : ℕ) (issued : ℕ → ℕ) (h : Hut) 
   }
 
   here : Match atFirst h1
-  here = match member count issued h begun before f1
+  here = match member count issued settings h begun before f1
 
   there : (turns : List Turn) (g : Follows member issued h2 turns) → Match (run.run ties (groupOf h) (e1 ++ first ∷ entries-after turns g)) (after h2 turns)
   there turns g = subst (λ x. Match x (after h2 turns)) (sym (run-append ties (groupOf h) e1 (first ∷ entries-after turns g)))
@@ -148,13 +151,13 @@ module _ (member : ℕ → Bool) (count : ℕ) (issued : ℕ → ℕ) (h : Hut) 
       (subst (λ (n : Node). Hands n (c .call) i t text) (sym (later-laptop (upto ++ beyond) (c .who))) x)
 
   forward-here : (i : ℕ) (t u : Timestamp) (one′ other : List ℕ) → Hands (laptop h before (s .who)) (s .call) i t one′ → Hands (laptop h (before ++ s ∷ (upto ++ beyond)) (c .who)) (c .call) i u other
-      → NotAfter ties t u × (t ≡ u → one′ ≡ other)
+      → NotAfter (under ties settings) t u × (t ≡ u → one′ ≡ other)
   forward-here i t u one′ other x y = claim .forward i e1 (entries-after (upto ++ beyond) between) first second apart t u one′ other (hands-first i t one′ x) (hands-second i u other y)
 
   -- a commit of what the first handed out
   module _ (i : ℕ) (t : Timestamp) (text v : List ℕ) (x : Hands (laptop h before (s .who)) (s .call) i t text) (commits : c .call ≡ commit i (t .version) (t .tie) v) where
     is : second .what ≡ run.commit i t v
-    is = is-commit issued (h3 .log) i (t .version) (t .tie) v (c .call) commits (f3 .1)
+    is = is-commit issued (h3 .log) (ruleOf (h3 .at (c .who) .me)) i (t .version) (t .tie) v (c .call) commits (f3 .1)
 
     -- its entry answers what the call did
     committed : (number : ℕ) → c .number ≡ number → asking-of.RefusedBy number (result ties atSecond second)
@@ -170,21 +173,21 @@ module _ (member : ℕ → Bool) (count : ℕ) (issued : ℕ → ℕ) (h : Hut) 
         (claim .kept i e1 (entries-after (upto ++ beyond) between) first second apart t text v (hands-first i t text x) is (accepted-of (result ties atSecond second) (committed 0 e))
         (entries-after upto g) (entries member issued (after h2 upto) beyond (second-part member issued h2 upto beyond between)) (both-parts member issued h2 upto beyond between)))
 
-    newer-here : c .number ≡ 26 → later ties (recordOf i (laptop h (before ++ s ∷ (upto ++ beyond)) (s .who)) .timestamp) t ≡ true
+    newer-here : c .number ≡ 26 → later (under ties settings) (recordOf i (laptop h (before ++ s ∷ (upto ++ beyond)) (s .who)) .timestamp) t ≡ true
     newer-here e =
-        subst (λ (y : Node). later ties (recordOf i y .timestamp) t ≡ true) (there (upto ++ beyond) between .nodes (s .who) ∙ later-laptop (upto ++ beyond) (s .who))
+        subst (λ (y : Node). later (under ties settings) (recordOf i y .timestamp) t ≡ true) (there (upto ++ beyond) between .nodes (s .who) ∙ later-laptop (upto ++ beyond) (s .who))
         (claim .newer i e1 (entries-after (upto ++ beyond) between) first second apart t text v (hands-first i t text x) is (committed 26 e))
 
 -- ---- the theorem
 
 pub called-asking : CalledAsking
-called-asking member count issued h begun turns f = record {
+called-asking member count issued settings h begun turns f = record {
   forward = λ i before between s c w t u first second x y.
-      forward-here member count issued h begun before [] between (w .rest) s c (subst (Follows member issued h) (w .split) f) (w .one) i t u first second x y;
+      forward-here member count issued settings h begun before [] between (w .rest) s c (subst (Follows member issued h) (w .split) f) (w .one) i t u first second x y;
   kept = λ i before between s c w t text v x k e upto beyond cut.
       let split : turns ≡ before ++ s ∷ ((upto ++ beyond) ++ c ∷ w .rest) = w .split ∙ ap (λ (y : List Turn). before ++ s ∷ (y ++ c ∷ w .rest)) cut in
-      let kept = still member count issued h begun before upto beyond (w .rest) s c (subst (Follows member issued h) split f) (w .one) i t text v x k e in
+      let kept = still member count issued settings h begun before upto beyond (w .rest) s c (subst (Follows member issued h) split f) (w .one) i t text v x k e in
       (kept .timestamp, kept .shows, kept .alike);
   newer = λ i before between s c w t text v x k e.
-      newer-here member count issued h begun before [] between (w .rest) s c (subst (Follows member issued h) (w .split) f) (w .one) i t text v x k e;
+      newer-here member count issued settings h begun before [] between (w .rest) s c (subst (Follows member issued h) (w .split) f) (w .one) i t text v x k e;
 }

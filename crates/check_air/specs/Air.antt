@@ -4,6 +4,7 @@ use Prim.Native.Nat.{ℕ, _*_}
 use mathlib.Core.Path.{_≡_}
 use mathlib.Core.List.{List, [], _∷_, _++_}
 use lib.ListN.{length, take, drop}
+use Rattle.hermes_record.specs.declared.timestamp.Rule.{Rule}
 use Rattle.hermes.specs.declared.event.Event.{Event}
 use Rattle.hermes.specs.declared.event.Event.the-variants.{Deliver}
 use Rattle.hermes_record.specs.Order.{ties}
@@ -20,6 +21,7 @@ use Rattle.export_arrival.specs.Arrival.{Arrived}
 use Rattle.packet_format.specs.Accepting.{accepted, taken}
 use Rattle.export_accepted.specs.declared.accepted.CetskobiArrival.{CetskobiArrival}
 use Rattle.export_accepted.specs.Arrival.{Came}
+use Rattle.export_accepted.specs.OnePass.{ruleOf}
 
 -- ---- what a caller packs
 
@@ -67,19 +69,19 @@ pub record Called (x : Logged) (s : Sending) : Type 0 where
   pub copied : s .body ≡ take told (drop (192 * s .index) store′)
   pub leaves : Leaves (nodeOf (s .from) table store) (s .index) event value x
 
--- The second: `cetskobi_pack` was called with an output, answered 0, and left the packet at its front.
-pub record Packed (ss : List Sending) (packet : List ℕ) : Type 0 where
+-- The second: `cetskobi_pack` was called with an output and the settings of a group with this rule, answered 0, and left the packet at its front.
+pub record Packed (rule : Rule) (ss : List Sending) (packet : List ℕ) : Type 0 where
   pub out : List ℕ
   pub accepted : packAnswer (wordsSent ss) (bodiesSent ss) out .number ≡ 0
-  pub front : packet ≡ take (packAnswer (wordsSent ss) (bodiesSent ss) out .len) (packOutput (wordsSent ss) (bodiesSent ss) out)
+  pub front : packet ≡ take (packAnswer (wordsSent ss) (bodiesSent ss) out .len) (packOutput rule (wordsSent ss) (bodiesSent ss) out)
 
--- The third: `cetskobi_deliver_packet`, of that message of the packet, is exactly the delivery of the message that left, with the bytes that it
--- left with.
+-- The third: `cetskobi_deliver_packet`, of that message of the packet, on a laptop of the same rule, is exactly the delivery of the message that
+-- left, with the bytes that it left with.
 abbrev pub ThroughTheAir : Type 0
-ThroughTheAir = (before after : List Sending) (s : Sending) (x : Logged) (packet : List ℕ)
-    → Called x s → Packed (before ++ s ∷ after) packet
-    → (me : CetskobiReplica) (table store table′ store′ : List ℕ) (a : CetskobiAnswer)
-    → Arrived (nodeOf me table store) table packet (fetched packet (length before)) a table′ store′
+ThroughTheAir = (before after : List Sending) (s : Sending) (x : Logged) (packet : List ℕ) (me : CetskobiReplica)
+    → Called x s → Packed (ruleOf me) (before ++ s ∷ after) packet
+    → (table store table′ store′ : List ℕ) (a : CetskobiAnswer)
+    → Arrived (nodeOf me table store) table packet (fetched (ruleOf me) packet (length before)) a table′ store′
     → Done (nodeOf me table store) table (x .header .index) (Deliver (received x)) (x .body) a table′ store′
 
 -- The same by the facts of the packet (02, Wish 4); and the arrival tells whose message left, of which epoch and about which record.
@@ -88,8 +90,8 @@ pub record CameThrough (x : Logged) (me : CetskobiReplica) (table store : List �
   pub tells : r ≡ record { answer = r .answer; epoch = x .header .epoch; sender = x .header .sender; index = x .header .index }
 
 abbrev pub AcceptedThroughTheAir : Type 0
-AcceptedThroughTheAir = (before after : List Sending) (s : Sending) (x : Logged) (packet : List ℕ)
-    → Called x s → Packed (before ++ s ∷ after) packet
-    → (me : CetskobiReplica) (table store table′ store′ : List ℕ) (r : CetskobiArrival)
-    → Came (nodeOf me table store) table packet (taken packet (accepted packet) (length before)) r table′ store′
+AcceptedThroughTheAir = (before after : List Sending) (s : Sending) (x : Logged) (packet : List ℕ) (me : CetskobiReplica)
+    → Called x s → Packed (ruleOf me) (before ++ s ∷ after) packet
+    → (table store table′ store′ : List ℕ) (r : CetskobiArrival)
+    → Came (nodeOf me table store) table packet (taken packet (accepted (ruleOf me) packet) (length before)) r table′ store′
     → CameThrough x me table store r table′ store′

@@ -3,9 +3,11 @@
 use Prim.Native.Nat.{ℕ}
 use mathlib.Core.Path.{_≡_}
 use mathlib.Core.Bool.{false}
+use mathlib.Core.Logic.{_≢_}
 use mathlib.Core.List.{List, []}
 use lib.ListN.{length}
 use Rattle.hermes_record.specs.declared.timestamp.Timestamp.{Timestamp}
+use Rattle.hermes_record.specs.declared.timestamp.Rule.{Rule}
 use Rattle.hermes.specs.declared.message.Message.the-variants.{Val}
 use Rattle.hermes.specs.declared.event.Event.{Event}
 use Rattle.hermes.specs.declared.event.Event.the-variants.{Write, Commit, Replay, Deliver, Validate, Resend}
@@ -14,7 +16,7 @@ use Rattle.hermes.specs.Kind.{known}
 use Rattle.hermes.specs.Event as event
 use Rattle.hermes.specs.Event.{send, sentBy}
 use Rattle.hermes.specs.Node as hermes
-use Rattle.hermes.specs.Node.{Node, apply, effectOf, identity}
+use Rattle.hermes.specs.Node.{Node, apply, effectOf}
 use Rattle.hermes.specs.Run.{Logged}
 use Rattle.packet_format.specs.declared.answer.Taken.{Taken}
 use Rattle.packet_format.specs.declared.answer.Taken.the-variants.{Entry, Refused}
@@ -24,11 +26,12 @@ use Rattle.packet_event.specs.Arrival.{receipt}
 use Rattle.export_storing.specs.Storing.{bytesAfter}
 use Rattle.export_numbers.specs.declared.numbers.CetskobiMessage.{CetskobiMessage}
 use Rattle.export_numbers.specs.declared.numbers.CetskobiAsked.{CetskobiAsked}
-use Rattle.export_numbers.specs.Crossing.{replicaOf, identityOf, receivedIn}
+use Rattle.export_numbers.specs.Crossing.{replicaOf, admissionOut, receivedIn}
 use Rattle.export_fields.specs.declared.answers.CetskobiAccepted.{CetskobiAccepted}
 use Rattle.export_fields.specs.Answers.{acceptedIn}
 use Rattle.export_packets.specs.Calls.{acceptAnswer}
 use Rattle.export_arrival.specs.Arrival.{numbersOf, bytesArrived}
+use Rattle.export_accepted.specs.OnePass.{ruleOf}
 use Rattle.check_air.specs.Callers.{Laptop, node, Call, read, ask, write, commit, replay, deliver, deliverPacket, deliverAccepted, validate, resend, view, Returns, outcome, FromAir, Broken, AsNumbers, Fair, Finishes}
 
 -- the number of the answer
@@ -67,39 +70,40 @@ afterCall (replay i) l = afterEvent l i Replay []
 afterCall (deliver i m v) l = afterEvent l i (Deliver (receivedIn m)) v
 afterCall (deliverPacket p i) l = record {
   me = l .me;
-  table = bytesArrived (node l) (l .table) p (fetched p i);
+  table = bytesArrived (node l) (l .table) p (fetched (ruleOf (l .me)) p i);
   store = receipt ties (node l) p i .node .store;
 }
 afterCall (deliverAccepted p a i) l = afterTaken l p (taken p (acceptedIn a) i)
 afterCall (validate i) l = afterEvent l i Validate []
 afterCall (resend i) l = afterEvent l i Resend []
 afterCall (view epoch set) l = record {
-  me = identityOf (identity (hermes.view (replicaOf (l .me)) epoch set) (replicaOf (l .me)));
+  me = admissionOut (hermes.view (replicaOf (l .me)) epoch set) (l .me) .replica;
   table = l .table;
   store = l .store;
 }
 
--- no call is forbidden that document 01 allows: after any messages every call may follow, a delivery of what left or of what is refused for
--- itself, a view as it is issued
-pub record AnyCall (issued : ℕ → ℕ) (log : List Logged) : Type 0 where
-  pub reads : (i : ℕ) → Fair issued log (read i)
-  pub asks : (i : ℕ) → Fair issued log (ask i)
-  pub writes : (i : ℕ) (v : List ℕ) → Fair issued log (write i v)
-  pub commits : (i version tie : ℕ) (v : List ℕ) → Fair issued log (commit i version tie v)
-  pub replays : (i : ℕ) → Fair issued log (replay i)
-  pub deliveries : (i : ℕ) (m : CetskobiMessage) (v : List ℕ) → AsNumbers log i m v → Fair issued log (deliver i m v)
-  pub unknowns : (i : ℕ) (m : CetskobiMessage) (v : List ℕ) → known (m .kind) ≡ false → Fair issued log (deliver i m v)
-  pub packets : (p : List ℕ) (i : ℕ) → FromAir log p i → Fair issued log (deliverPacket p i)
-  pub broken : (p : List ℕ) (i : ℕ) → Broken p i → Fair issued log (deliverPacket p i)
-  pub accepted : (p : List ℕ) (a : CetskobiAccepted) (i : ℕ) → FromAir log p i → Fair issued log (deliverAccepted p a i)
-  pub foreign : (p : List ℕ) (a : CetskobiAccepted) (i k : ℕ) → taken p (acceptedIn a) i ≡ Refused k → Fair issued log (deliverAccepted p a i)
-  pub unaccepted : (p : List ℕ) (i : ℕ) → Broken p i → Fair issued log (deliverAccepted p (acceptAnswer p) i)
-  pub validations : (i : ℕ) → Fair issued log (validate i)
-  pub resends : (i : ℕ) → Fair issued log (resend i)
-  pub views : (epoch : ℕ) → Fair issued log (view epoch (issued epoch))
+-- no call is forbidden that document 01 allows: after any messages every call may follow, a delivery of what left, for the other rule too, or
+-- of what is refused for itself, a view as it is issued
+pub record AnyCall (issued : ℕ → ℕ) (log : List Logged) (rule : Rule) : Type 0 where
+  pub reads : (i : ℕ) → Fair issued log rule (read i)
+  pub asks : (i : ℕ) → Fair issued log rule (ask i)
+  pub writes : (i : ℕ) (v : List ℕ) → Fair issued log rule (write i v)
+  pub commits : (i version tie : ℕ) (v : List ℕ) → Fair issued log rule (commit i version tie v)
+  pub replays : (i : ℕ) → Fair issued log rule (replay i)
+  pub deliveries : (i : ℕ) (m : CetskobiMessage) (v : List ℕ) → AsNumbers log i m v → Fair issued log rule (deliver i m v)
+  pub unknowns : (i : ℕ) (m : CetskobiMessage) (v : List ℕ) → known (m .kind) ≡ false → Fair issued log rule (deliver i m v)
+  pub packets : (p : List ℕ) (i : ℕ) → FromAir rule log p i → Fair issued log rule (deliverPacket p i)
+  pub others : (other : Rule) (p : List ℕ) (i : ℕ) → other ≢ rule → FromAir other log p i → Fair issued log rule (deliverPacket p i)
+  pub broken : (p : List ℕ) (i : ℕ) → Broken rule p i → Fair issued log rule (deliverPacket p i)
+  pub accepted : (packing : Rule) (p : List ℕ) (a : CetskobiAccepted) (i : ℕ) → FromAir packing log p i → Fair issued log rule (deliverAccepted p a i)
+  pub foreign : (p : List ℕ) (a : CetskobiAccepted) (i k : ℕ) → taken p (acceptedIn a) i ≡ Refused k → Fair issued log rule (deliverAccepted p a i)
+  pub unaccepted : (p : List ℕ) (i : ℕ) → Broken rule p i → Fair issued log rule (deliverAccepted p (acceptAnswer rule p) i)
+  pub validations : (i : ℕ) → Fair issued log rule (validate i)
+  pub resends : (i : ℕ) → Fair issued log rule (resend i)
+  pub views : (epoch : ℕ) → Fair issued log rule (view epoch (issued epoch))
 
 abbrev pub EveryCallMayFollow : Type 0
-EveryCallMayFollow = (issued : ℕ → ℕ) (log : List Logged) → AnyCall issued log
+EveryCallMayFollow = (issued : ℕ → ℕ) (log : List Logged) (rule : Rule) → AnyCall issued log rule
 
 -- no validation is left out: a Validate, and a delivery with which a VAL leaves, of numbers or out of a packet, accepted or not
 pub record EveryCallFinishes : Type 0 where

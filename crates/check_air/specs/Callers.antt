@@ -7,10 +7,13 @@ use mathlib.Core.Logic.{_⊎_}
 use lib.Dec.{eqb}
 use lib.ListN.{length}
 use Rattle.hermes_record.specs.declared.timestamp.Timestamp.{Timestamp}
+use Rattle.hermes_record.specs.declared.timestamp.Rule.{Rule}
 use Rattle.hermes.specs.declared.message.Message.the-variants.{Val}
+use Rattle.hermes.specs.declared.event.Settings.{Settings}
 use Rattle.hermes.specs.declared.event.Event.{Event}
 use Rattle.hermes.specs.declared.event.Event.the-variants.{Read, Ask, Write, Commit, Replay, Deliver, Validate, Resend}
 use Rattle.hermes_record.specs.Order.{ties, NotAfter}
+use Rattle.hermes.specs.Settings.{under}
 use Rattle.hermes.specs.Kind.{known}
 use Rattle.hermes.specs.Event.{send, sentBy}
 use Rattle.hermes.specs.Node as hermes
@@ -24,12 +27,13 @@ use Rattle.packet_format.specs.Accepting.{taken}
 use Rattle.packet_event.specs.Arrival.{receipt}
 use Rattle.export_records.specs.Layout.{countOf}
 use Rattle.export_numbers.specs.declared.numbers.CetskobiReplica.{CetskobiReplica}
+use Rattle.export_numbers.specs.declared.numbers.CetskobiSettings.{CetskobiSettings}
 use Rattle.export_numbers.specs.declared.numbers.CetskobiAnswer.{CetskobiAnswer}
 use Rattle.export_numbers.specs.declared.numbers.CetskobiMessage.{CetskobiMessage}
 use Rattle.export_numbers.specs.declared.numbers.CetskobiReading.{CetskobiReading}
 use Rattle.export_numbers.specs.declared.numbers.CetskobiAsked.{CetskobiAsked}
 use Rattle.export_numbers.specs.declared.numbers.CetskobiAdmission.{CetskobiAdmission}
-use Rattle.export_numbers.specs.Crossing.{replicaOf, admissionOut, receivedIn}
+use Rattle.export_numbers.specs.Crossing.{settingsOf, replicaOf, admissionOut, receivedIn}
 use Rattle.export_calls.specs.Calls.{nodeOf, Done}
 use Rattle.export_reading.specs.Reading.{ReadDone, AskDone}
 use Rattle.export_membership.specs.Admission.{StartDone}
@@ -38,6 +42,7 @@ use Rattle.export_fields.specs.Answers.{acceptedIn}
 use Rattle.export_arrival.specs.Arrival.{Arrived}
 use Rattle.export_accepted.specs.declared.accepted.CetskobiArrival.{CetskobiArrival}
 use Rattle.export_accepted.specs.Arrival.{takenReceipt, Came}
+use Rattle.export_accepted.specs.OnePass.{ruleOf}
 use Rattle.check_air.specs.Air.{Sending, Called, Packed}
 
 -- ---- one call
@@ -83,7 +88,7 @@ Returns (commit i version tie v) l number l′ = Moves l i (Commit (record { ver
 Returns (replay i) l number l′ = Moves l i Replay [] number l′
 Returns (deliver i m v) l number l′ = Moves l i (Deliver (receivedIn m)) v number l′
 Returns (deliverPacket p i) l number l′ =
-    (a : CetskobiAnswer) × Arrived (node l) (l .table) p (fetched p i) a (l′ .table) (l′ .store) × (a .number ≡ number) × (l′ .me ≡ l .me)
+    (a : CetskobiAnswer) × Arrived (node l) (l .table) p (fetched (ruleOf (l .me)) p i) a (l′ .table) (l′ .store) × (a .number ≡ number) × (l′ .me ≡ l .me)
 Returns (deliverAccepted p a i) l number l′ =
     (r : CetskobiArrival) × Came (node l) (l .table) p (taken p (acceptedIn a) i) r (l′ .table) (l′ .store) × (r .answer .number ≡ number) × (l′ .me ≡ l .me)
 Returns (validate i) l number l′ = Moves l i Validate [] number l′
@@ -138,21 +143,21 @@ after h (s ∷ rest) = after (next h s) rest
 
 -- ---- the premises
 
--- 01, "A delivered message left an earlier entry": message i of the packet is one that left, packed by `cetskobi_pack`
-pub record FromAir (log : List Logged) (p : List ℕ) (i : ℕ) : Type 0 where
+-- 01, "A delivered message left an earlier entry": message i of the packet is one that left, packed by `cetskobi_pack` for this rule
+pub record FromAir (rule : Rule) (log : List Logged) (p : List ℕ) (i : ℕ) : Type 0 where
   pub message : Logged
   pub earlier : List·Memᴰ message log
   pub sending : Sending
   pub called : Called message sending
   pub before : List Sending
   pub after : List Sending
-  pub packed : Packed (before ++ sending ∷ after) p
+  pub packed : Packed rule (before ++ sending ∷ after) p
   pub place : i ≡ length before
 
--- a packet of which the reader refuses message i; its number
-pub record Broken (p : List ℕ) (i : ℕ) : Type 0 where
+-- a packet of which the reader of a group with this rule refuses message i, that of another station say (02, Wish 6); its number
+pub record Broken (rule : Rule) (p : List ℕ) (i : ℕ) : Type 0 where
   pub number : ℕ
-  pub refused : fetched p i ≡ Refused number
+  pub refused : fetched rule p i ≡ Refused number
 
 -- facts by which message i of the packet is refused: those of a broken packet, say, or of one with fewer messages
 pub record Untaken (p : List ℕ) (a : CetskobiAccepted) (i : ℕ) : Type 0 where
@@ -168,39 +173,43 @@ pub record AsNumbers (log : List Logged) (i : ℕ) (m : CetskobiMessage) (v : Li
   pub bytes : v ≡ message .body
 
 -- 01, "Premises of agreement": what is delivered left an earlier call, or is refused for itself, a broken packet or an unknown kind;
--- a view is the one issued for its epoch. Of a packet that left, the facts may be any: those of another packet do no harm.
-abbrev pub Fair : (ℕ → ℕ) → List Logged → Call → Type 0
-Fair issued log (read i) = Unit
-Fair issued log (ask i) = Unit
-Fair issued log (write i v) = Unit
-Fair issued log (commit i version tie v) = Unit
-Fair issued log (replay i) = Unit
-Fair issued log (deliver i m v) = AsNumbers log i m v ⊎ (known (m .kind) ≡ false)
-Fair issued log (deliverPacket p i) = FromAir log p i ⊎ Broken p i
-Fair issued log (deliverAccepted p a i) = FromAir log p i ⊎ Untaken p a i
-Fair issued log (validate i) = Unit
-Fair issued log (resend i) = Unit
-Fair issued log (view epoch set) = set ≡ issued epoch
+-- a view is the one issued for its epoch. `rule` is the laptop's; a packet for
+-- the other is broken here (27). By facts any packet that left may be taken, and they may be any: those of another packet do no harm.
+abbrev pub Fair : (ℕ → ℕ) → List Logged → Rule → Call → Type 0
+Fair issued log rule (read i) = Unit
+Fair issued log rule (ask i) = Unit
+Fair issued log rule (write i v) = Unit
+Fair issued log rule (commit i version tie v) = Unit
+Fair issued log rule (replay i) = Unit
+Fair issued log rule (deliver i m v) = AsNumbers log i m v ⊎ (known (m .kind) ≡ false)
+Fair issued log rule (deliverPacket p i) = FromAir rule log p i ⊎ Broken rule p i
+Fair issued log rule (deliverAccepted p a i) = ((packing : Rule) × FromAir packing log p i) ⊎ Untaken p a i
+Fair issued log rule (validate i) = Unit
+Fair issued log rule (resend i) = Unit
+Fair issued log rule (view epoch set) = set ≡ issued epoch
 
 -- each call is of a laptop of the group, which it finds as that laptop's last call left it
 abbrev pub Follows : (ℕ → Bool) → (ℕ → ℕ) → Hut → List Turn → Type 0
 Follows member issued h [] = Unit
 Follows member issued h (s ∷ rest) =
-    (member (s .who) ≡ true) × Fair issued (h .log) (s .call) × Returns (s .call) (h .at (s .who)) (s .number) (s .left) × Follows member issued (next h s) rest
+    (member (s .who) ≡ true) × Fair issued (h .log) (ruleOf (h .at (s .who) .me)) (s .call) × Returns (s .call) (h .at (s .who)) (s .number) (s .left) × Follows member issued (next h s) rest
 
--- laptop k was started by `cetskobi_start` on memory for so many records, with the first view, and that was accepted
-pub record Begun (count : ℕ) (issued : ℕ → ℕ) (k : ℕ) (l : Laptop) : Type 0 where
+-- laptop k was started by `cetskobi_start` on memory for so many records, with the first view and the group's settings, by whichever byte, and
+-- that was accepted
+pub record Begun (count : ℕ) (issued : ℕ → ℕ) (settings : Settings) (k : ℕ) (l : Laptop) : Type 0 where
+  pub given : CetskobiSettings
+  pub fixed : settingsOf given ≡ settings
   pub table : List ℕ
   pub store : List ℕ
   pub records : countOf (length table) ≡ count
   pub admission : CetskobiAdmission
-  pub started : StartDone k (issued 0) table store admission (l .table) (l .store)
+  pub started : StartDone k (issued 0) (settingsOf given) table store admission (l .table) (l .store)
   pub accepted : admission .number ≡ 0
   pub identity : l .me ≡ admission .replica
 
 -- every laptop of the group was, and nothing was sent
-pub record AllBegun (member : ℕ → Bool) (count : ℕ) (issued : ℕ → ℕ) (h : Hut) : Type 0 where
-  pub fresh : (k : ℕ) → member k ≡ true → Begun count issued k (h .at k)
+pub record AllBegun (member : ℕ → Bool) (count : ℕ) (issued : ℕ → ℕ) (settings : Settings) (h : Hut) : Type 0 where
+  pub fresh : (k : ℕ) → member k ≡ true → Begun count issued settings k (h .at k)
   pub silent : h .log ≡ []
 
 -- ---- the claim
@@ -230,16 +239,16 @@ abbrev pub laptop : Hut → List Turn → ℕ → Node
 laptop h turns k = node (after h turns .at k)
 
 -- demand 3, both halves, as `Agreement` of hermes has them
-pub record CallsAgree (member : ℕ → Bool) (count : ℕ) (h : Hut) (turns : List Turn) : Type 0 where
+pub record CallsAgree (member : ℕ → Bool) (count : ℕ) (settings : Settings) (h : Hut) (turns : List Turn) : Type 0 where
   pub alike : (i k m : ℕ) → i < count → member k ≡ true → member m ≡ true
       → Sees (laptop h turns k) m → Sees (laptop h turns m) k → Shows (laptop h turns k) i → Shows (laptop h turns m) i
       → Alike i (laptop h turns k) (laptop h turns m)
   pub lasting : (i m : ℕ) (before rest : List Turn) (s : Turn) → i < count → member m ≡ true
       → turns ≡ before ++ s ∷ rest → Finishes (laptop h before (s .who)) i (s .call) → s .number ≡ 0
       → Sees (laptop h before (s .who)) m → Shows (laptop h turns m) i
-      → NotAfter ties (recordOf i (laptop h before (s .who)) .timestamp) (recordOf i (laptop h turns m) .timestamp)
+      → NotAfter (under ties settings) (recordOf i (laptop h before (s .who)) .timestamp) (recordOf i (laptop h turns m) .timestamp)
 
--- demand 3 of the exported functions; `proofs/Callers` proves it
+-- demand 3 of the exported functions, of every group, whichever its rule; `proofs/Callers` proves it
 abbrev pub CalledDemand3 : Type 0
-CalledDemand3 = (member : ℕ → Bool) (count : ℕ) (issued : ℕ → ℕ) (h : Hut) → AllBegun member count issued h
-    → (turns : List Turn) → Follows member issued h turns → CallsAgree member count h turns
+CalledDemand3 = (member : ℕ → Bool) (count : ℕ) (issued : ℕ → ℕ) (settings : Settings) (h : Hut) → AllBegun member count issued settings h
+    → (turns : List Turn) → Follows member issued h turns → CallsAgree member count settings h turns

@@ -1,5 +1,5 @@
--- A morning of three laptops with one record each, as their callers make it: calls of every kind, some of them refused, that meet the premises
--- of `CalledDemand3`.
+-- A morning of three laptops with one record each, in a group with the new rule of ties, as their callers make it: calls of every kind, some of them
+-- refused, that meet the premises of `CalledDemand3`.
 use Prim.Native.Nat.{ℕ, zero, suc}
 use mathlib.Core.Path.{_≡_}
 use mathlib.Core.Bool.{Bool, true}
@@ -7,7 +7,10 @@ use mathlib.Core.List.{List, [], _∷_, _++_}
 use lib.Dec.{ltb}
 use lib.ListN.{take, drop, replicate}
 use Rattle.hermes_record.specs.declared.timestamp.Timestamp.{Timestamp}
+use Rattle.hermes_record.specs.declared.timestamp.Rule.{Rule}
+use Rattle.hermes_record.specs.declared.timestamp.Rule.the-variants.{Higher, Lower}
 use Rattle.hermes_record.specs.Order.{ties, later}
+use Rattle.hermes.specs.Settings.{under, newSettings}
 use Rattle.hermes.specs.Node.{newcomer, start, recordOf}
 use Rattle.hermes.specs.Agreement.{Sees, Shows, Alike}
 use Rattle.export_records.specs.Layout.{tableOf}
@@ -65,9 +68,9 @@ lentStore = replicate 192 7
 -- laptop k as `cetskobi_start` leaves it there
 abbrev pub fresh : ℕ → Laptop
 fresh k = record {
-  me = identityOf (newcomer k 7);
-  table = filledBy (start k 7 (tableOf lentTable) lentStore .admission) lentTable 7;
-  store = start k 7 (tableOf lentTable) lentStore .store;
+  me = identityOf (newcomer k 7 newSettings);
+  table = filledBy (start k 7 newSettings (tableOf lentTable) lentStore .admission) lentTable 7;
+  store = start k 7 newSettings (tableOf lentTable) lentStore .store;
 }
 
 abbrev pub hut : Hut
@@ -106,17 +109,21 @@ numbersOf (s ∷ rest) = s .number ∷ numbersOf rest
 
 -- 0's INV with the text A1, 1's ACK of it, and 0's VAL, which leaves in epoch 1
 abbrev pub inv : Sending
-inv = record { from = identityOf (newcomer 0 7); index = 0; left = answering 0 1 0 1; body = 65 ∷ 49 ∷ [] }
+inv = record { from = identityOf (newcomer 0 7 newSettings); index = 0; left = answering 0 1 0 1; body = 65 ∷ 49 ∷ [] }
 
 abbrev pub ack : Sending
-ack = record { from = identityOf (newcomer 1 7); index = 0; left = answering 0 2 0 1; body = [] }
+ack = record { from = identityOf (newcomer 1 7 newSettings); index = 0; left = answering 0 2 0 1; body = [] }
 
 abbrev pub val : Sending
-val = record { from = identityOf (record { number = 0; epoch = 1; view = 3 }); index = 0; left = answering 0 3 0 1; body = [] }
+val = record { from = identityOf (record { number = 0; epoch = 1; view = 3; settings = newSettings }); index = 0; left = answering 0 3 0 1; body = [] }
 
--- the packet that `cetskobi_pack` makes, in an output of 60 bytes
+-- the packet that `cetskobi_pack` makes in a group with this rule, in an output of 60 bytes
+abbrev pub packetBy : Rule → List Sending → List ℕ
+packetBy rule ss = take (packAnswer (wordsSent ss) (bodiesSent ss) (replicate 60 0) .len) (packOutput rule (wordsSent ss) (bodiesSent ss) (replicate 60 0))
+
+-- in this group
 abbrev pub packetOf : List Sending → List ℕ
-packetOf ss = take (packAnswer (wordsSent ss) (bodiesSent ss) (replicate 60 0) .len) (packOutput (wordsSent ss) (bodiesSent ss) (replicate 60 0))
+packetOf ss = packetBy Lower ss
 
 -- the VAL as numbers
 abbrev pub valNumbers : CetskobiMessage
@@ -146,9 +153,9 @@ plans =
     ∷ by 0 (read 0)  -- 6: so it is
     ∷ by 1 (deliverPacket (packetOf (inv ∷ inv ∷ [])) 0)  -- the ACK leaves
     ∷ by 1 (deliverPacket (1 ∷ 1 ∷ 0 ∷ []) 0)  -- 20: the front of a packet
-    ∷ by 1 (deliverAccepted (1 ∷ 1 ∷ 0 ∷ []) (acceptAnswer (packetOf (inv ∷ inv ∷ []))) 0)  -- 21: by the facts of another
+    ∷ by 1 (deliverAccepted (1 ∷ 1 ∷ 0 ∷ []) (acceptAnswer Lower (packetOf (inv ∷ inv ∷ []))) 0)  -- 21: by the facts of another
     ∷ by 1 (resend 0)  -- 17: it has nothing to send
-    ∷ by 0 (deliverAccepted (packetOf (inv ∷ ack ∷ [])) (acceptAnswer (packetOf (inv ∷ ack ∷ []))) 1)  -- 1 is counted
+    ∷ by 0 (deliverAccepted (packetOf (inv ∷ ack ∷ [])) (acceptAnswer Lower (packetOf (inv ∷ ack ∷ []))) 1)  -- 1 is counted
     ∷ by 0 (validate 0)  -- 15: 2 has not acknowledged it
     ∷ by 0 (view 1 3)  -- 2 is struck off
     ∷ by 0 (validate 0)  -- the VAL leaves
@@ -156,7 +163,7 @@ plans =
     ∷ by 0 (replay 0)  -- 16: the record is valid
     ∷ by 1 (view 0 7)  -- 18: the epoch that it has
     ∷ by 1 (view 1 3)
-    ∷ by 1 (deliverAccepted (packetOf (val ∷ [])) (acceptAnswer (packetOf (inv ∷ inv ∷ []))) 0)  -- by the facts of another, which do no harm
+    ∷ by 1 (deliverAccepted (packetOf (val ∷ [])) (acceptAnswer Lower (packetOf (inv ∷ inv ∷ []))) 0)  -- by the facts of another, which do no harm
     ∷ by 1 (deliver 0 valNumbers [])  -- 14: it has come already
     ∷ by 1 (deliver 0 unknown [])  -- 12: a kind that there is not
     ∷ by 1 (ask 0)  -- A1, of (1,0)
@@ -169,6 +176,7 @@ plans =
     ∷ by 1 (deliver 0 ack2 [])  -- it was the last: the VAL leaves
     ∷ by 0 (deliver 0 val2 [])
     ∷ by 0 (read 0)
+    ∷ by 1 (deliverPacket (packetBy Higher (inv ∷ [])) 0)  -- 27: one of a station with the old rule
     ∷ []
 
 abbrev pub morning : List Turn
@@ -196,11 +204,11 @@ committing j = turn (after hut (take j morning)) (by 1 (commit 0 1 0 (66 ∷ [])
 
 -- what it shows; `proofs/Morning` computes it
 pub record Morning : Type 0 where
-  pub begun : AllBegun three 1 issued hut
+  pub begun : AllBegun three 1 issued newSettings hut
   pub follows : Follows three issued hut morning
-  pub agrees : CallsAgree three 1 hut morning
+  pub agrees : CallsAgree three 1 newSettings hut morning
   pub numbers : numbersOf morning
-      ≡ 0 ∷ 0 ∷ 7 ∷ 6 ∷ 0 ∷ 20 ∷ 21 ∷ 17 ∷ 0 ∷ 15 ∷ 0 ∷ 0 ∷ 0 ∷ 16 ∷ 18 ∷ 0 ∷ 0 ∷ 14 ∷ 12 ∷ 0 ∷ 0 ∷ 26 ∷ 0 ∷ 6 ∷ 26 ∷ 0 ∷ 0 ∷ 0 ∷ 0 ∷ []
+      ≡ 0 ∷ 0 ∷ 7 ∷ 6 ∷ 0 ∷ 20 ∷ 21 ∷ 17 ∷ 0 ∷ 15 ∷ 0 ∷ 0 ∷ 0 ∷ 16 ∷ 18 ∷ 0 ∷ 0 ∷ 14 ∷ 12 ∷ 0 ∷ 0 ∷ 26 ∷ 0 ∷ 6 ∷ 26 ∷ 0 ∷ 0 ∷ 0 ∷ 0 ∷ 27 ∷ []
   -- the premises of `alike`
   pub sees : Sees (laptop hut morning 0) 1
   pub seen : Sees (laptop hut morning 1) 0
@@ -218,6 +226,6 @@ pub record Morning : Type 0 where
   pub bytesKept : Alike 0 (laptop hut (take 22 morning) 1) (laptop hut (take 19 morning) 1)
   -- the same once more, by call 24, is refused by 26: a later timestamp stands there
   pub late : CallsApart morning (take 19 morning) (take 4 (drop 20 morning)) asking (committing 24)
-  pub newer : later ties (recordOf 0 (laptop hut (take 24 morning) 1) .timestamp) a1 ≡ true
+  pub newer : later (under ties newSettings) (recordOf 0 (laptop hut (take 24 morning) 1) .timestamp) a1 ≡ true
   -- whatever its read, by call 20, hands out under that timestamp is A1
   pub oneText : (text : List ℕ) → Hands (laptop hut (take 20 morning) 1) (read 0) 0 a1 text → text ≡ 65 ∷ 49 ∷ []

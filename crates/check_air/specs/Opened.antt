@@ -5,7 +5,9 @@ use mathlib.Core.Bool.{Bool, true}
 use mathlib.Core.List.{List, _∷_, _++_}
 use lib.ListN.{take, drop}
 use Rattle.hermes_record.specs.declared.timestamp.Timestamp.{Timestamp}
+use Rattle.hermes.specs.declared.event.Settings.{Settings}
 use Rattle.hermes_record.specs.Order.{ties, later, NotAfter}
+use Rattle.hermes.specs.Settings.{under}
 use Rattle.hermes.specs.Node.{Node, recordOf}
 use Rattle.hermes.specs.Agreement.{Shows, Alike}
 use Rattle.export_numbers.specs.declared.numbers.CetskobiReading.{CetskobiReading}
@@ -33,12 +35,12 @@ pub record CallsApart (turns before between : List Turn) (s c : Turn) : Type 0 w
   pub split : turns ≡ before ++ s ∷ (between ++ c ∷ rest)
   pub one : s .who ≡ c .who
 
--- what `Opened` of hermes says of entries, of the calls of a group that began as h
-pub record CallsOpened (h : Hut) (turns : List Turn) : Type 0 where
+-- what `Opened` of hermes says of entries, of the calls of a group with these settings that began as h
+pub record CallsOpened (settings : Settings) (h : Hut) (turns : List Turn) : Type 0 where
   -- what a laptop's calls hand out of one record never goes back to an earlier timestamp, and under one it is one text
   pub forward : (i : ℕ) (before between : List Turn) (s c : Turn) → CallsApart turns before between s c
       → (t u : Timestamp) (first second : List ℕ) → Hands (laptop h before (s .who)) (s .call) i t first → Hands (laptop h (before ++ s ∷ between) (c .who)) (c .call) i u second
-      → NotAfter ties t u × (t ≡ u → first ≡ second)
+      → NotAfter (under ties settings) t u × (t ≡ u → first ≡ second)
   -- s hands out t, and c is `cetskobi_commit` with its version and tie-breaker, and answers 0: at every point between the laptop showed the record valid,
   -- with that timestamp and the bytes that s found
   pub kept : (i : ℕ) (before between : List Turn) (s c : Turn) → CallsApart turns before between s c
@@ -49,9 +51,9 @@ pub record CallsOpened (h : Hut) (turns : List Turn) : Type 0 where
   -- and where it answers 26, the record there has a later timestamp
   pub newer : (i : ℕ) (before between : List Turn) (s c : Turn) → CallsApart turns before between s c
       → (t : Timestamp) (text v : List ℕ) → Hands (laptop h before (s .who)) (s .call) i t text → c .call ≡ commit i (t .version) (t .tie) v → c .number ≡ 26
-      → later ties (recordOf i (laptop h (before ++ s ∷ between) (s .who)) .timestamp) t ≡ true
+      → later (under ties settings) (recordOf i (laptop h (before ++ s ∷ between) (s .who)) .timestamp) t ≡ true
 
 -- Wish 5 of the exported functions; `proofs/Opened` proves it
 abbrev pub CalledAsking : Type 0
-CalledAsking = (member : ℕ → Bool) (count : ℕ) (issued : ℕ → ℕ) (h : Hut) → AllBegun member count issued h
-    → (turns : List Turn) → Follows member issued h turns → CallsOpened h turns
+CalledAsking = (member : ℕ → Bool) (count : ℕ) (issued : ℕ → ℕ) (settings : Settings) (h : Hut) → AllBegun member count issued settings h
+    → (turns : List Turn) → Follows member issued h turns → CallsOpened settings h turns

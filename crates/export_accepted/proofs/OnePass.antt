@@ -3,6 +3,7 @@ use Prim.Native.Nat.{ℕ}
 use mathlib.Core.Path.{_≡_, refl, sym, ap, _∙_}
 use mathlib.Core.Bool.{true, cond}
 use mathlib.Core.List.{List}
+use Rattle.hermes_record.specs.declared.timestamp.Rule.{Rule}
 use Rattle.hermes.specs.declared.message.Received.{Received}
 use Rattle.hermes.specs.declared.event.Event.the-variants.{Deliver}
 use Rattle.hermes_record.specs.Order.{ties}
@@ -12,11 +13,11 @@ use Rattle.packet_format.specs.declared.entry.Fields.{Fields}
 use Rattle.packet_format.specs.declared.answer.Taken.{Taken}
 use Rattle.packet_format.specs.declared.answer.Taken.the-variants.{Entry, Refused}
 use Rattle.packet_format.specs.Entry.{entryOf}
-use Rattle.packet_format.specs.Reading.{bodyOf}
+use Rattle.packet_format.specs.Reading.{fetched, bodyOf}
 use Rattle.packet_format.specs.Accepting.{accepted, taken, fetchedOf}
 use Rattle.packet_format.proofs.Entries.{good-parts}
 use Rattle.packet_format.proofs.Accepting.{taken-is-fetched, taken-is-good}
-use Rattle.packet_event.specs.Arrival.{receivedOf, receiptOf, receipt}
+use Rattle.packet_event.specs.Arrival.{receivedOf, receiptOf}
 use Rattle.export_numbers.specs.Crossing.{receivedIn}
 use Rattle.export_records.specs.Layout.{tableOf}
 use Rattle.export_calls.specs.Calls.{nodeOf}
@@ -29,14 +30,13 @@ stands : (f : Fields) → known (f .kind) ≡ true → receivedIn (numbersOf f) 
 stands f k =
     λ i. record { sender = f .sender; epoch = f .epoch; message = messageOf (f .kind) (record { version = f .version; tie = cond (k i) (f .tie) 255 }) }
 
--- so the delivery comes to that of a fetch
-pub own-receipt : (n : Node) (p : List ℕ) (i : ℕ) → takenReceipt n p (taken p (accepted (n .me .settings .rule) p) i) ≡ receipt ties n p i
-unfolding receipt
-own-receipt n p i = by (taken p (accepted (n .me .settings .rule) p) i) refl ∙ ap (receiptOf ties n p) (taken-is-fetched (n .me .settings .rule) p i)
+-- so the delivery comes to that of a fetch, of the facts of a group with this rule
+pub own-receipt : (rule : Rule) (n : Node) (p : List ℕ) (i : ℕ) → takenReceipt n p (taken p (accepted rule p) i) ≡ receiptOf ties n p (fetched rule p i)
+own-receipt rule n p i = by (taken p (accepted rule p) i) refl ∙ ap (receiptOf ties n p) (taken-is-fetched rule p i)
   where
-    by : (t : Taken) → taken p (accepted (n .me .settings .rule) p) i ≡ t → takenReceipt n p t ≡ receiptOf ties n p (fetchedOf t)
+    by : (t : Taken) → taken p (accepted rule p) i ≡ t → takenReceipt n p t ≡ receiptOf ties n p (fetchedOf t)
     by (Entry f) e =
-        ap (λ (m : Received). apply ties n (f .index) (Deliver m) (bodyOf p (fetchedOf (Entry f)))) (stands f (good-parts f (taken-is-good (n .me .settings .rule) p i f e) .kind))
+        ap (λ (m : Received). apply ties n (f .index) (Deliver m) (bodyOf p (fetchedOf (Entry f)))) (stands f (good-parts f (taken-is-good rule p i f e) .kind))
     by (Refused k) e = refl
 
 pub delivers-all : DeliversAll
