@@ -42,7 +42,8 @@ use Rattle.export_calls.specs.Part.{PartAt}
 use Rattle.export_outgoing.specs.Leaving.{Along, along, alongOf, AlongAt}
 use Rattle.export_outgoing.proofs.Sent.{asked-body}
 use Rattle.export_arrival.specs.Arrival.{Arrived}
-use Rattle.export_accepted.specs.OnePass.{ruleOf, arrivalFor}
+use Rattle.export_accepted.specs.OnePass.{arrivalFor}
+use Rattle.export_numbers.specs.Crossing.{groupRule}
 use Rattle.export_accepted.proofs.OnePass.{delivers-all}
 use Rattle.check_air.specs.Air.{Sending, sevenOf, wordsSent, bodiesSent, Called, Packed, ThroughTheAir, AcceptedThroughTheAir}
 
@@ -223,7 +224,7 @@ module _ (rule : Rule) (before after : List Sending) (s : Sending) (x : Logged) 
 
 pub through-the-air : ThroughTheAir
 through-the-air before after s x packet me c p table store table′ store′ a h =
-    let (at, found, brings) = found-left (ruleOf me) before after s x packet c p in
+    let (at, found, brings) = found-left (groupRule me) before after s x packet c p in
     let arrived : Arrived (nodeOf me table store) table packet (Found (entryLeft x) at) a table′ store′ =
     subst (λ (f : Fetched). Arrived (nodeOf me table store) table packet f a table′ store′) found h in
     delivers (nodeOf me table store) table packet (entryLeft x) at (x .body) a table′ store′ brings arrived
@@ -233,5 +234,5 @@ accepted-through-the-air before after s x packet me c p table store table′ sto
     let d = delivers-all me table store packet (length before) r table′ store′ h in
     record {
       done = through-the-air before after s x packet me c p table store table′ store′ (r .answer) (d .arrived);
-      tells = d .message ∙ ap (λ (f : Fetched). arrivalFor f (r .answer)) (found-left (ruleOf me) before after s x packet c p .1);
+      tells = d .message ∙ ap (λ (f : Fetched). arrivalFor f (r .answer)) (found-left (groupRule me) before after s x packet c p .1);
     }

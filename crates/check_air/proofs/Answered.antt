@@ -43,7 +43,7 @@ use Rattle.export_arrival.specs.Arrival.{numbersOf, bytesArrived}
 use Rattle.export_accepted.specs.declared.accepted.CetskobiArrival.{CetskobiArrival}
 use Rattle.export_accepted.specs.Arrival.{arrivalOf, takenReceipt, Came}
 use Rattle.export_packets.proofs.RoundTrip.{packed-for-others}
-use Rattle.export_accepted.specs.OnePass.{ruleOf}
+use Rattle.export_numbers.specs.Crossing.{groupRule}
 use Rattle.check_air.specs.Air.{wordsSent, bodiesSent}
 use Rattle.check_air.specs.Callers.{Laptop, node, FromAir, read, ask, write, commit, replay, deliver, deliverPacket, deliverAccepted, validate, resend, view, Moves, Returns, Broken, Untaken, validates, acknowledges}
 use Rattle.check_air.specs.Answered.{callNumber, askAnswer, afterEvent, afterTaken, afterCall, EveryCallMayFollow, EveryCallFinishes, EveryCallAnswers}
@@ -74,10 +74,10 @@ moves l i e v =
 -- a delivery from a packet
 arrives : (l : Laptop) (p : List ℕ) (i : ℕ) → Returns (deliverPacket p i) l (callNumber (deliverPacket p i) l) (afterCall (deliverPacket p i) l)
 unfolding receipt
-arrives l p i = (answerOut a, record { answer = refl; bytes = refl; table = go (fetched (ruleOf (l .me)) p i); store = refl }, number-out a, refl)
+arrives l p i = (answerOut a, record { answer = refl; bytes = refl; table = go (fetched (groupRule (l .me)) p i); store = refl }, number-out a, refl)
   where
     a : Answer
-    a = receiptOf ties (node l) p (fetched (ruleOf (l .me)) p i) .answer
+    a = receiptOf ties (node l) p (fetched (groupRule (l .me)) p i) .answer
 
     go : (f : Fetched) → tableOf (bytesArrived (node l) (l .table) p f) ≡ receiptOf ties (node l) p f .node .table
     go (fetch.Found e at) = after-table l (e .header .index) (Deliver (receivedOf e)) (bodyOf p (fetch.Found e at))

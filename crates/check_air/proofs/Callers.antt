@@ -62,7 +62,7 @@ use Rattle.export_fields.specs.declared.answers.CetskobiAccepted.{CetskobiAccep
 use Rattle.export_fields.specs.Answers.{acceptedIn}
 use Rattle.export_arrival.specs.Arrival.{numbersOf}
 use Rattle.export_accepted.specs.Arrival.{Delivered, takenReceipt}
-use Rattle.export_accepted.specs.OnePass.{ruleOf}
+use Rattle.export_numbers.specs.Crossing.{groupRule}
 use Rattle.export_accepted.proofs.OnePass.{own-receipt}
 use Rattle.check_air.specs.Callers.{Laptop, node, Call, read, ask, write, commit, replay, deliver, deliverPacket, deliverAccepted, validate, resend, view, Moves, Returns, Hut, Turn, outcome, logOf, next, after, FromAir, Fair, Follows, Begun, AllBegun, laptop, Delivers, Finishes, validates, acknowledges, CallsAgree, CalledDemand3}
 use Rattle.check_air.proofs.Air.{found-left}
@@ -260,7 +260,7 @@ lands (commit i version tie v) l l′ number r = moves l l′ i (Commit (record 
 lands (replay i) l l′ number r = moves l l′ i Replay [] number r
 lands (deliver i m v) l l′ number r = moves l l′ i (Deliver (receivedIn m)) v number r
 lands (deliverPacket p i) l l′ number (a, d, q, same) =
-    let me : replicaOf (l′ .me) ≡ receipt ties (node l) p i .node .me = ap replicaOf same ∙ sym (receipt-keeps (node l) p (fetched (ruleOf (l .me)) p i)) in
+    let me : replicaOf (l′ .me) ≡ receipt ties (node l) p i .node .me = ap replicaOf same ∙ sym (receipt-keeps (node l) p (fetched (groupRule (l .me)) p i)) in
     λ j. record { me = me j; table = d .table j; store = d .store j }
 lands (deliverAccepted p a i) l l′ number (r, d, q, same) = by (taken p (acceptedIn a) i) (d .done)
   where
@@ -290,11 +290,11 @@ number-out (Accepted (Sent (Val t) h)) = refl
 number-out (Refused k) = refl
 
 module _ (member : ℕ → Bool) (issued : ℕ → ℕ) where
-  abbrev pub entry : (h : Hut) (s : Turn) → Fair issued (h .log) (ruleOf (h .at (s .who) .me)) (s .call) → Entry
-  entry h s f = record { who = s .who; what = action issued (h .log) (ruleOf (h .at (s .who) .me)) (s .call) f }
+  abbrev pub entry : (h : Hut) (s : Turn) → Fair issued (h .log) (groupRule (h .at (s .who) .me)) (s .call) → Entry
+  entry h s f = record { who = s .who; what = action issued (h .log) (groupRule (h .at (s .who) .me)) (s .call) f }
 
   -- one call, one entry
-  pub turn-matches : (g : Group) (h : Hut) (s : Turn) (f : Fair issued (h .log) (ruleOf (h .at (s .who) .me)) (s .call)) → Returns (s .call) (h .at (s .who)) (s .number) (s .left)
+  pub turn-matches : (g : Group) (h : Hut) (s : Turn) (f : Fair issued (h .log) (groupRule (h .at (s .who) .me)) (s .call)) → Returns (s .call) (h .at (s .who)) (s .number) (s .left)
       → Match g h → Match (advance ties g (entry h s f)) (next h s)
   unfolding advance result
   turn-matches g h s f r e = record { nodes = λ k. at k (eqb k (s .who)) refl; logs = ap₂ logAfter same (e .logs) ∙ d .logs }
@@ -303,7 +303,7 @@ module _ (member : ℕ → Bool) (issued : ℕ → ℕ) where
       n = node (h .at (s .who))
 
       a : Action
-      a = action issued (h .log) (ruleOf (h .at (s .who) .me)) (s .call) f
+      a = action issued (h .log) (groupRule (h .at (s .who) .me)) (s .call) f
 
       d : Does (h .log) n a (outcome (s .call) n)
       d = does issued (h .log) (s .call) n f
@@ -328,7 +328,7 @@ module _ (member : ℕ → Bool) (issued : ℕ → ℕ) where
   pub are-entries : (h : Hut) (turns : List Turn) (f : Follows member issued h turns) → Entries member issued (entries h turns f)
   unfolding entries
   are-entries h [] f = tt
-  are-entries h (s ∷ rest) (m, fair, r, f) = (m, as-issued issued (h .log) (ruleOf (h .at (s .who) .me)) (s .call) fair, are-entries (next h s) rest f)
+  are-entries h (s ∷ rest) (m, fair, r, f) = (m, as-issued issued (h .log) (groupRule (h .at (s .who) .me)) (s .call) fair, are-entries (next h s) rest f)
 
   pub matches : (g : Group) (h : Hut) (turns : List Turn) (f : Follows member issued h turns) → Match g h → Match (run.run ties g (entries h turns f)) (after h turns)
   unfolding entries
@@ -519,7 +519,7 @@ module _ (member : ℕ → Bool) (count : ℕ) (issued : ℕ → ℕ) (settings 
       rw (← p, ← q) (agree turns f .alike i k m l mk mm (rw p sk) (rw q sm) (rw p vk) (rw q vm))
 
   -- an accepted validation among the calls is one among the entries
-  valid : (i : ℕ) (before : List Turn) (s : Turn) (f : Follows member issued h before) (fair : Fair issued (after h before .log) (ruleOf (after h before .at (s .who) .me)) (s .call))
+  valid : (i : ℕ) (before : List Turn) (s : Turn) (f : Follows member issued h before) (fair : Fair issued (after h before .log) (groupRule (after h before .at (s .who) .me)) (s .call))
       → Returns (s .call) (after h before .at (s .who)) (s .number) (s .left) → Finishes (laptop h before (s .who)) i (s .call) → s .number ≡ 0
       → Validation ties (run.run ties (groupOf h) (entriesOf before f)) (entry member issued (after h before) s fair) i
   unfolding result
@@ -527,15 +527,15 @@ module _ (member : ℕ → Bool) (count : ℕ) (issued : ℕ → ℕ) (settings 
       let e = match before f in
       let l = after h before .at (s .who) in
       let log = after h before .log in
-      let is : action issued log (ruleOf (after h before .at (s .who) .me)) (s .call) fair ≡ run.validate i = is-validate issued log (ruleOf (after h before .at (s .who) .me)) i (s .call) what fair in
+      let is : action issued log (groupRule (after h before .at (s .who) .me)) (s .call) fair ≡ run.validate i = is-validate issued log (groupRule (after h before .at (s .who) .me)) i (s .call) what fair in
       let same : result ties (run.run ties (groupOf h) (entriesOf before f)) (entry member issued (after h before) s fair) ≡ perform ties (run.validate i) log (node l) =
       λ j. perform ties (is j) (e .logs j) (e .nodes (s .who) j) in
-      agreement-of.validates is (subst IsAccepted (sym same) (is-accepted issued log (ruleOf (after h before .at (s .who) .me)) i l (s .left) (s .number) said (s .call) what r))
+      agreement-of.validates is (subst IsAccepted (sym same) (is-accepted issued log (groupRule (after h before .at (s .who) .me)) i l (s .left) (s .number) said (s .call) what r))
   valid i before s f fair r (acknowledges d t out) said =
       let e = match before f in
       let n = laptop h before (s .who) in
       let log = after h before .log in
-      let a = action issued log (ruleOf (after h before .at (s .who) .me)) (s .call) fair in
+      let a = action issued log (groupRule (after h before .at (s .who) .me)) (s .call) fair in
       let k = call-last n i t log issued (s .call) fair d out in
       let same : result ties (run.run ties (groupOf h) (entriesOf before f)) (entry member issued (after h before) s fair) ≡ perform ties a log n =
       λ j. perform ties a (e .logs j) (e .nodes (s .who) j) in

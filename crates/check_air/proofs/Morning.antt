@@ -37,7 +37,7 @@ use Rattle.export_packets.specs.Calls.{acceptAnswer, packAnswer}
 use Rattle.check_air.specs.Air.{Sending, wordsSent, bodiesSent, Leaves, Called, Packed}
 use Rattle.check_air.specs.Callers.{Laptop, node, laptop, Broken, Untaken, AsNumbers, Begun, AllBegun, Hut, Fair, Follows, FromAir, next, after, validates, acknowledges}
 use Rattle.check_air.specs.Callers as callers
-use Rattle.export_accepted.specs.OnePass.{ruleOf}
+use Rattle.export_numbers.specs.Crossing.{groupRule}
 use Rattle.check_air.specs.Morning.{val, valNumbers, inv2, ack2, val2, three, issued, lentTable, lentStore, fresh, hut, inv, ack, packetBy, packetOf, Plan, turn, plans, turnsOf, morning, a1, asking, committing, by, Morning}
 use Rattle.check_air.specs.Answered.{askAnswer, afterEvent, afterCall}
 use Rattle.check_air.specs.Opened as callers-opened
@@ -193,7 +193,7 @@ untaken = record { number = 21; refused = refl }
 -- each call is answered as its function's contract has it, so that it is enough that each is fair and a laptop's of the group
 abbrev AllFair : Hut → List Plan → Type 0
 AllFair h [] = Unit
-AllFair h (t ∷ rest) = Fair issued (h .log) (ruleOf (h .at (t .who) .me)) (t .call) × AllFair (next h (turn h t)) rest
+AllFair h (t ∷ rest) = Fair issued (h .log) (groupRule (h .at (t .who) .me)) (t .call) × AllFair (next h (turn h t)) rest
 
 members : List Plan → Bool
 members [] = true

@@ -19,7 +19,7 @@ use Rattle.hermes.specs.Asking.{Still, HandsOut, Apart, Opened}
 use Rattle.hermes.proofs.Agreement.{run-append}
 use Rattle.hermes.proofs.Asking.{asking}
 use Rattle.export_numbers.specs.declared.numbers.CetskobiAnswer.{CetskobiAnswer}
-use Rattle.export_accepted.specs.OnePass.{ruleOf}
+use Rattle.export_numbers.specs.Crossing.{groupRule}
 use Rattle.check_air.specs.Callers.{Laptop, node, Call, commit, Returns, Hut, Turn, next, after, Follows, AllBegun, laptop}
 use Rattle.check_air.specs.Opened.{Hands, asks, reads, CallsApart, CalledAsking}
 use Rattle.check_air.proofs.Callers.{action, Match, number-out, is-read, is-ask, is-commit, entry, turn-matches, entries, first-entry, are-entries, matches, first-part, second-part, both-parts, groupOf, started, match}
@@ -58,14 +58,14 @@ module _ (member : ℕ → Bool) (issued : ℕ → ℕ) (g : Group) (h : Hut) (m
   hands i t text (asks p c d z e b) = asking-of.asks is (subst IsAccepted (sym (entry-does (run.ask i) is)) (sym (d .number) ∙ z)) out
     where
       is : a .what ≡ run.ask i
-      is = is-ask issued (h .log) (ruleOf (h .at (s .who) .me)) i (s .call) c (f .1)
+      is = is-ask issued (h .log) (groupRule (h .at (s .who) .me)) i (s .call) c (f .1)
 
       out : asked (g .at (s .who)) i ≡ record { part = text; timestamp = t }
       out = ap (λ (x : Node). asked x i) (m .nodes (s .who)) ∙ λ j. record { part = (sym (d .part .part) ∙ b) j; timestamp = ((λ k. record { version = sym (d .version) k; tie = sym (d .tie) k }) ∙ e) j }
   hands i t text (reads p c d z e b) = asking-of.reads is (subst IsAccepted (sym (entry-does (run.read i) is)) (sym (d .number) ∙ z)) out (ap (λ (x : Node). recordOf i x .timestamp) (m .nodes (s .who)) ∙ e)
     where
       is : a .what ≡ run.read i
-      is = is-read issued (h .log) (ruleOf (h .at (s .who) .me)) i (s .call) c (f .1)
+      is = is-read issued (h .log) (groupRule (h .at (s .who) .me)) i (s .call) c (f .1)
 
       out : hermes.read (g .at (s .who)) i ≡ text
       out = ap (λ (x : Node). hermes.read x i) (m .nodes (s .who)) ∙ sym (d .part .part) ∙ b
@@ -157,7 +157,7 @@ module _ (member : ℕ → Bool) (count : ℕ) (issued : ℕ → ℕ) (settings 
   -- a commit of what the first handed out
   module _ (i : ℕ) (t : Timestamp) (text v : List ℕ) (x : Hands (laptop h before (s .who)) (s .call) i t text) (commits : c .call ≡ commit i (t .version) (t .tie) v) where
     is : second .what ≡ run.commit i t v
-    is = is-commit issued (h3 .log) (ruleOf (h3 .at (c .who) .me)) i (t .version) (t .tie) v (c .call) commits (f3 .1)
+    is = is-commit issued (h3 .log) (groupRule (h3 .at (c .who) .me)) i (t .version) (t .tie) v (c .call) commits (f3 .1)
 
     -- its entry answers what the call did
     committed : (number : ℕ) → c .number ≡ number → asking-of.RefusedBy number (result ties atSecond second)

@@ -21,7 +21,7 @@ use Rattle.export_arrival.specs.Arrival.{Arrived}
 use Rattle.packet_format.specs.Accepting.{accepted, taken}
 use Rattle.export_accepted.specs.declared.accepted.CetskobiArrival.{CetskobiArrival}
 use Rattle.export_accepted.specs.Arrival.{Came}
-use Rattle.export_accepted.specs.OnePass.{ruleOf}
+use Rattle.export_numbers.specs.Crossing.{groupRule}
 
 -- ---- what a caller packs
 
@@ -79,9 +79,9 @@ pub record Packed (rule : Rule) (ss : List Sending) (packet : List ℕ) : Type 0
 -- left, with the bytes that it left with.
 abbrev pub ThroughTheAir : Type 0
 ThroughTheAir = (before after : List Sending) (s : Sending) (x : Logged) (packet : List ℕ) (me : CetskobiReplica)
-    → Called x s → Packed (ruleOf me) (before ++ s ∷ after) packet
+    → Called x s → Packed (groupRule me) (before ++ s ∷ after) packet
     → (table store table′ store′ : List ℕ) (a : CetskobiAnswer)
-    → Arrived (nodeOf me table store) table packet (fetched (ruleOf me) packet (length before)) a table′ store′
+    → Arrived (nodeOf me table store) table packet (fetched (groupRule me) packet (length before)) a table′ store′
     → Done (nodeOf me table store) table (x .header .index) (Deliver (received x)) (x .body) a table′ store′
 
 -- The same by the facts of the packet (02, Wish 4); and the arrival tells whose message left, of which epoch and about which record.
@@ -91,7 +91,7 @@ pub record CameThrough (x : Logged) (me : CetskobiReplica) (table store : List �
 
 abbrev pub AcceptedThroughTheAir : Type 0
 AcceptedThroughTheAir = (before after : List Sending) (s : Sending) (x : Logged) (packet : List ℕ) (me : CetskobiReplica)
-    → Called x s → Packed (ruleOf me) (before ++ s ∷ after) packet
+    → Called x s → Packed (groupRule me) (before ++ s ∷ after) packet
     → (table store table′ store′ : List ℕ) (r : CetskobiArrival)
-    → Came (nodeOf me table store) table packet (taken packet (accepted (ruleOf me) packet) (length before)) r table′ store′
+    → Came (nodeOf me table store) table packet (taken packet (accepted (groupRule me) packet) (length before)) r table′ store′
     → CameThrough x me table store r table′ store′

@@ -31,7 +31,7 @@ use Rattle.export_fields.specs.declared.answers.CetskobiAccepted.{CetskobiAccep
 use Rattle.export_fields.specs.Answers.{acceptedIn}
 use Rattle.export_packets.specs.Calls.{acceptAnswer}
 use Rattle.export_arrival.specs.Arrival.{numbersOf, bytesArrived}
-use Rattle.export_accepted.specs.OnePass.{ruleOf}
+use Rattle.export_numbers.specs.Crossing.{groupRule}
 use Rattle.check_air.specs.Callers.{Laptop, node, Call, read, ask, write, commit, replay, deliver, deliverPacket, deliverAccepted, validate, resend, view, Returns, outcome, FromAir, Broken, AsNumbers, Fair, Finishes}
 
 -- the number of the answer
@@ -70,7 +70,7 @@ afterCall (replay i) l = afterEvent l i Replay []
 afterCall (deliver i m v) l = afterEvent l i (Deliver (receivedIn m)) v
 afterCall (deliverPacket p i) l = record {
   me = l .me;
-  table = bytesArrived (node l) (l .table) p (fetched (ruleOf (l .me)) p i);
+  table = bytesArrived (node l) (l .table) p (fetched (groupRule (l .me)) p i);
   store = receipt ties (node l) p i .node .store;
 }
 afterCall (deliverAccepted p a i) l = afterTaken l p (taken p (acceptedIn a) i)

@@ -42,7 +42,7 @@ use Rattle.export_fields.specs.Answers.{acceptedIn}
 use Rattle.export_arrival.specs.Arrival.{Arrived}
 use Rattle.export_accepted.specs.declared.accepted.CetskobiArrival.{CetskobiArrival}
 use Rattle.export_accepted.specs.Arrival.{takenReceipt, Came}
-use Rattle.export_accepted.specs.OnePass.{ruleOf}
+use Rattle.export_numbers.specs.Crossing.{groupRule}
 use Rattle.check_air.specs.Air.{Sending, Called, Packed}
 
 -- ---- one call
@@ -88,7 +88,7 @@ Returns (commit i version tie v) l number l′ = Moves l i (Commit (record { ver
 Returns (replay i) l number l′ = Moves l i Replay [] number l′
 Returns (deliver i m v) l number l′ = Moves l i (Deliver (receivedIn m)) v number l′
 Returns (deliverPacket p i) l number l′ =
-    (a : CetskobiAnswer) × Arrived (node l) (l .table) p (fetched (ruleOf (l .me)) p i) a (l′ .table) (l′ .store) × (a .number ≡ number) × (l′ .me ≡ l .me)
+    (a : CetskobiAnswer) × Arrived (node l) (l .table) p (fetched (groupRule (l .me)) p i) a (l′ .table) (l′ .store) × (a .number ≡ number) × (l′ .me ≡ l .me)
 Returns (deliverAccepted p a i) l number l′ =
     (r : CetskobiArrival) × Came (node l) (l .table) p (taken p (acceptedIn a) i) r (l′ .table) (l′ .store) × (r .answer .number ≡ number) × (l′ .me ≡ l .me)
 Returns (validate i) l number l′ = Moves l i Validate [] number l′
@@ -192,7 +192,7 @@ Fair issued log rule (view epoch set) = set ≡ issued epoch
 abbrev pub Follows : (ℕ → Bool) → (ℕ → ℕ) → Hut → List Turn → Type 0
 Follows member issued h [] = Unit
 Follows member issued h (s ∷ rest) =
-    (member (s .who) ≡ true) × Fair issued (h .log) (ruleOf (h .at (s .who) .me)) (s .call) × Returns (s .call) (h .at (s .who)) (s .number) (s .left) × Follows member issued (next h s) rest
+    (member (s .who) ≡ true) × Fair issued (h .log) (groupRule (h .at (s .who) .me)) (s .call) × Returns (s .call) (h .at (s .who)) (s .number) (s .left) × Follows member issued (next h s) rest
 
 -- laptop k was started by `cetskobi_start` on memory for so many records, with the first view and the group's settings, by whichever byte, and
 -- that was accepted

@@ -6,6 +6,8 @@ use lib.ListN.{length}
 use Rattle.export_records.specs.Layout.{countOf}
 use Rattle.export_numbers.specs.declared.numbers.CetskobiReplica.{CetskobiReplica}
 use Rattle.export_numbers.specs.declared.numbers.CetskobiAdmission.{CetskobiAdmission}
+use Rattle.export_numbers.specs.declared.numbers.CetskobiSettings.{CetskobiSettings}
+use Rattle.export_numbers.specs.Crossing.{settingsOf}
 use Rattle.check_air.specs.Callers.{Laptop, Call, Returns, Begun}
 
 -- the laptop of this identity, table and store
@@ -16,6 +18,6 @@ held me table store = record { me = me; table = table; store = store }
 abbrev pub ReturnsView : ℕ → ℕ → CetskobiReplica → CetskobiAdmission → Type 0
 ReturnsView epoch set me a = (table store : List ℕ) → Returns (Call.view epoch set) (held me table store) (a .number) (held (a .replica) table store)
 
--- a start that is accepted, on this table and with this view, begins a laptop of every group whose first view it is
-abbrev pub Begins : ℕ → ℕ → List ℕ → CetskobiAdmission → Laptop → Type 0
-Begins number view table a l = a .number ≡ 0 → (issued : ℕ → ℕ) → issued 0 ≡ view → Begun (countOf (length table)) issued number l
+-- a start that is accepted, on this table and with this view and these settings, begins a laptop of every group whose first view and settings they are
+abbrev pub Begins : ℕ → ℕ → CetskobiSettings → List ℕ → CetskobiAdmission → Laptop → Type 0
+Begins number view settings table a l = a .number ≡ 0 → (issued : ℕ → ℕ) → issued 0 ≡ view → Begun (countOf (length table)) issued (settingsOf settings) number l

@@ -11,12 +11,19 @@ use export_numbers::CetskobiAsked;
 use export_numbers::CetskobiMessage;
 use export_numbers::CetskobiReading;
 use export_numbers::CetskobiReplica;
+use export_numbers::CetskobiSettings;
 
 // Start: what a list of calls begins with.
-fn start(number: u8, first: u16, table: &mut [u8], store: &mut [u8]) -> CetskobiAdmission
-    ensures { λ a. ⌜ Begins number first (now (table .entry)) a (held (a .replica) (now (table .exit)) (now (store .exit))) ⌝ }
+fn start(
+    number: u8,
+    first: u16,
+    settings: CetskobiSettings,
+    table: &mut [u8],
+    store: &mut [u8],
+) -> CetskobiAdmission
+    ensures { λ a. ⌜ Begins number first settings (now (table .entry)) a (held (a .replica) (now (table .exit)) (now (store .exit))) ⌝ }
 {
-    export_membership::cetskobi_start(number, first, table, store)
+    export_membership::cetskobi_start(number, first, settings, table, store)
 }
 
 // View.

@@ -11,6 +11,7 @@ use hermes::Event;
 use hermes::Outgoing;
 use hermes::Record;
 use hermes::Replica;
+use hermes::Settings;
 
 pub(crate) struct Started {
     pub admission: Admission,
@@ -28,14 +29,15 @@ pub(crate) struct Turned {
 pub(crate) fn start(
     number: u8,
     view: u16,
+    settings: Settings,
     mut records: [Record; 1],
     mut bytes: [u8; 192],
 ) -> Started
-    ensures { λ s. ⌜ (s .admission ≡ start number view records bytes .admission)
-        × ((s .records ≡ start number view records bytes .table)
-        × (s .bytes ≡ start number view records bytes .store)) ⌝ }
+    ensures { λ s. ⌜ (s .admission ≡ start number view settings records bytes .admission)
+        × ((s .records ≡ start number view settings records bytes .table)
+        × (s .bytes ≡ start number view settings records bytes .store)) ⌝ }
 {
-    let admission = replica_start::start(number, view, &mut records, &mut bytes);
+    let admission = replica_start::start(number, view, settings, &mut records, &mut bytes);
     Started {
         admission: admission,
         records: records,

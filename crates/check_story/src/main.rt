@@ -14,6 +14,8 @@ use hermes::Outgoing;
 use hermes::Received;
 use hermes::Record;
 use hermes::Replica;
+use hermes::Rule;
+use hermes::Settings;
 
 // What left with an answer.
 fn left(a: Answer) -> Outgoing
@@ -83,12 +85,13 @@ fn reads(me: Replica, last: Turned, what: &[u8]) {
 
 fn main() {
     let blank = [Record::fresh(0); 1];
-    let s0 = laptop::start(0, 3, blank, [0; 192]);
+    let settings = Settings { rule: Rule::Lower };
+    let s0 = laptop::start(0, 3, settings, blank, [0; 192]);
     let a0 = s0.admission;
     let Admission::Admitted(zero) = a0 else {
         return;
     };
-    let s1 = laptop::start(1, 3, blank, [0; 192]);
+    let s1 = laptop::start(1, 3, settings, blank, [0; 192]);
     let a1 = s1.admission;
     let Admission::Admitted(one) = a1 else {
         return;

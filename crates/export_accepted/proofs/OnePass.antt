@@ -18,12 +18,12 @@ use Rattle.packet_format.specs.Accepting.{accepted, taken, fetchedOf}
 use Rattle.packet_format.proofs.Entries.{good-parts}
 use Rattle.packet_format.proofs.Accepting.{taken-is-fetched, taken-is-good}
 use Rattle.packet_event.specs.Arrival.{receivedOf, receiptOf}
-use Rattle.export_numbers.specs.Crossing.{receivedIn}
+use Rattle.export_numbers.specs.Crossing.{groupRule, receivedIn}
 use Rattle.export_records.specs.Layout.{tableOf}
 use Rattle.export_calls.specs.Calls.{nodeOf}
 use Rattle.export_arrival.specs.Arrival.{numbersOf}
 use Rattle.export_accepted.specs.Arrival.{Came, takenReceipt}
-use Rattle.export_accepted.specs.OnePass.{ruleOf, AsFetched, DeliversAll}
+use Rattle.export_accepted.specs.OnePass.{AsFetched, DeliversAll}
 
 -- the numbers of an entry of a known kind stand for its message
 stands : (f : Fields) → known (f .kind) ≡ true → receivedIn (numbersOf f) ≡ receivedOf (entryOf f)
@@ -40,13 +40,13 @@ own-receipt rule n p i = by (taken p (accepted rule p) i) refl ∙ ap (receiptOf
     by (Refused k) e = refl
 
 pub delivers-all : DeliversAll
-delivers-all me table store packet i r table′ store′ came = by (taken packet (accepted (ruleOf me) packet) i) refl came
+delivers-all me table store packet i r table′ store′ came = by (taken packet (accepted (groupRule me) packet) i) refl came
   where
-    by : (t : Taken) → taken packet (accepted (ruleOf me) packet) i ≡ t → Came (nodeOf me table store) table packet t r table′ store′ → AsFetched me table store packet i r table′ store′
+    by : (t : Taken) → taken packet (accepted (groupRule me) packet) i ≡ t → Came (nodeOf me table store) table packet t r table′ store′ → AsFetched me table store packet i r table′ store′
     by (Entry f) e c =
-        let same = sym (taken-is-fetched (ruleOf me) packet i) ∙ ap fetchedOf e in
-        let d = rw (stands f (good-parts f (taken-is-good (ruleOf me) packet i f e) .kind)) at (c .done) in
+        let same = sym (taken-is-fetched (groupRule me) packet i) ∙ ap fetchedOf e in
+        let d = rw (stands f (good-parts f (taken-is-good (groupRule me) packet i f e) .kind)) at (c .done) in
         record { arrived = rw same (record { answer = d .answer; bytes = d .bytes; table = d .table; store = d .store }); message = rw same (c .message) }
     by (Refused k) e c =
-        let same = sym (taken-is-fetched (ruleOf me) packet i) ∙ ap fetchedOf e in
+        let same = sym (taken-is-fetched (groupRule me) packet i) ∙ ap fetchedOf e in
         record { arrived = rw same (record { answer = c .done .0; bytes = c .done .1; table = ap tableOf (c .done .1); store = c .done .2 }); message = rw same (c .message) }

@@ -2,7 +2,7 @@
 ghost use Rattle.packet_format.specs.Reading.{fetched};
 ghost use Rattle.export_arrival.specs.Arrival.{Arrived};
 ghost use Rattle.export_calls.specs.Calls.{nodeOf};
-ghost use Rattle.export_numbers.specs.Crossing.{settingsOf};
+ghost use Rattle.export_numbers.specs.Crossing.{groupRule};
 use export_numbers::CetskobiAnswer;
 use export_numbers::CetskobiMessage;
 use export_numbers::CetskobiReplica;
@@ -18,7 +18,7 @@ pub extern "C" fn cetskobi_deliver_packet(
     packet: &[u8],
     i: usize,
 ) -> CetskobiAnswer
-    ensures { λ a. ⌜ Arrived (nodeOf me (now (table .entry)) (now (store .entry))) (now (table .entry)) (now (packet .entry)) (fetched (settingsOf (me .settings) .rule) (now (packet .entry)) i) a (now (table .exit)) (now (store .exit)) ⌝ }
+    ensures { λ a. ⌜ Arrived (nodeOf me (now (table .entry)) (now (store .entry))) (now (table .entry)) (now (packet .entry)) (fetched (groupRule me) (now (packet .entry)) i) a (now (table .exit)) (now (store .exit)) ⌝ }
 {
     let given = me.settings;
     let settings = export_numbers::settings_of(given);

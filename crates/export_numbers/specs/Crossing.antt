@@ -39,6 +39,10 @@ settingsOut x = record { rule = ruleNumber (x .rule) }
 abbrev pub replicaOf : CetskobiReplica → Replica
 replicaOf me = record { number = me .number; epoch = me .epoch; view = me .view; settings = settingsOf (me .settings) }
 
+-- the rule of a laptop's group
+abbrev pub groupRule : CetskobiReplica → Rule
+groupRule me = settingsOf (me .settings) .rule
+
 -- an identity on its way out
 abbrev pub identityOf : Replica → CetskobiReplica
 identityOf me = record { number = me .number; settings = settingsOut (me .settings); view = me .view; epoch = me .epoch }

@@ -14,7 +14,7 @@ same-length-2 : tie.Need-same-length-2
 same-length-2 c = search needs
 
 returns : tie.Need-returns
-returns c = begins _ _ _ _ _ _ _ (c .before .before .before .before .cetskobi-start .ensures)
+returns c = begins _ _ (c .before .before .before .before .before .before .before .before .before .args .settings) _ _ _ _ _ (c .before .before .before .before .cetskobi-start .ensures)
 
 pub start-spec : {M : Type 1} → statement M
 start-spec = tie.close (tie.spec cetskobi-start-requires same-length same-length-2 returns)

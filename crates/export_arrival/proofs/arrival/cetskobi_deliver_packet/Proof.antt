@@ -2,7 +2,7 @@
 use mathlib.Core.Path.{ap, _∙_}
 use Rattle.hermes.specs.declared.event.Settings.{Settings}
 use Rattle.packet_format.specs.Reading.{fetched}
-use Rattle.export_numbers.specs.Crossing.{settingsOf}
+use Rattle.export_numbers.specs.Crossing.{groupRule}
 use Rattle.export_arrival.proofs.Arrivals.{found, refused}
 use borrow.Author.Needs.{needs}
 use Rattle.export_arrival.proofs.arrival.cetskobi_deliver_packet.Statement.{statement}
@@ -41,12 +41,12 @@ same-length-2 c = search needs
 returns : tie.Need-returns
 returns c =
     let v = c .before .before .before .before .before .before .before .before .before .before .before .before .before .before .before .before .before .before .args in
-    found (v .me) (v .table .now) (v .store .now) (v .packet .now) (v .i) (settingsOf (v .me .settings) .rule) _ (c .before .before .before .before .before .before .before .before .before .before .before .before .fetch .ensures ∙ ap (λ (x : Settings). fetched (x .rule) (v .packet .now) (v .i)) (c .before .before .before .before .before .before .before .before .before .before .before .before .before .settings-of .ensures)) _ _ _ _ _ _ _ (c .before .before .before .before .before .before .before .before .before .before .fetched .given .1) (c .before .before .before .before .before .before .before .before .fields-for .ensures) (c .before .before .before .before .before .before .before .body .ensures) (c .before .before .before .before .cetskobi-deliver .ensures)
+    found (v .me) (v .table .now) (v .store .now) (v .packet .now) (v .i) (groupRule (v .me)) _ (c .before .before .before .before .before .before .before .before .before .before .before .before .fetch .ensures ∙ ap (λ (x : Settings). fetched (x .rule) (v .packet .now) (v .i)) (c .before .before .before .before .before .before .before .before .before .before .before .before .before .settings-of .ensures)) _ _ _ _ _ _ _ (c .before .before .before .before .before .before .before .before .before .before .fetched .given .1) (c .before .before .before .before .before .before .before .before .fields-for .ensures) (c .before .before .before .before .before .before .before .body .ensures) (c .before .before .before .before .cetskobi-deliver .ensures)
 
 returns-2 : tie.Need-returns-2
 returns-2 c =
     let v = c .before .before .before .before .before .before .before .before .before .before .args in
-    refused (v .me) (v .table .now) (v .store .now) (v .packet .now) (v .i) (settingsOf (v .me .settings) .rule) _ (c .before .before .before .before .fetch .ensures ∙ ap (λ (x : Settings). fetched (x .rule) (v .packet .now) (v .i)) (c .before .before .before .before .before .settings-of .ensures)) _ _ (c .before .before .fetched2 .given .1) (c .answer-out .ensures)
+    refused (v .me) (v .table .now) (v .store .now) (v .packet .now) (v .i) (groupRule (v .me)) _ (c .before .before .before .before .fetch .ensures ∙ ap (λ (x : Settings). fetched (x .rule) (v .packet .now) (v .i)) (c .before .before .before .before .before .settings-of .ensures)) _ _ (c .before .before .fetched2 .given .1) (c .answer-out .ensures)
 
 pub cetskobi-deliver-packet-spec : {M : Type 1} → statement M
 cetskobi-deliver-packet-spec =
