@@ -1,9 +1,9 @@
 //! Random runs of small groups, with loss, repetition, reordering and changes
 //! of view. Demand 3 is checked after every event, and so is what Wish 5 promises.
 
-use std::collections::{BTreeMap, BTreeSet};
+use std::collections::{BTreeMap, BTreeSet, HashMap};
 
-use model::engine::{bit, Answer, Message, Record, Refusal, State, Timestamp};
+use model::engine::{bit, Answer, Message, Record, Refusal, Rule, State, Timestamp};
 use model::rng::Rng;
 
 use crate::group::{Commit, Event, Group};
@@ -47,7 +47,13 @@ fn name(
             let envelope = &group.posts[post].envelope;
             let held = member.table[envelope.record];
             match envelope.message {
-                Message::Inv(timestamp) if held.timestamp > timestamp => "older INV",
+                Message::Inv(timestamp)
+                    if held
+                        .timestamp
+                        .is_after(timestamp, member.replica.settings.rule) =>
+                {
+                    "older INV"
+                }
                 Message::Inv(_) => match held.state {
                     State::InvalidWrite => "INV at a write",
                     _ => "INV",
@@ -105,7 +111,7 @@ fn of_commit(
         ("26, not valid", !valid),
         (
             "26, a newer save between",
-            valid && was_asked && opened < held,
+            valid && was_asked && held.is_after(opened, Rule::Higher),
         ),
         ("26, the tie-breaker alone", valid && one_version),
         ("26, the version alone", valid && one_tie),
@@ -144,7 +150,7 @@ fn run_with(
     let (mut group, mut schedule) = Schedule::start(rng, together);
     group.commit = commit;
     // The commits: by record and stamp, who.
-    let mut saved: BTreeMap<(usize, Timestamp), BTreeSet<usize>> = BTreeMap::new();
+    let mut saved: HashMap<(usize, Timestamp), BTreeSet<usize>> = HashMap::new();
     // The records that were replayed from invalid-write and still are in replay.
     let mut given_up = BTreeSet::new();
     for _ in 0..EVENTS {
@@ -298,7 +304,9 @@ fn the_check_of_what_is_shown_can_fail() {
     for event in [Event::Read { record: 0 }, Event::Ask { record: 0 }] {
         let mut group = station();
         let now = group.members[0].clone();
-        group.members[0] = Group::start(&[0], set(&[0, 1, 2]), 1).members.remove(0);
+        group.members[0] = Group::start(Rule::Higher, &[0], set(&[0, 1, 2]), 1)
+            .members
+            .remove(0);
         assert_eq!(group.play(0, &event), Ok(None));
         group.members[0] = now.clone();
         assert_eq!(group.play(0, &event), Ok(None));
@@ -318,7 +326,7 @@ fn the_check_of_what_is_shown_can_fail() {
 /// Replica 0 has written; 1 has acknowledged, 2 has heard nothing. The view
 /// {0,1} of epoch 1 has come to 0 alone, which validates.
 fn station() -> Group {
-    let mut group = Group::start(&[0, 1, 2], set(&[0, 1, 2]), 1);
+    let mut group = Group::start(Rule::Higher, &[0, 1, 2], set(&[0, 1, 2]), 1);
     let value = b"old ring".to_vec();
     let write = Event::Write { record: 0, value };
     let view = Event::View {
@@ -369,7 +377,7 @@ fn forge(group: &mut Group) {
 /// A forged last acknowledgement validates while 2 still shows the old text.
 #[test]
 fn the_second_check_can_fail() {
-    let mut group = Group::start(&[0, 2], set(&[0, 2]), 1);
+    let mut group = Group::start(Rule::Higher, &[0, 2], set(&[0, 2]), 1);
     forge(&mut group);
     assert_eq!(group.durability(), Ok(()));
     let answer = group.play(0, &Event::Deliver { post: 0 });
@@ -381,7 +389,7 @@ fn the_second_check_can_fail() {
 /// struck off.
 #[test]
 fn the_second_check_can_fail_at_validate() {
-    let mut group = Group::start(&[0, 1, 2], set(&[0, 1, 2]), 1);
+    let mut group = Group::start(Rule::Higher, &[0, 1, 2], set(&[0, 1, 2]), 1);
     forge(&mut group);
     assert_eq!(group.play(0, &Event::Deliver { post: 0 }), Ok(None));
     let view = Event::View {
@@ -398,7 +406,7 @@ fn the_second_check_can_fail_at_validate() {
 /// A VAL sent again is no validation.
 #[test]
 fn a_resent_val_is_no_validation() {
-    let mut group = Group::start(&[0, 2], set(&[0, 2]), 1);
+    let mut group = Group::start(Rule::Higher, &[0, 2], set(&[0, 2]), 1);
     let answer = group.play(0, &Event::Resend { record: 0 });
     assert_eq!(answer, Ok(Some(val(0, 0))));
     assert!(group.validations.is_empty());

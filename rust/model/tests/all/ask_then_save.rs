@@ -1,7 +1,7 @@
 //! Ask for a record, then save it (02, Wish 5): a ringer opens an old record,
 //! measures the bird, and saves over what she saw.
 
-use model::engine::{body, Answer, Record, Refusal, State, Timestamp};
+use model::engine::{body, Answer, Record, Refusal, Rule, State, Timestamp};
 
 use crate::group::{Event, Group};
 use crate::support::{ack, from, inv, set, ts, val, Member};
@@ -147,7 +147,7 @@ const ALL: [usize; 3] = [0, 1, 2];
 const FIRST: Timestamp = ts(0, 0);
 
 fn group() -> Group {
-    Group::start(&[0, 1, 2], set(&[0, 1, 2]), 1)
+    Group::start(Rule::Higher, &[0, 1, 2], set(&[0, 1, 2]), 1)
 }
 
 fn ask(group: &mut Group, at: usize) -> Timestamp {

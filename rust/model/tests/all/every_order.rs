@@ -9,7 +9,7 @@
 use std::collections::HashSet;
 use std::hash::{DefaultHasher, Hash, Hasher};
 
-use model::engine::{Record, Refusal, State};
+use model::engine::{Record, Refusal, Rule, State};
 
 use crate::group::{Commit, Event, Group, Post};
 use crate::support::{set, Member};
@@ -94,7 +94,7 @@ struct Found {
 
 /// Laptops of these numbers.
 fn laptops(numbers: &[u8]) -> Group {
-    Group::start(numbers, set(numbers), 1)
+    Group::start(Rule::Higher, numbers, set(numbers), 1)
 }
 
 /// Goes through all situations up to one against demand 3 or Wish 5; `besides` is

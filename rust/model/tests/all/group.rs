@@ -1,7 +1,7 @@
 //! A group at work: its members, every message that ever left, the views that
 //! the warden issues, demand 3 in both halves, and what Wish 5 promises.
 
-use model::engine::{body, has, number, Answer, Envelope, Message, State, Timestamp};
+use model::engine::{body, has, number, Answer, Envelope, Message, Rule, State, Timestamp};
 use model::opened::{Held, Opened};
 
 use crate::support::Member;
@@ -77,14 +77,15 @@ pub struct Group {
 }
 
 impl Group {
-    /// All members have just started fresh, with one first view.
-    pub fn start(numbers: &[u8], view: u16, records: usize) -> Group {
-        let start = |&number| Member::start(number, view, records);
+    /// All members have just started fresh, with one first view and this rule of
+    /// ties.
+    pub fn start(rule: Rule, numbers: &[u8], view: u16, records: usize) -> Group {
+        let start = |&number| Member::start(rule, number, view, records);
         Group {
             members: numbers.iter().map(start).collect(),
             posts: Vec::new(),
             validations: Vec::new(),
-            opened: vec![vec![Opened::default(); records]; numbers.len()],
+            opened: vec![vec![Opened::new(rule); records]; numbers.len()],
             against: None,
             commit: Member::commit,
         }
@@ -213,7 +214,9 @@ impl Group {
                 let shown = &member.table[validation.record];
                 if has(validation.view, member.replica.number)
                     && shown.state == State::Valid
-                    && shown.timestamp < validation.timestamp
+                    && validation
+                        .timestamp
+                        .is_after(shown.timestamp, member.replica.settings.rule)
                 {
                     let replica = member.replica;
                     return Err(format!("{validation:?}, but {replica:?} {shown:?}"));

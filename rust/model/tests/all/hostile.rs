@@ -4,7 +4,8 @@
 //! form does.
 
 use model::engine::{
-    body, Answer, Envelope, Message, Record, Refusal, Replica, Sizes, Slot, State, Timestamp,
+    body, Answer, Envelope, Message, Record, Refusal, Replica, Rule, Settings, Sizes, Slot, State,
+    Timestamp,
 };
 use model::rng::Rng;
 
@@ -79,6 +80,9 @@ fn some_member(rng: &mut Rng) -> Member {
             },
             epoch: rng.below(3) as u32,
             view: some_view(rng),
+            settings: Settings {
+                rule: rng.pick(&Rule::ALL).expect("a rule"),
+            },
         },
         table: (0..count).map(|_| some_record(rng)).collect(),
         store,
@@ -363,12 +367,17 @@ fn starts() {
     for _ in 0..ROUNDS / 4 {
         let before = some_member(&mut rng);
         let mut after = before.clone();
-        let Replica { number, view, .. } = before.replica;
-        let answer = Replica::start(number, view, &mut after.table, &mut after.store);
+        let Replica {
+            number,
+            view,
+            settings,
+            ..
+        } = before.replica;
+        let answer = Replica::start(number, view, settings, &mut after.table, &mut after.store);
 
         let sizes = Sizes::of(&before.table, &before.store);
         let (mut record, mut slot) = taken_out(&before, 0);
-        let one = Replica::start_one(number, view, sizes, &mut record, &mut slot);
+        let one = Replica::start_one(number, view, settings, sizes, &mut record, &mut slot);
         assert_eq!(answer, one);
         let Ok(replica) = answer else {
             assert_eq!(after, before);
@@ -376,7 +385,7 @@ fn starts() {
         };
         accepted += 1;
         assert_eq!((replica.number, replica.epoch), (number, 0));
-        assert_eq!(replica.view, view);
+        assert_eq!((replica.view, replica.settings), (view, settings));
         assert!(after.table.iter().all(|&each| each == record));
         assert!(after.store.iter().all(|&byte| byte == 0));
         assert_eq!(record, Record::fresh(view.trailing_zeros() as u8));
@@ -396,11 +405,10 @@ fn views() {
         let answer = after.change_view(epoch, view);
         if answer.is_ok() {
             accepted += 1;
-            let number = before.number;
             let expected = Replica {
-                number,
                 epoch,
                 view,
+                ..before
             };
             assert_eq!((answer, after), (Ok(None), expected));
             assert!(epoch > before.epoch && view | before.view == before.view);

@@ -1,7 +1,7 @@
 //! What each accepted event makes of a whole record (01, "Steps"), from records
 //! whose every field differs from what a fresh start gives.
 
-use model::engine::{Answer, Message, Record, State};
+use model::engine::{Answer, Message, Record, Rule, State};
 
 use crate::support::{ack, from, inv, set, ts, val, Member};
 
@@ -281,7 +281,7 @@ fn view() {
 #[test]
 fn the_second_record() {
     // The part is 192 times the record's number into the store.
-    let mut member = Member::start(2, set(&[1, 2, 5]), 3);
+    let mut member = Member::start(Rule::Higher, 2, set(&[1, 2, 5]), 3);
     member.store.fill(b'~');
     assert!(member.write(1, b"ring").is_ok());
     assert_eq!(&member.store[190..197], b"~~ring\0");

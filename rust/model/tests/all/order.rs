@@ -1,7 +1,7 @@
 //! The order of the questions: for every subset of an event's questions, an
 //! input that fails just these answers the first of them.
 
-use model::engine::{number, Envelope, Message, Record, Replica, State};
+use model::engine::{number, Envelope, Message, Record, Replica, Rule, Settings, State};
 use model::packet::{self, Entry};
 
 use crate::support::{ack, from, inv, packet_of, set, ts, val, Member};
@@ -93,7 +93,13 @@ fn start() {
     every_subset(&[1, 2, 3], |faults| {
         faults.answer(faults.member(Record::fresh(9)), |m| {
             let Replica { number, view, .. } = m.replica;
-            Replica::start(number, view, &mut m.table, &mut m.store)
+            Replica::start(
+                number,
+                view,
+                Settings { rule: Rule::Higher },
+                &mut m.table,
+                &mut m.store,
+            )
         })
     });
 }
@@ -253,7 +259,7 @@ fn view() {
 
 /// A packet with the faults 20 to 22, and an index with fault 23.
 fn packet(faults: &Faults, envelope: Envelope) -> (Vec<u8>, usize) {
-    let mut bytes = packet_of(&[(envelope, b"")]).expect("accepted");
+    let mut bytes = packet_of(Rule::Higher, &[(envelope, b"")]).expect("accepted");
     if faults.has(20) {
         bytes[0] = 0;
     }
@@ -270,7 +276,7 @@ fn packet(faults: &Faults, envelope: Envelope) -> (Vec<u8>, usize) {
 fn fetch() {
     every_subset(&[20, 21, 22, 23], |faults| {
         let (bytes, index) = packet(faults, from(5, ack(1, 2)));
-        number(&packet::fetch(&bytes, index))
+        number(&packet::fetch(Rule::Higher, &bytes, index))
     });
 }
 
@@ -295,7 +301,12 @@ fn write_packet() {
         };
         let mut out = [0xee; 21];
         let room = faults.choose(25, 21, 20);
-        let answer = number(&packet::write(&[entry], b"b", &mut out[..room]));
+        let answer = number(&packet::write(
+            Rule::Higher,
+            &[entry],
+            b"b",
+            &mut out[..room],
+        ));
         assert!(answer == 0 || out == [0xee; 21]);
         answer
     });

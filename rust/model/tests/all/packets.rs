@@ -1,6 +1,6 @@
 //! Packets: the questions 20 to 25, round trips, and changed bytes.
 
-use model::engine::{number, Envelope, Message, Refusal};
+use model::engine::{number, Envelope, Message, Refusal, Rule};
 use model::packet::{self, Entry};
 use model::rng::Rng;
 
@@ -8,7 +8,11 @@ use crate::support::{ack, from, in_one_pass, inv, messages_of, packet_of, rng, t
 
 /// A packet of an INV with the body "B7" and an ACK.
 fn two() -> Vec<u8> {
-    packet_of(&[(from(5, inv(1, 5)), b"B7"), (from(1, ack(1, 2)), b"")]).expect("accepted")
+    packet_of(
+        Rule::Higher,
+        &[(from(5, inv(1, 5)), b"B7"), (from(1, ack(1, 2)), b"")],
+    )
+    .expect("accepted")
 }
 
 #[test]
@@ -16,10 +20,10 @@ fn packets_read() {
     let is = |no: u8, index: usize, change: &dyn Fn(&mut Vec<u8>)| {
         let mut bytes = two();
         change(&mut bytes);
-        assert_eq!(number(&packet::fetch(&bytes, index)), no);
+        assert_eq!(number(&packet::fetch(Rule::Higher, &bytes, index)), no);
         // 02, Wish 4: the same numbers in the same order, 20 to 22 of the packet
         // and 23 of the message.
-        let accepted = packet::accept(&bytes);
+        let accepted = packet::accept(Rule::Higher, &bytes);
         assert_eq!(number(&accepted), if no == 23 { 0 } else { no });
         assert_eq!(number(&accepted.and_then(|all| all.message(index))), no);
     };
@@ -28,7 +32,7 @@ fn packets_read() {
     is(20, 0, &Vec::clear);
     is(20, 0, &|p| p.truncate(3));
     is(20, 0, &|p| p[0] = 0);
-    is(20, 0, &|p| p[0] = 2);
+    is(27, 0, &|p| p[0] = 2);
     is(20, 0, &|p| p[1] = 0);
     is(20, 0, &|p| p[1] = 65);
     is(20, 0, &|p| p[3] += 1);
@@ -79,7 +83,7 @@ fn packets_written() {
     };
     let write = |entries: &[Entry], bodies: &[u8], room: usize| {
         let mut out = vec![0xee; room];
-        let answer = packet::write(entries, bodies, &mut out);
+        let answer = packet::write(Rule::Higher, entries, bodies, &mut out);
         let untouched = &out[*answer.as_ref().unwrap_or(&0)..];
         assert!(untouched.iter().all(|&byte| byte == 0xee));
         number(&answer)
@@ -118,12 +122,12 @@ fn packets_written() {
 /// An accepted packet is the one that the writer makes of its messages, whether
 /// they are fetched or taken in one pass. Answers whether it was accepted.
 fn reads_back(bytes: &[u8]) -> bool {
-    let messages = messages_of(bytes);
-    assert_eq!(in_one_pass(bytes), messages);
+    let messages = messages_of(Rule::Higher, bytes);
+    assert_eq!(in_one_pass(Rule::Higher, bytes), messages);
     let Ok(messages) = messages else {
         return false;
     };
-    assert_eq!(packet_of(&messages).as_deref(), Ok(bytes));
+    assert_eq!(packet_of(Rule::Higher, &messages).as_deref(), Ok(bytes));
     true
 }
 
@@ -162,9 +166,9 @@ fn round_trips() {
     for _ in 0..3000 {
         let messages = some_messages(&mut rng);
         let messages: Vec<_> = messages.iter().map(|(e, b)| (*e, &b[..])).collect();
-        let bytes = packet_of(&messages).expect("accepted");
-        assert_eq!(messages_of(&bytes), Ok(messages.clone()));
-        assert_eq!(in_one_pass(&bytes), Ok(messages));
+        let bytes = packet_of(Rule::Higher, &messages).expect("accepted");
+        assert_eq!(messages_of(Rule::Higher, &bytes), Ok(messages.clone()));
+        assert_eq!(in_one_pass(Rule::Higher, &bytes), Ok(messages));
         longest = longest.max(bytes.len());
     }
     assert!(longest > 1350, "only short packets");
@@ -173,13 +177,13 @@ fn round_trips() {
 #[test]
 fn full_packets() {
     // 64 messages without bodies, and with 372 bytes of them: 1,400 in all.
-    let bytes = packet_of(&[(from(1, val(1, 1)), &b""[..]); 64]).expect("accepted");
+    let bytes = packet_of(Rule::Higher, &[(from(1, val(1, 1)), &b""[..]); 64]).expect("accepted");
     assert_eq!(bytes.len(), 4 + 64 * 16);
     assert!(reads_back(&bytes));
     let mut messages = [(from(1, inv(1, 1)), &[9; 6][..]); 64];
     messages[62].1 = b"";
     messages[63].1 = b"";
-    let bytes = packet_of(&messages).expect("accepted");
+    let bytes = packet_of(Rule::Higher, &messages).expect("accepted");
     assert_eq!(bytes.len(), 1400);
     assert!(reads_back(&bytes));
 }
@@ -188,15 +192,21 @@ fn full_packets() {
 fn every_single_byte_changed() {
     let long = [b'z'; 192];
     let packets = [
-        packet_of(&[(from(5, ack(1, 2)), b"")]),
-        packet_of(&[(from(5, inv(1, 5)), b"")]),
-        packet_of(&[
-            (from(5, inv(1, 5)), b"wing 71"),
-            (from(1, ack(1, 2)), b""),
-            (from(3, inv(u32::MAX, 15)), b"weight 18"),
-            (from(15, val(7, 0)), b""),
-        ]),
-        packet_of(&[(from(0, inv(2, 0)), &long), (from(4, inv(2, 4)), b"")]),
+        packet_of(Rule::Higher, &[(from(5, ack(1, 2)), b"")]),
+        packet_of(Rule::Higher, &[(from(5, inv(1, 5)), b"")]),
+        packet_of(
+            Rule::Higher,
+            &[
+                (from(5, inv(1, 5)), b"wing 71"),
+                (from(1, ack(1, 2)), b""),
+                (from(3, inv(u32::MAX, 15)), b"weight 18"),
+                (from(15, val(7, 0)), b""),
+            ],
+        ),
+        packet_of(
+            Rule::Higher,
+            &[(from(0, inv(2, 0)), &long), (from(4, inv(2, 4)), b"")],
+        ),
     ];
     for packet in packets {
         let mut bytes = packet.expect("accepted");
@@ -233,7 +243,7 @@ fn random_bytes() {
     for _ in 0..20_000 {
         let messages = some_messages(&mut rng);
         let messages: Vec<_> = messages.iter().take(4).map(|(e, b)| (*e, &b[..])).collect();
-        let mut bytes = packet_of(&messages).expect("accepted");
+        let mut bytes = packet_of(Rule::Higher, &messages).expect("accepted");
         for _ in 0..=rng.below(3) {
             let at = rng.below(bytes.len());
             bytes[at] = rng.next_u64() as u8;
@@ -263,7 +273,7 @@ fn delivery_from_a_packet() {
     assert_eq!(member.deliver_packet(&bytes, 2), Err(Refusal::PacketIndex));
 
     let mut direct = Member::ringing();
-    for (envelope, body) in messages_of(&bytes).expect("accepted") {
+    for (envelope, body) in messages_of(Rule::Higher, &bytes).expect("accepted") {
         let _ = direct.deliver(&envelope, body);
     }
     assert_eq!(member, direct);
@@ -278,13 +288,13 @@ fn messages_in_one_pass() {
     for _ in 0..3000 {
         let messages = some_messages(&mut rng);
         let messages: Vec<_> = messages.iter().map(|(e, b)| (*e, &b[..])).collect();
-        let bytes = packet_of(&messages).expect("accepted");
-        let accepted = packet::accept(&bytes).expect("accepted");
+        let bytes = packet_of(Rule::Higher, &messages).expect("accepted");
+        let accepted = packet::accept(Rule::Higher, &bytes).expect("accepted");
         assert_eq!(accepted.count(), messages.len());
         for (i, message) in messages.iter().enumerate() {
             let (envelope, body) = accepted.message(i).expect("a message");
             assert_eq!((envelope, body), *message);
-            let fetched = packet::fetch(&bytes, i).expect("a message");
+            let fetched = packet::fetch(Rule::Higher, &bytes, i).expect("a message");
             assert_eq!(place(body), place(fetched.1));
         }
         for past in [messages.len(), messages.len() + 1, 64, 255, 256, usize::MAX] {
@@ -297,7 +307,7 @@ fn messages_in_one_pass() {
 fn delivery_in_one_pass() {
     let mut member = Member::ringing();
     let bytes = two();
-    let accepted = packet::accept(&bytes).expect("accepted");
+    let accepted = packet::accept(Rule::Higher, &bytes).expect("accepted");
     let mut deliver = |index| {
         let Member {
             replica,
@@ -335,9 +345,9 @@ fn random_deliveries_in_one_pass() {
             envelope.record = rng.below(4);
         }
         let messages: Vec<_> = messages.iter().map(|(e, b)| (*e, &b[..])).collect();
-        let bytes = packet_of(&messages).expect("accepted");
-        let accepted = packet::accept(&bytes).expect("accepted");
-        let mut member = Member::start(2, 0b10_0110, 3);
+        let bytes = packet_of(Rule::Higher, &messages).expect("accepted");
+        let accepted = packet::accept(Rule::Higher, &bytes).expect("accepted");
+        let mut member = Member::start(Rule::Higher, 2, 0b10_0110, 3);
         let mut one_by_one = member.clone();
         for (i, (envelope, _)) in messages.iter().enumerate() {
             let expected = one_by_one.deliver_packet(&bytes, i);

@@ -4,7 +4,7 @@
 use std::collections::BTreeSet;
 
 use model::engine::{
-    bit, has, number, Answer, Envelope, Record, Refusal, Replica, State, Timestamp,
+    bit, has, number, Answer, Envelope, Record, Refusal, Replica, Rule, Settings, State, Timestamp,
 };
 
 use crate::support::{ack, from, inv, set, ts, val, Member};
@@ -129,7 +129,13 @@ fn start() {
     let start = |number, view, records, store| {
         let mut table = vec![Record::fresh(9); records];
         let mut store = vec![3; store];
-        let answer = Replica::start(number, view, &mut table, &mut store);
+        let answer = Replica::start(
+            number,
+            view,
+            Settings { rule: Rule::Higher },
+            &mut table,
+            &mut store,
+        );
         let moved = table.iter().any(|&record| record != Record::fresh(9))
             || store.iter().any(|&byte| byte != 3);
         assert_eq!(moved, answer.is_ok());
@@ -387,7 +393,7 @@ fn resends_send() {
     assert_eq!(member, before);
 
     // A fresh replica that is the lowest of its view is last writer.
-    let lowest = Member::start(1, set(&[1, 2, 5]), 1);
+    let lowest = Member::start(Rule::Higher, 1, set(&[1, 2, 5]), 1);
     assert_eq!(lowest.resend(0), Ok(Some(val(0, 1))));
     assert_eq!(Member::ringing().resend(0), Err(Refusal::NotResendable));
 }
@@ -440,10 +446,12 @@ fn the_numbers_are_the_papers() {
         PacketMessages,
         PacketRoom,
         NotAsOpened,
+        OtherRule,
     ];
     let numbers: BTreeSet<u8> = all.iter().map(|refusal| refusal.number()).collect();
-    assert_eq!(numbers, (1..=26).collect());
+    assert_eq!(numbers, (1..=27).collect());
     assert_eq!(NotAsOpened.number(), 26);
+    assert_eq!(OtherRule.number(), 27);
 }
 
 #[test]

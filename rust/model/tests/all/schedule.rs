@@ -2,7 +2,7 @@
 //! loses, repeats and holds back, with views that reach each member when they
 //! will.
 
-use model::engine::{bit, has, State, Timestamp};
+use model::engine::{bit, has, Rule, State, Timestamp};
 use model::rng::Rng;
 
 use crate::group::{Event, Group};
@@ -70,7 +70,10 @@ impl Schedule {
             schedule.deliveries = rng.below(13);
         }
         let records = if rng.chance(1, 8) { 2 } else { 1 };
-        (Group::start(&numbers, first, records), schedule)
+        (
+            Group::start(Rule::Higher, &numbers, first, records),
+            schedule,
+        )
     }
 
     /// The next event, and the place of the member that it comes to. One that

@@ -1,7 +1,7 @@
 //! A record hung after two saves (02, Wish 2): two huts save the same ring
 //! together, and the laptop with the winning stamp dies.
 
-use model::engine::{body, Answer, Envelope, Message, Record, Refusal, State};
+use model::engine::{body, Answer, Envelope, Message, Record, Refusal, Rule, State};
 
 use crate::group::{Event, Group};
 use crate::support::{ack, from, inv, set, ts, val, Member};
@@ -11,7 +11,7 @@ use crate::support::{ack, from, inv, set, ts, val, Member};
 /// Laptop 2 has saved (1,2), which 1 has acknowledged; 5's save (1,5) has
 /// overtaken it.
 fn overtaken() -> Member {
-    let mut member = Member::start(2, set(&[1, 2, 3, 5]), 1);
+    let mut member = Member::start(Rule::Higher, 2, set(&[1, 2, 3, 5]), 1);
     assert_eq!(member.write(0, b"own"), Ok(Some(inv(1, 2))));
     assert_eq!(member.deliver(&from(1, ack(1, 2)), b""), Ok(None));
     let winner = from(5, inv(1, 5));
@@ -236,7 +236,7 @@ fn another_replay_before_this_one() {
 /// These members save at once. Their INVs are the first posts, in this order.
 fn saved(size: u8, savers: &[usize]) -> Group {
     let numbers: Vec<u8> = (0..size).collect();
-    let mut group = Group::start(&numbers, set(&numbers), 1);
+    let mut group = Group::start(Rule::Higher, &numbers, set(&numbers), 1);
     for &at in savers {
         let value = text(at as u8);
         let write = Event::Write { record: 0, value };
