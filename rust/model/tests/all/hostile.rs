@@ -81,7 +81,7 @@ fn some_member(rng: &mut Rng) -> Member {
             epoch: rng.below(3) as u32,
             view: some_view(rng),
             settings: Settings {
-                rule: rng.pick(&Rule::ALL).expect("a rule"),
+                rule: Rule::ALL[rng.below(2)],
             },
         },
         table: (0..count).map(|_| some_record(rng)).collect(),
@@ -111,6 +111,10 @@ fn some_message(rng: &mut Rng, member: &Member, index: usize) -> Message {
     let timestamp = match member.table.get(index) {
         Some(record) if rng.chance(1, 3) => record.timestamp,
         Some(record) if rng.chance(1, 2) => record.last_write,
+        // A tie.
+        Some(record) if rng.chance(1, 3) => {
+            Timestamp::new(record.timestamp.version, some_number(rng))
+        }
         _ => some_timestamp(rng),
     };
     let kinds = [Message::Inv, Message::Ack, Message::Val];
@@ -178,6 +182,35 @@ fn counts_then_validates(done: &Done, sender: u8) -> bool {
     validated.is_ok()
 }
 
+/// 02, Wish 6: an accepted INV is acknowledged, and taken if its version is
+/// greater, or that of a tie wins by the laptop's rule. Tells if there was a tie
+/// of different numbers, and if it was won.
+fn is_the_inv(done: &Done, envelope: &Envelope, bytes: &[u8]) -> Option<bool> {
+    let new = envelope.message.timestamp();
+    let (held, slot) = taken_out(&done.before, done.index);
+    let (version, tie) = (held.timestamp.version, held.timestamp.tie);
+    let won = match done.before.rule() {
+        Rule::Higher => (new.version, new.tie) > (version, tie),
+        Rule::Lower => (new.version, 255 - new.tie) > (version, 255 - tie),
+    };
+    assert_eq!(done.answer, Ok(Some(Message::Ack(new))));
+    let mut expected = (held, slot);
+    if won {
+        let overtaken = matches!(held.state, State::Write | State::InvalidWrite);
+        expected.0 = Record {
+            state: [State::Invalid, State::InvalidWrite][usize::from(overtaken)],
+            timestamp: new,
+            last_writer: envelope.sender,
+            len: bytes.len() as u8,
+            ..held
+        };
+        expected.1.fill(0);
+        expected.1[..bytes.len()].copy_from_slice(bytes);
+    }
+    assert_eq!(taken_out(&done.after, done.index), expected);
+    (new.version == version && new.tie != tie).then_some(won)
+}
+
 /// 02, Wish 2: a replay is that of source document 000, widened by
 /// invalid-write. 16 refuses where it does not permit the step, and only there.
 fn is_the_replay(done: &Done) {
@@ -233,6 +266,8 @@ fn events() {
     // Commits refused by 26: not valid; of a valid record by the version alone,
     // by the tie-breaker alone; then by 8, by 9.
     let mut uncommitted = [0; 5];
+    // Ties, by the rule, and lost or won.
+    let mut ties = [[0; 2]; 2];
     for _ in 0..ROUNDS {
         let before = some_member(&mut rng);
         let index = some_index(&mut rng);
@@ -243,7 +278,7 @@ fn events() {
         let mut bytes = some_bytes(&mut rng);
         let event = rng.below(10);
         let mut kind = event;
-        let mut sender = u8::MAX;
+        let mut delivered = None;
         let opened = some_opened(&mut rng, &before, index);
         let (answer, one) = match event {
             0 => {
@@ -290,13 +325,13 @@ fn events() {
                 if kind != 5 && rng.chance(2, 3) {
                     bytes.clear();
                 }
-                sender = some_number(&mut rng);
                 let envelope = Envelope {
-                    sender,
+                    sender: some_number(&mut rng),
                     epoch: replica.epoch ^ u32::from(rng.chance(1, 10)),
                     record: index,
                     message,
                 };
+                delivered = Some(envelope);
                 (
                     after.deliver(&envelope, &bytes),
                     replica.deliver_one(sizes, &mut record, &mut slot, &envelope, &bytes),
@@ -337,8 +372,15 @@ fn events() {
             };
             at.into_iter().for_each(|at| uncommitted[at] += 1);
         }
-        if kind == 6 && done.answer.is_ok() {
-            let followed = counts_then_validates(&done, sender);
+        let delivered = delivered.filter(|_| done.answer.is_ok());
+        if let (5, Some(envelope)) = (kind, delivered) {
+            if let Some(won) = is_the_inv(&done, &envelope, &bytes) {
+                let by = usize::from(replica.settings.rule == Rule::Lower);
+                ties[by][usize::from(won)] += 1;
+            }
+        }
+        if let (6, Some(envelope)) = (kind, delivered) {
+            let followed = counts_then_validates(&done, envelope.sender);
             let all = replica.others() & !done.after.table[index].acks == 0;
             match done.before.table[index].state {
                 State::Write => last[0] += u32::from(followed),
@@ -353,7 +395,11 @@ fn events() {
     assert!(last.iter().all(|&times| times > 5), "{last:?}");
     assert!(overtaken > 5, "{overtaken}");
     assert!(given_up.iter().all(|&times| times > 50), "{given_up:?}");
-    println!("uncommitted {uncommitted:?}");
+    println!("uncommitted {uncommitted:?}, ties {ties:?}");
+    assert!(
+        ties.as_flattened().iter().all(|&times| times > 50),
+        "{ties:?}"
+    );
     assert!(
         uncommitted.iter().all(|&times| times > 50),
         "{uncommitted:?}"

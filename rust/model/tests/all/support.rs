@@ -47,6 +47,25 @@ pub fn from(sender: u8, message: Message) -> Envelope {
     }
 }
 
+/// The one of these numbers that wins a tie by this rule (02, Wish 6).
+pub fn winner(rule: Rule, numbers: &[u8]) -> u8 {
+    let mut sorted = numbers.to_vec();
+    sorted.sort_unstable();
+    let won = match rule {
+        Rule::Higher => sorted.last(),
+        Rule::Lower => sorted.first(),
+    };
+    *won.expect("a number")
+}
+
+/// The other rule of ties.
+pub fn other(rule: Rule) -> Rule {
+    match rule {
+        Rule::Higher => Rule::Lower,
+        Rule::Lower => Rule::Higher,
+    }
+}
+
 /// A replica with the memory that is lent for it.
 #[derive(Clone, Debug, PartialEq)]
 pub struct Member {
@@ -79,6 +98,10 @@ impl Member {
     /// The same with this rule of ties.
     pub fn ringing_by(rule: Rule) -> Member {
         Member::start(rule, 2, set(&[1, 2, 5]), 1)
+    }
+
+    pub fn rule(&self) -> Rule {
+        self.replica.settings.rule
     }
 
     pub fn slot(&self, record: usize) -> &[u8] {
