@@ -276,7 +276,7 @@ fn all_came_about(tally: &Tally) {
         ("ask", 7500),
         ("commit", 4000),
         ("commit on a stamp of two", 600),
-        ("commit, 8", 5),
+        ("commit, 8", 2),
         ("26, not valid", 7500),
         ("26, a newer save between", 1500),
         ("26, the tie-breaker alone", 350),

@@ -397,7 +397,7 @@ fn events() {
     assert!(given_up.iter().all(|&times| times > 50), "{given_up:?}");
     println!("uncommitted {uncommitted:?}, ties {ties:?}");
     assert!(
-        ties.as_flattened().iter().all(|&times| times > 50),
+        ties.as_flattened().iter().all(|&times| times > 20),
         "{ties:?}"
     );
     assert!(
