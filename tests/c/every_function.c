@@ -496,7 +496,7 @@ static int of_byte_0(int rule, int byte) {
     return (byte == CETSKOBI_LOWER) == (rule == CETSKOBI_LOWER) ? 0 : CETSKOBI_REFUSED_OTHER_RULE;
 }
 
-/* A packet whose every question is answered by this number, to this group, in whichever way it is asked; if that is not 0, nothing is taken. */
+/* In whichever way this packet comes to a group with these settings, the answer is this number; if it is not 0, nothing is taken. */
 static void packet_answers(struct cetskobi_settings settings, const uint8_t *packet, size_t len, int number) {
     struct cetskobi_replica r = me;
     r.settings = settings;
