@@ -302,7 +302,8 @@ CETSKOBI_MUST_USE
 uint16_t cetskobi_recipients(struct cetskobi_replica me, uint8_t kind, uint8_t sender);
 
 /* Packets. Who reads or writes them passes the group's settings, me.settings of its laptops. Byte 0 is the number of the group's rule:
- * question 20 lets it be 1 or 2, and a packet of a group with the other rule is refused by 27, which is asked right after 20. */
+ * question 20 lets it be 1 or 2, and a packet of a group with the other rule is refused by 27, which is asked right after 20. A message by
+ * itself has no rule: cetskobi_deliver does not ask 27. */
 
 /* Message i of a packet: questions 20, 27, 21, 22 and 23, in this order. The whole packet is looked at first, at each call: for more than
  * one of its messages, cetskobi_accept once and then cetskobi_fetch_accepted. */
