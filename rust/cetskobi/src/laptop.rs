@@ -257,8 +257,9 @@ impl<T: AsMut<[u8]>, S: AsMut<[u8]>> Laptop<T, S> {
     }
 
     /// Takes message `i` of a packet in: [`packet::fetch`] by this laptop's settings,
-    /// then [`deliver`](Laptop::deliver), with what leaves there. The whole packet is judged first, at each call: for
-    /// all of its messages there is [`deliver_next`](Laptop::deliver_next).
+    /// then [`deliver`](Laptop::deliver), with what leaves there. The whole packet is
+    /// judged first, at each call: for all of its messages there is
+    /// [`deliver_next`](Laptop::deliver_next).
     ///
     /// # Errors
     ///
@@ -270,10 +271,9 @@ impl<T: AsMut<[u8]>, S: AsMut<[u8]>> Laptop<T, S> {
 
     /// Takes the next message of a packet in, as [`deliver`](Laptop::deliver) does;
     /// None when there are no more. It takes constant time, as [`packet::messages`]
-    /// has judged the packet; by this laptop's settings, so that no packet of another
-    /// group comes in. If it was judged by others, it is judged again here, and every
-    /// message of it answers what [`deliver_packet`](Laptop::deliver_packet) does:
-    /// [`OtherRule`](Refusal::OtherRule).
+    /// has judged the packet. If it did so by other settings than this laptop's, the
+    /// packet is judged again, and each of its messages answers what
+    /// [`deliver_packet`](Laptop::deliver_packet) does, [`OtherRule`](Refusal::OtherRule).
     ///
     /// ```
     /// use cetskobi::{packet, Laptop, Leaving, Refusal};

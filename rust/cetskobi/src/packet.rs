@@ -112,7 +112,7 @@ pub fn messages(settings: impl Into<Settings>, packet: &[u8]) -> Result<Messages
 /// it; as an iterator it gives them to look at, or for
 /// [`Laptop::deliver`](crate::Laptop::deliver). Both take constant time, and `len`
 /// says how many are left. What one laptop has taken is gone for another: clone it
-/// to deliver one packet to several laptops in one memory.
+/// to deliver one packet to several laptops of the group in one memory.
 #[derive(Clone, Debug)]
 #[must_use = "no message has been taken in"]
 pub struct Messages<'a> {

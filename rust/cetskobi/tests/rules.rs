@@ -96,7 +96,7 @@ fn the_settings_stay() {
         let mut l = start(2, rule);
         assert_eq!(l.change_view(0, VIEW), Err(Refusal::OldEpoch));
         assert_eq!(l.settings().rule, rule);
-        assert_eq!(l.change_view(4, 0b110), Ok(()));
+        assert_eq!(l.change_view(4, VIEW), Ok(()));
         assert_eq!((l.settings().rule, l.epoch()), (rule, 4));
         assert!(l.write(0, b"wren").is_ok());
         let inv = Envelope {
@@ -115,7 +115,8 @@ fn the_settings_stay() {
         };
         assert_eq!(state, Some(right));
         // Struck off it keeps them too.
-        assert_eq!(l.change_view(5, 0b10_0010), Err(Refusal::ViewNotWithin));
+        assert_eq!(l.change_view(5, 0b10_0010), Ok(()));
+        assert_eq!(l.read(1), Err(Refusal::StruckOff));
         let (me, table, store) = l.into_parts();
         assert_eq!(Laptop::from_parts(me, table, store).settings().rule, rule);
     }
