@@ -1,6 +1,6 @@
 /* The replication engine for C: that of one replica, a laptop of its group. Link with the archive that `sh tools/archive` makes:
  * cc -O2 main.c -Iinclude target/staticlib/libcetskobi.a
- * cetskobi_text.h has the refusals, states and kinds as text.
+ * cetskobi_text.h has the refusals, states, kinds and rules as text.
  *
  * Table and store. The table is 16 bytes for each record, at 16 times its number: struct cetskobi_record says what they are. A table
  * whose length is no multiple of 16 holds no records. The store is 192 bytes for each record, no more and no less, at 192 times its
@@ -13,7 +13,8 @@
  * Answers. A number of 0, or that of the question that said no: CETSKOBI_REFUSED_.. below, and what to do about each in docs/GUIDE.md,
  * part 4. After a no nothing lent has changed, and the other fields of the answer are 0. Two answers tell more. An admission has an
  * identity: an accepted start or view the new one, a refused view the old one, as it was passed, and a refused start the one that was
- * asked for. An arrival has the message that came, also where its delivery was refused.
+ * asked for. The rule of a start and of an accepted view is 1 or 2 there, whatever byte was passed. An arrival has the message that came,
+ * also where its delivery was refused.
  * cetskobi_body and cetskobi_recipients ask no question: they give a length and a set.
  *
  * Threads and stack. No function keeps anything between calls, and none allocates. One laptop's table and store take one call at a time;
@@ -21,7 +22,7 @@
  * measured are some 250 bytes and some 60 KiB, and 3 KiB more where the loader looks for memset or memcpy at the first call (tests/c/stack.c).
  *
  * Versions. A version is major.minor.patch. Within one major version what is here stays: names, numbers, layouts, signatures, and what is
- * accepted and refused. A minor version may add functions, refusals (27 to 37 are announced), kinds and states: have a default for numbers
+ * accepted and refused. A minor version may add functions, refusals (28 to 37 are announced), kinds and states: have a default for numbers
  * that you do not know. While the major version is 0, a minor version may also change what is here; CHANGELOG.md says what. */
 #ifndef CETSKOBI_H
 #define CETSKOBI_H
@@ -29,9 +30,9 @@
 #include <stddef.h>
 #include <stdint.h>
 
-#define CETSKOBI_VERSION "0.7.0"
+#define CETSKOBI_VERSION "0.8.0"
 #define CETSKOBI_VERSION_MAJOR 0
-#define CETSKOBI_VERSION_MINOR 7
+#define CETSKOBI_VERSION_MINOR 8
 #define CETSKOBI_VERSION_PATCH 0
 
 /* Bytes of stack that are enough for a call. */
@@ -79,9 +80,23 @@ struct cetskobi_record {
 
 enum { CETSKOBI_RECORD_BYTES = 16, CETSKOBI_VALUE_MAX = 192, CETSKOBI_COUNT_MAX = 4096 };
 
-/* The identity of a replica. */
+/* The rules of ties (document 02, Wish 6): which of two timestamps with one version is the greater. Versions that differ are compared alike
+ * under both. A group has one of the rules from its start to its end, and its packets have that rule's number as byte 0. */
+enum {
+    CETSKOBI_HIGHER = 1, /* the one with the higher tie-breaker: the old rule, which groups formed earlier keep to their end */
+    CETSKOBI_LOWER = 2   /* the one with the lower tie-breaker: the new rule, for groups formed from next season on */
+};
+
+/* What is fixed at a group's start. All laptops of a group start with the same settings: their agreement rests on it, and no call can see
+ * whether it is so. The start takes them, a view keeps them, and nothing changes them. */
+struct cetskobi_settings {
+    uint8_t rule; /* 2 is CETSKOBI_LOWER; every other value, 0 too, is CETSKOBI_HIGHER */
+};
+
+/* The identity of a replica, in 8 bytes. Every event compares timestamps by the rule that stands here. */
 struct cetskobi_replica {
     uint8_t number;
+    struct cetskobi_settings settings;
     uint16_t view;
     uint32_t epoch;
 };
@@ -117,6 +132,7 @@ enum {
     CETSKOBI_REFUSED_PACKET_MESSAGES = 24, /* there are not 1 to 64 messages, or the numbers or bytes of one do not fit */
     CETSKOBI_REFUSED_PACKET_ROOM = 25,     /* the packet would be longer than 1,400 bytes or than its room */
     CETSKOBI_REFUSED_NOT_AS_OPENED = 26,   /* the record is not valid now, or no longer has the timestamp that it was opened with */
+    CETSKOBI_REFUSED_OTHER_RULE = 27,      /* the packet is of a group with the other rule of ties */
     CETSKOBI_REFUSED_PLAYER_ROOM = 255     /* the script is longer than 65,536 bytes or lacks room to print */
 };
 
@@ -165,7 +181,7 @@ struct cetskobi_fetched {
 };
 
 /* What is known of a packet that was looked at as a whole: 0 and how many messages it has; or the number of the question that refused it,
- * 20 to 22, and no messages. */
+ * 20, 27, 21 or 22, and no messages. */
 struct cetskobi_accepted {
     uint8_t number;
     uint8_t count;
@@ -173,7 +189,8 @@ struct cetskobi_accepted {
 
 /* The answer to the delivery of a packet's message; and which message it was, also of a refused delivery: the number of the record that it
  * is about, its sender and its epoch. An epoch greater than this laptop's is the sign that it missed a view, whichever question refused the
- * message: 10, or an earlier one. Where no message was taken they are 0: by this packet's own facts, where answer.number is 20 to 23. */
+ * message: 10, or an earlier one. Where no message was taken they are 0: by this packet's own facts, where answer.number is 20 to 23 or
+ * 27. */
 struct cetskobi_arrival {
     struct cetskobi_answer answer;
     uint32_t epoch;
@@ -254,7 +271,7 @@ struct cetskobi_reading cetskobi_read(struct cetskobi_replica me, const uint8_t 
  * record. cetskobi_commit brings that timestamp back. If the record is still valid with it, this laptop took no newer save since, and the
  * commit goes on as a write. If not, the answer is 26, in place of a write's 7 and before its 8 and 9: keep her text, ask again, and show
  * her both. version and tie may be any; no record has a tie above 15. Two laptops may both commit on one timestamp: then the save with the
- * greater new one stands, as of two writes. */
+ * greater new one, by the group's rule, stands, as of two writes. */
 CETSKOBI_MUST_USE
 struct cetskobi_asked cetskobi_ask(struct cetskobi_replica me, const uint8_t *table, size_t table_len, const uint8_t *store,
                                    size_t store_len, size_t i);
@@ -262,12 +279,14 @@ CETSKOBI_MUST_USE
 struct cetskobi_answer cetskobi_commit(struct cetskobi_replica me, uint8_t *table, size_t table_len, uint8_t *store, size_t store_len,
                                        size_t i, uint32_t version, uint8_t tie, const uint8_t *value, size_t value_len);
 
-/* A change of view, which touches no record. */
+/* A change of view, which touches no record and keeps the settings. */
 CETSKOBI_MUST_USE
 struct cetskobi_admission cetskobi_view(struct cetskobi_replica me, uint32_t epoch, uint16_t set);
-/* A fresh start: epoch 0, every record valid and empty, the store zero. */
+/* A fresh start: epoch 0, every record valid and empty, the store zero. Under both rules a record's first timestamp has the lowest number in
+ * the view. view, settings and the count of records are the same on all laptops of the group. */
 CETSKOBI_MUST_USE
-struct cetskobi_admission cetskobi_start(uint8_t number, uint16_t view, uint8_t *table, size_t table_len, uint8_t *store, size_t store_len);
+struct cetskobi_admission cetskobi_start(uint8_t number, uint16_t view, struct cetskobi_settings settings, uint8_t *table, size_t table_len,
+                                         uint8_t *store, size_t store_len);
 
 /* What leaves: how many bytes at 192 times i the message takes along that left an event on record i; left is that event's answer. It is 0
  * unless left.kind is CETSKOBI_INV. Asked after more events on this table and store it still tells the text that left, or that it is gone.
@@ -282,38 +301,43 @@ size_t cetskobi_body(const uint8_t *table, size_t table_len, const uint8_t *stor
 CETSKOBI_MUST_USE
 uint16_t cetskobi_recipients(struct cetskobi_replica me, uint8_t kind, uint8_t sender);
 
-/* Message i of a packet. The whole packet is looked at first, at each call: for more than one of its messages, cetskobi_accept once and then
- * cetskobi_fetch_accepted. */
+/* Packets. Who reads or writes them passes the group's settings, me.settings of its laptops. Byte 0 is the number of the group's rule:
+ * question 20 lets it be 1 or 2, and a packet of a group with the other rule is refused by 27, which is asked right after 20. A message by
+ * itself has no rule: cetskobi_deliver does not ask 27. */
+
+/* Message i of a packet: questions 20, 27, 21, 22 and 23, in this order. The whole packet is looked at first, at each call: for more than
+ * one of its messages, cetskobi_accept once and then cetskobi_fetch_accepted. */
 CETSKOBI_MUST_USE
-struct cetskobi_fetched cetskobi_fetch(const uint8_t *packet, size_t packet_len, size_t i);
-/* Messages as one packet, at the front of the output. They are words, seven for each: an array of struct cetskobi_entry, passed as
- * (const uint32_t *)entries with CETSKOBI_ENTRY_WORDS * count for its length. By the count alone seven messages would be the words of one,
- * and the call could not tell. Their bytes come one after another in bodies. */
+struct cetskobi_fetched cetskobi_fetch(struct cetskobi_settings settings, const uint8_t *packet, size_t packet_len, size_t i);
+/* Messages as one packet of a group with these settings, at the front of the output. They are words, seven for each: an array of struct
+ * cetskobi_entry, passed as (const uint32_t *)entries with CETSKOBI_ENTRY_WORDS * count for its length. By the count alone seven messages
+ * would be the words of one, and the call could not tell. Their bytes come one after another in bodies. */
 CETSKOBI_MUST_USE
-struct cetskobi_written cetskobi_pack(const uint32_t *messages,
+struct cetskobi_written cetskobi_pack(struct cetskobi_settings settings, const uint32_t *messages,
                                       size_t messages_len, /* words, 7 for each message: not messages, not bytes */
                                       const uint8_t *bodies, size_t bodies_len, uint8_t *out, size_t out_len);
-/* The delivery of message i of a packet: the questions of cetskobi_fetch, then those of cetskobi_deliver; what leaves is as there. The whole
- * packet is looked at first here too: for all of it there is cetskobi_deliver_accepted. */
+/* The delivery of message i of a packet: the questions of cetskobi_fetch by me.settings, then those of cetskobi_deliver; what leaves is as
+ * there. The whole packet is looked at first here too: for all of it there is cetskobi_deliver_accepted. */
 CETSKOBI_MUST_USE
 struct cetskobi_answer cetskobi_deliver_packet(struct cetskobi_replica me, uint8_t *table, size_t table_len, uint8_t *store,
                                                size_t store_len, const uint8_t *packet, size_t packet_len, size_t i);
 
-/* All of a packet in one pass. It is accepted once, by questions 20 to 22, and then each of its messages is taken in constant time, those
- * with a number below accepted.count; of a refused packet that is 0:
+/* All of a packet in one pass. It is accepted once, by questions 20, 27, 21 and 22, and then each of its messages is taken in constant time,
+ * those with a number below accepted.count; of a refused packet that is 0:
  *
- *     struct cetskobi_accepted all = cetskobi_accept(packet, packet_len);
+ *     struct cetskobi_accepted all = cetskobi_accept(me.settings, packet, packet_len);
  *     for (size_t i = 0; i < all.count; i++) ... cetskobi_deliver_accepted(me, .., packet, packet_len, all, i) ...
  *
  * The loop goes by the count: a refused arrival is one message, and the next is still to be delivered.
+ * The settings are those of the laptops that the messages are then delivered to: byte 0 is not looked at again.
  * For every packet and every i they answer what cetskobi_fetch and cetskobi_deliver_packet answer, if accepted is what cetskobi_accept gave
- * of these very bytes: copy them first out of a buffer in which the radio may put its next packet. Whatever else accepted is, of another
- * packet say, they answer too, and read nothing outside the packet: where i is not below accepted.count, with accepted.number, or with 23
- * if that is 0; else, and accepted.number is then not looked at, with 21 where entry i of the contents table does not lie within the
- * packet; with 22 where its offset and length together are past the packet's end; else with the entry as it stands there, of which question
- * 22 has not been asked. Its delivery asks all questions of its own. */
+ * of these very bytes by the same settings: copy them first out of a buffer in which the radio may put its next packet. Whatever else
+ * accepted is, of another packet say, they answer too, and read nothing outside the packet: where i is not below accepted.count, with
+ * accepted.number, or with 23 if that is 0; else, and accepted.number is then not looked at, with 21 where entry i of the contents table
+ * does not lie within the packet; with 22 where its offset and length together are past the packet's end; else with the entry as it stands
+ * there, of which question 22 has not been asked. Its delivery asks all questions of its own. */
 CETSKOBI_MUST_USE
-struct cetskobi_accepted cetskobi_accept(const uint8_t *packet, size_t packet_len);
+struct cetskobi_accepted cetskobi_accept(struct cetskobi_settings settings, const uint8_t *packet, size_t packet_len);
 CETSKOBI_MUST_USE
 struct cetskobi_fetched cetskobi_fetch_accepted(const uint8_t *packet, size_t packet_len, struct cetskobi_accepted accepted, size_t i);
 CETSKOBI_MUST_USE
@@ -321,7 +345,7 @@ struct cetskobi_arrival cetskobi_deliver_accepted(struct cetskobi_replica me, ui
                                                   size_t store_len, const uint8_t *packet, size_t packet_len,
                                                   struct cetskobi_accepted accepted, size_t i);
 
-/* The playing program on one script of at most 65,536 bytes, with room for 25 bytes for each of them, and 2. */
+/* The playing program on one script of at most 65,536 bytes, with room for 25 bytes for each of them, and 2. Its group has the old rule. */
 CETSKOBI_MUST_USE
 struct cetskobi_played cetskobi_play(const uint8_t *script, size_t script_len, uint8_t *out, size_t out_len);
 

@@ -1,4 +1,4 @@
-/* The refusals, states and kinds of cetskobi.h as text, for screens and logs. Every number has one, an unknown one too. */
+/* The refusals, states, kinds and rules of cetskobi.h as text, for screens and logs. Every number has one, an unknown one too. */
 #ifndef CETSKOBI_TEXT_H
 #define CETSKOBI_TEXT_H
 
@@ -34,6 +34,7 @@ static inline const char *cetskobi_meaning(uint8_t number) {
     case CETSKOBI_REFUSED_PACKET_MESSAGES: return "there are not 1 to 64 messages, or the numbers or bytes of one do not fit";
     case CETSKOBI_REFUSED_PACKET_ROOM: return "the packet would be longer than 1,400 bytes or than its room";
     case CETSKOBI_REFUSED_NOT_AS_OPENED: return "the record is not valid now, or no longer has the timestamp that it was opened with";
+    case CETSKOBI_REFUSED_OTHER_RULE: return "the packet is of a group with the other rule of ties";
     case CETSKOBI_REFUSED_PLAYER_ROOM: return "the script is longer than 65,536 bytes or lacks room to print";
     default: return "unknown refusal";
     }
@@ -59,6 +60,14 @@ static inline const char *cetskobi_kind_name(uint8_t kind) {
     case CETSKOBI_ACK: return "ACK";
     case CETSKOBI_VAL: return "VAL";
     default: return "unknown kind";
+    }
+}
+
+/* The name of a rule of ties: which number a tie goes to. Every value that is not CETSKOBI_LOWER is the old rule. */
+static inline const char *cetskobi_rule_name(uint8_t rule) {
+    switch (rule) {
+    case CETSKOBI_LOWER: return "lower";
+    default: return "higher";
     }
 }
 

@@ -1,5 +1,6 @@
 /* Two laptops keep one ring record in step by packets, although one packet is lost and one comes twice. Both open it before either saves:
- * the second save is refused, and made again over the text that stands there by then.
+ * the second save is refused, and made again over the text that stands there by then. Then the other saves too before it has heard of that:
+ * a tie, which goes to the lower number.
  * From the repository's root (rust/cetskobi/examples/two_laptops.rs tells the same in Rust):
  *   sh tools/archive && cc -O2 examples/c/two_laptops.c -Iinclude target/staticlib/libcetskobi.a -o target/two_laptops && target/two_laptops
  */
@@ -10,7 +11,11 @@
 
 /* The record's number, and what is saved there. */
 enum { RING = 7, COUNT = 8 };
-static const char WING[] = "Blue tit, wing 62", REMARK[] = "Blue tit, female", BOTH[] = "Blue tit, female, wing 62";
+static const char WING[] = "Blue tit, wing 62", REMARK[] = "Blue tit, female", BOTH[] = "Blue tit, female, wing 62",
+                  AGAIN[] = "Blue tit, wing 63";
+
+/* The rule of ties: the same at all laptops of a group, and fixed at its start. */
+static const struct cetskobi_settings SETTINGS = {.rule = CETSKOBI_LOWER};
 
 struct laptop {
     struct cetskobi_replica me;
@@ -35,7 +40,7 @@ static void accepted(uint8_t number) {
 }
 
 static void start(struct laptop *l, uint8_t number) {
-    struct cetskobi_admission a = cetskobi_start(number, 3, MEMORY(l));
+    struct cetskobi_admission a = cetskobi_start(number, 3, SETTINGS, MEMORY(l));
     accepted(a.number);
     l->me = a.replica;
 }
@@ -53,8 +58,8 @@ static struct packet send(const struct laptop *l, struct cetskobi_answer left, u
                                    .tie = left.tie,
                                    .len = (uint32_t)len};
     struct packet p;
-    struct cetskobi_written w = cetskobi_pack((const uint32_t *)&entry, CETSKOBI_ENTRY_WORDS, l->store + RING * CETSKOBI_VALUE_MAX,
-                                              len, p.bytes, sizeof p.bytes);
+    struct cetskobi_written w = cetskobi_pack(l->me.settings, (const uint32_t *)&entry, CETSKOBI_ENTRY_WORDS,
+                                              l->store + RING * CETSKOBI_VALUE_MAX, len, p.bytes, sizeof p.bytes);
     accepted(w.number);
     p.len = w.len;
     uint16_t to = cetskobi_recipients(l->me, left.kind, sender);
@@ -67,7 +72,7 @@ static struct packet send(const struct laptop *l, struct cetskobi_answer left, u
 
 /* A packet comes. It is accepted as a whole, and then its messages are delivered, here one. */
 static struct cetskobi_arrival take(struct laptop *l, const struct packet *p) {
-    struct cetskobi_accepted all = cetskobi_accept(p->bytes, p->len);
+    struct cetskobi_accepted all = cetskobi_accept(l->me.settings, p->bytes, p->len);
     accepted(all.number);
     return cetskobi_deliver_accepted(LENT(l), p->bytes, p->len, all, 0);
 }
@@ -110,7 +115,7 @@ int main(void) {
     static struct laptop net, hut;
     start(&net, 0);
     start(&hut, 1);
-    printf("laptops 0 and 1 start with %d records\n", COUNT);
+    printf("laptops 0 and 1 start with %d records; a tie goes to the %s number\n", COUNT, cetskobi_rule_name(SETTINGS.rule));
 
     printf("a ringer at each opens record %d\n", RING);
     struct cetskobi_asked seen_at_net = open_ring(&net), seen_at_hut = open_ring(&hut);
@@ -142,6 +147,23 @@ int main(void) {
     refused(save(&hut, seen_at_hut, REMARK));
     seen_at_hut = open_ring(&hut);
     printf("laptop 1 saves over that\n");
-    send(&hut, save(&hut, seen_at_hut, BOTH), hut.me.number);
+    struct packet inv_of_hut = send(&hut, save(&hut, seen_at_hut, BOTH), hut.me.number);
+
+    /* Nor has the other's ringer seen that. Both saves are of version 2. */
+    printf("laptop 0 saves before it takes the packet\n");
+    seen_at_net = open_ring(&net);
+    struct packet inv_of_net = send(&net, save(&net, seen_at_net, AGAIN), net.me.number);
+    printf("each takes the other's packet\n");
+    struct packet ack_of_net = reply(&net, take(&net, &inv_of_hut));
+    struct packet ack_of_hut = reply(&hut, take(&hut, &inv_of_net));
+
+    /* Laptop 1 was overtaken: its last ACK is counted, and nothing leaves. */
+    printf("each takes the other's acknowledgement\n");
+    accepted(take(&hut, &ack_of_net).answer.number);
+    val = reply(&net, take(&net, &ack_of_hut));
+    printf("laptop 1 takes the packet\n");
+    accepted(take(&hut, &val).answer.number);
+    show(&net);
+    show(&hut);
     return 0;
 }

@@ -14,6 +14,7 @@
 
 enum { LEN = CETSKOBI_VALUE_MAX };
 static struct cetskobi_replica me;
+static struct cetskobi_settings settings;
 static struct cetskobi_answer left;
 static struct cetskobi_message message;
 static struct cetskobi_accepted accepted;
@@ -25,7 +26,7 @@ static const uint32_t words[CETSKOBI_ENTRY_WORDS] = {0};
 #define LENT me, MEMORY
 
 int main(void) {
-    CALL(struct cetskobi_admission, cetskobi_start(2, 38, MEMORY))
+    CALL(struct cetskobi_admission, cetskobi_start(2, 38, settings, MEMORY))
     CALL(struct cetskobi_admission, cetskobi_view(me, 1, 6))
     CALL(struct cetskobi_reading, cetskobi_read(LENT, 0))
     CALL(struct cetskobi_answer, cetskobi_write(LENT, 0, text, LEN))
@@ -37,10 +38,10 @@ int main(void) {
     CALL(struct cetskobi_answer, cetskobi_resend(LENT, 0))
     CALL(size_t, cetskobi_body(MEMORY, 0, left))
     CALL(uint16_t, cetskobi_recipients(me, CETSKOBI_ACK, 1))
-    CALL(struct cetskobi_fetched, cetskobi_fetch(text, LEN, 0))
-    CALL(struct cetskobi_written, cetskobi_pack(words, CETSKOBI_ENTRY_WORDS, text, LEN, bytes, sizeof bytes))
+    CALL(struct cetskobi_fetched, cetskobi_fetch(settings, text, LEN, 0))
+    CALL(struct cetskobi_written, cetskobi_pack(settings, words, CETSKOBI_ENTRY_WORDS, text, LEN, bytes, sizeof bytes))
     CALL(struct cetskobi_answer, cetskobi_deliver_packet(LENT, text, LEN, 0))
-    CALL(struct cetskobi_accepted, cetskobi_accept(text, LEN))
+    CALL(struct cetskobi_accepted, cetskobi_accept(settings, text, LEN))
     CALL(struct cetskobi_fetched, cetskobi_fetch_accepted(text, LEN, accepted, 0))
     CALL(struct cetskobi_arrival, cetskobi_deliver_accepted(LENT, text, LEN, accepted, 0))
     CALL(struct cetskobi_played, cetskobi_play(text, LEN, bytes, sizeof bytes))

@@ -31,6 +31,15 @@ WORD(version, 4);
 WORD(tie, 5);
 WORD(len, 6);
 
+/* An identity is 8 bytes, without gaps. */
+#define IDENTITY(field, byte) _Static_assert(offsetof(struct cetskobi_replica, field) == (byte), #field)
+_Static_assert(sizeof(struct cetskobi_replica) == 8, "an identity");
+_Static_assert(sizeof(struct cetskobi_settings) == 1, "settings");
+IDENTITY(number, 0);
+IDENTITY(settings, 1);
+IDENTITY(view, 2);
+IDENTITY(epoch, 4);
+
 static int failed;
 
 #define CHECK(fact) check((fact), #fact, __LINE__)
@@ -45,9 +54,11 @@ static void check(int holds, const char *fact, int line) {
 /* A version with four different bytes. */
 #define VERSION UINT32_C(0x01020304)
 
-/* Laptop 2 with view {1,2,5} at epoch 9, two records. What lies in their byte 15 is to stay. */
+/* Laptop 2 with view {1,2,5} at epoch 9, of a group with the new rule, two records. What lies in their byte 15 is to stay. */
 enum { COUNT = 2, STORE = COUNT * CETSKOBI_VALUE_MAX, OLD = 9 };
-static const struct cetskobi_replica me = {.number = 2, .view = 38, .epoch = 9};
+#define LOWER {.rule = CETSKOBI_LOWER}
+static const struct cetskobi_settings lower = LOWER, higher = {.rule = CETSKOBI_HIGHER};
+static const struct cetskobi_replica me = {.number = 2, .settings = LOWER, .view = 38, .epoch = 9};
 static const struct cetskobi_record fresh = {.tie = 1, .writer = 1, .written_tie = 1, .unused = OLD};
 /* A record with these fields, the others 0. */
 #define RECORD(...) (struct cetskobi_record){.unused = OLD, __VA_ARGS__}
@@ -81,28 +92,76 @@ static int answers(struct cetskobi_answer a, int number, int kind, int tie, uint
     return a.number == number && a.kind == kind && a.tie == tie && a.version == version;
 }
 
+static int says(const char *text, const char *words) {
+    return strcmp(text, words) == 0;
+}
+
 static int admits(struct cetskobi_admission a, int number, struct cetskobi_replica r) {
-    return a.number == number && a.replica.number == r.number && a.replica.view == r.view && a.replica.epoch == r.epoch;
+    return a.number == number && a.replica.number == r.number && a.replica.settings.rule == r.settings.rule &&
+           a.replica.view == r.view && a.replica.epoch == r.epoch;
 }
 
 static void membership(void) {
     memset(table, OLD, sizeof table);
     memset(store, 7, sizeof store);
-    struct cetskobi_replica newcomer = {.number = 3, .view = 38, .epoch = 0};
-    CHECK(admits(cetskobi_start(3, 38, TABLE, store, STORE), 3, newcomer));
-    CHECK(cetskobi_start(5, 38, TABLE, store, STORE - 1).number == 2);
-    CHECK(cetskobi_start(5, 38, (uint8_t *)table, sizeof table - 1, store, STORE).number == 2);
-    CHECK(cetskobi_start(5, 38, (uint8_t *)table, CETSKOBI_RECORD_BYTES, store, CETSKOBI_VALUE_MAX + 1).number == 2);
+    struct cetskobi_replica newcomer = {.number = 3, .settings = LOWER, .view = 38, .epoch = 0};
+    CHECK(admits(cetskobi_start(3, 38, lower, TABLE, store, STORE), 3, newcomer));
+    CHECK(cetskobi_start(5, 38, lower, TABLE, store, STORE - 1).number == 2);
+    CHECK(cetskobi_start(5, 38, lower, (uint8_t *)table, sizeof table - 1, store, STORE).number == 2);
+    CHECK(cetskobi_start(5, 38, lower, (uint8_t *)table, CETSKOBI_RECORD_BYTES, store, CETSKOBI_VALUE_MAX + 1).number == 2);
     CHECK(table[0].state == OLD && store[0] == 7);
     newcomer.number = 5;
-    CHECK(admits(cetskobi_start(5, 38, TABLE, store, STORE), 0, newcomer));
+    CHECK(admits(cetskobi_start(5, 38, lower, TABLE, store, STORE), 0, newcomer));
     CHECK(is(fresh));
     CHECK(store[0] == 0 && store[STORE - 1] == 0);
 
-    struct cetskobi_replica later = {.number = 2, .view = 6, .epoch = VERSION};
+    struct cetskobi_replica later = {.number = 2, .settings = LOWER, .view = 6, .epoch = VERSION};
     CHECK(admits(cetskobi_view(me, VERSION, 6), 0, later));
     CHECK(admits(cetskobi_view(me, 9, 6), 18, me));
     CHECK(admits(cetskobi_view(me, 10, 7), 19, me));
+}
+
+/* Record 1 has (VERSION,2), and an INV comes with this timestamp to laptop r: is it taken? An ACK leaves in any case. */
+static int overtakes(struct cetskobi_replica r, uint32_t version, uint8_t tie) {
+    struct cetskobi_record own = RECORD(.state = CETSKOBI_WRITE, .tie = 2, .writer = 2, .written_tie = 2, .version = VERSION,
+                                        .written_version = VERSION, .len = 62);
+    struct cetskobi_message inv = {.kind = CETSKOBI_INV, .sender = 5, .tie = tie, .epoch = 9, .version = version};
+    lay(own);
+    CHECK(answers(cetskobi_deliver(r, MEMORY, 1, inv, (const uint8_t *)"wing", 4), 0, CETSKOBI_ACK, tie, version));
+    if (is(own)) return 0;
+    CHECK(is(RECORD(.state = CETSKOBI_INVALID_WRITE, .tie = tie, .writer = 5, .written_tie = 2, .version = version,
+                    .written_version = VERSION, .len = 4)));
+    CHECK(holds("wing"));
+    return 1;
+}
+
+/* Every value of the rule's byte: 2 is the new rule, and all others are the old one (02, Wish 6). */
+static void rules(void) {
+    for (int rule = 0; rule <= UINT8_MAX; rule++) {
+        struct cetskobi_settings settings = {.rule = (uint8_t)rule};
+        int is_lower = rule == CETSKOBI_LOWER;
+        struct cetskobi_replica r = me, want = me;
+        r.settings = settings;
+        want.settings = is_lower ? lower : higher;
+        CHECK(says(cetskobi_rule_name(settings.rule), is_lower ? "lower" : "higher"));
+
+        /* The identity of a start has it as 1 or 2, accepted or refused, and so has that of an accepted view; a refused view changes
+         * nothing. */
+        want.epoch = 0;
+        memset(table, OLD, sizeof table);
+        CHECK(admits(cetskobi_start(2, 38, settings, TABLE, store, STORE - 1), 2, want) && table[1].state == OLD);
+        CHECK(admits(cetskobi_start(2, 38, settings, TABLE, store, STORE), 0, want) && is(fresh));
+        want.epoch = 10;
+        want.view = 6;
+        CHECK(admits(cetskobi_view(r, 10, 6), 0, want));
+        CHECK(admits(cetskobi_view(r, 9, 6), 18, r) && admits(cetskobi_view(r, 10, 7), 19, r));
+
+        /* A tie goes by it, and only a tie. */
+        for (uint8_t tie = 0; tie < 16; tie++) {
+            CHECK(overtakes(r, VERSION, tie) == (is_lower ? tie < 2 : tie > 2));
+            CHECK(overtakes(r, VERSION + 1, tie) && !overtakes(r, VERSION - 1, tie));
+        }
+    }
 }
 
 static void writing(void) {
@@ -233,15 +292,15 @@ static void leaving(void) {
     table[1].state = CETSKOBI_WRITE;
 
     /* A newer text comes before the older one was sent. That is gone, and makes no packet. */
-    struct cetskobi_message newer = {.kind = CETSKOBI_INV, .sender = 5, .tie = 5, .epoch = 9, .version = VERSION};
+    struct cetskobi_message newer = {.kind = CETSKOBI_INV, .sender = 5, .tie = 1, .epoch = 9, .version = VERSION};
     struct cetskobi_answer ack = cetskobi_deliver(LENT, 1, newer, (const uint8_t *)"newer", 5);
-    CHECK(answers(ack, 0, CETSKOBI_ACK, 5, VERSION));
+    CHECK(answers(ack, 0, CETSKOBI_ACK, 1, VERSION));
     size_t len = along(1, inv);
     CHECK(len == CETSKOBI_GONE && along(1, ack) == 0);
     struct cetskobi_entry entry = {.kind = CETSKOBI_INV, .sender = 2, .epoch = 9, .index = 1, .version = VERSION, .tie = 2};
     entry.len = (uint32_t)len;
     uint8_t out[CETSKOBI_PACKET_MAX];
-    CHECK(cetskobi_pack((const uint32_t *)&entry, CETSKOBI_ENTRY_WORDS, store, STORE, out, sizeof out).number == 24);
+    CHECK(cetskobi_pack(lower, (const uint32_t *)&entry, CETSKOBI_ENTRY_WORDS, store, STORE, out, sizeof out).number == 24);
 }
 
 static void recipients(void) {
@@ -393,8 +452,8 @@ static void bytes(void) {
     CHECK(record[0] == 5 && memcmp(record + 1, after + 1, sizeof after - 1) == 0);
 }
 
-/* An INV and an ACK. */
-static const uint8_t two_messages[40] = {1, 2, 0, 40, 1, 5, 0, 0, 0, 9, 0, 1, 1, 2, 3, 4, 4, 0,   36,  4,
+/* An INV and an ACK, in a packet of a group with the new rule. */
+static const uint8_t two_messages[40] = {2, 2, 0, 40, 1, 5, 0, 0, 0, 9, 0, 1, 1, 2, 3, 4, 4, 0,   36,  4,
                                          2, 5, 0, 0,  0, 0, 0, 7, 0, 0, 0, 1, 2, 0, 40, 0, 'w', 'i', 'n', 'g'};
 
 static void packets(void) {
@@ -405,22 +464,22 @@ static void packets(void) {
     const uint8_t *bodies = (const uint8_t *)"wing";
     uint8_t out[41];
     memset(out, 0xee, sizeof out);
-    struct cetskobi_written w = cetskobi_pack((const uint32_t *)entries, 2 * CETSKOBI_ENTRY_WORDS, bodies, 3, out, 41);
+    struct cetskobi_written w = cetskobi_pack(lower, (const uint32_t *)entries, 2 * CETSKOBI_ENTRY_WORDS, bodies, 3, out, 41);
     CHECK(w.number == 24 && w.len == 0);
-    w = cetskobi_pack((const uint32_t *)entries, 2 * CETSKOBI_ENTRY_WORDS, bodies, 4, out, 39);
+    w = cetskobi_pack(lower, (const uint32_t *)entries, 2 * CETSKOBI_ENTRY_WORDS, bodies, 4, out, 39);
     CHECK(w.number == 25 && w.len == 0);
     CHECK(out[0] == 0xee);
-    w = cetskobi_pack((const uint32_t *)entries, 2 * CETSKOBI_ENTRY_WORDS, bodies, 4, out, 41);
+    w = cetskobi_pack(lower, (const uint32_t *)entries, 2 * CETSKOBI_ENTRY_WORDS, bodies, 4, out, 41);
     CHECK(w.number == 0 && w.len == 40);
     CHECK(memcmp(out, two_messages, 40) == 0 && out[40] == 0xee);
 
-    struct cetskobi_fetched f = cetskobi_fetch(out, 40, 0);
+    struct cetskobi_fetched f = cetskobi_fetch(lower, out, 40, 0);
     CHECK(f.number == 0 && f.kind == CETSKOBI_INV && f.sender == 5 && f.tie == 4 && f.epoch == 9);
     CHECK(f.version == VERSION && f.index == 1 && f.at == 36 && f.len == 4);
-    f = cetskobi_fetch(out, 40, 1);
+    f = cetskobi_fetch(lower, out, 40, 1);
     CHECK(f.number == 0 && f.kind == CETSKOBI_ACK && f.sender == 5 && f.tie == 2 && f.epoch == 0);
     CHECK(f.version == 1 && f.index == 7 && f.at == 40 && f.len == 0);
-    f = cetskobi_fetch(out, 40, 2);
+    f = cetskobi_fetch(lower, out, 40, 2);
     CHECK(f.number == 23 && f.at == 0 && f.len == 0);
 
     lay(fresh);
@@ -429,6 +488,55 @@ static void packets(void) {
     CHECK(answers(cetskobi_deliver_packet(LENT, out, 40, 0), 0, CETSKOBI_ACK, 4, VERSION));
     CHECK(is(RECORD(.state = CETSKOBI_INVALID, .tie = 4, .writer = 5, .written_tie = 1, .version = VERSION, .len = 4)));
     CHECK(holds("wing"));
+}
+
+/* What the header asks of byte 0, by the group's rule. */
+static int of_byte_0(int rule, int byte) {
+    if (byte != CETSKOBI_HIGHER && byte != CETSKOBI_LOWER) return CETSKOBI_REFUSED_PACKET_HEAD;
+    return (byte == CETSKOBI_LOWER) == (rule == CETSKOBI_LOWER) ? 0 : CETSKOBI_REFUSED_OTHER_RULE;
+}
+
+/* In whichever way this packet comes to a group with these settings, the answer is this number; if it is not 0, nothing is taken. */
+static void packet_answers(struct cetskobi_settings settings, const uint8_t *packet, size_t len, int number) {
+    struct cetskobi_replica r = me;
+    r.settings = settings;
+    struct cetskobi_accepted all = cetskobi_accept(settings, packet, len);
+    CHECK(all.number == number && all.count == (number == 0 ? 2 : 0));
+    for (size_t i = 0; i < 2 || (number != 0 && i < 4); i++) {
+        struct cetskobi_fetched f = cetskobi_fetch(settings, packet, len, i);
+        CHECK(f.number == number && (number == 0 || (f.kind == 0 && f.at == 0 && f.len == 0)));
+        lay(fresh);
+        CHECK(number == 0 || cetskobi_deliver_packet(r, MEMORY, packet, len, i).number == number);
+        CHECK(number == 0 || cetskobi_deliver_accepted(r, MEMORY, packet, len, all, i).answer.number == number);
+        CHECK(is(fresh) && store[CETSKOBI_VALUE_MAX] == 7);
+    }
+}
+
+/* Every value of the rule's byte and of byte 0. Then the order of the questions: 20, 27, 21, 22, 23. */
+static void packets_by_the_rule(void) {
+    uint8_t packet[41], out[40];
+    memcpy(packet, two_messages, 40);
+    packet[40] = 0;
+    const struct cetskobi_entry ack = {.kind = CETSKOBI_ACK, .sender = 5, .index = 7, .version = 1, .tie = 2};
+    for (int rule = 0; rule <= UINT8_MAX; rule++) {
+        struct cetskobi_settings settings = {.rule = (uint8_t)rule};
+        for (int byte = 0; byte <= UINT8_MAX; byte++) {
+            packet[0] = (uint8_t)byte;
+            packet_answers(settings, packet, 40, of_byte_0(rule, byte));
+        }
+        struct cetskobi_written w = cetskobi_pack(settings, (const uint32_t *)&ack, CETSKOBI_ENTRY_WORDS, NULL, 0, out, sizeof out);
+        CHECK(w.number == 0 && w.len == 20 && out[0] == (rule == CETSKOBI_LOWER ? 2 : 1));
+    }
+    packet[0] = CETSKOBI_HIGHER;
+    packet_answers(lower, packet, 41, 20);
+    packet[4] = CETSKOBI_VAL + 1;
+    packet_answers(lower, packet, 40, 27);
+    packet_answers(higher, packet, 40, 22);
+    packet[1] = 3;
+    packet_answers(lower, packet, 40, 27);
+    packet_answers(higher, packet, 40, 21);
+    packet[1] = 65;
+    packet_answers(lower, packet, 40, 20);
 }
 
 static int same_fetch(struct cetskobi_fetched f, struct cetskobi_fetched g) {
@@ -445,21 +553,21 @@ static void accepted_once(void) {
     uint8_t packet[41];
     memcpy(packet, two_messages, 40);
     packet[40] = 0;
-    struct cetskobi_accepted all = cetskobi_accept(packet, 40), no;
+    struct cetskobi_accepted all = cetskobi_accept(lower, packet, 40), no;
     CHECK(all.number == 0 && all.count == 2);
-    for (size_t i = 0; i < 4; i++) CHECK(same_fetch(cetskobi_fetch_accepted(packet, 40, all, i), cetskobi_fetch(packet, 40, i)));
+    for (size_t i = 0; i < 4; i++) CHECK(same_fetch(cetskobi_fetch_accepted(packet, 40, all, i), cetskobi_fetch(lower, packet, 40, i)));
     CHECK(cetskobi_fetch_accepted(packet, 40, all, 1).number == 0 && cetskobi_fetch_accepted(packet, 40, all, 2).number == 23);
     CHECK(cetskobi_fetch_accepted(packet, 40, all, SIZE_MAX).number == 23);
 
     /* A refused packet says so at once, and so does every message of it. */
-    no = cetskobi_accept(packet, 41);
+    no = cetskobi_accept(lower, packet, 41);
     CHECK(no.number == 20 && no.count == 0);
     packet[1] = 3;
-    no = cetskobi_accept(packet, 40);
+    no = cetskobi_accept(lower, packet, 40);
     CHECK(no.number == 21 && no.count == 0);
     packet[1] = 2;
     packet[4] = CETSKOBI_VAL + 1;
-    no = cetskobi_accept(packet, 40);
+    no = cetskobi_accept(lower, packet, 40);
     CHECK(no.number == 22 && no.count == 0);
     lay(fresh);
     for (size_t i = 0; i < 3; i++) {
@@ -469,7 +577,9 @@ static void accepted_once(void) {
     packet[4] = CETSKOBI_INV;
 
     /* Which message it was is told of refused deliveries too; where there was none it is 0. */
-    struct cetskobi_replica earlier = {.number = 2, .view = 38, .epoch = 8}, outside = {.number = 2, .view = 4, .epoch = 9};
+    struct cetskobi_replica earlier = me, outside = me;
+    earlier.epoch = 8;
+    outside.view = 4;
     CHECK(tells(cetskobi_deliver_accepted(LENT, packet, 40, all, 2), 23, 0, 0, 0));
     CHECK(tells(cetskobi_deliver_accepted(LENT, packet, 40, all, 1), 4, 0, 5, 7));
     CHECK(tells(cetskobi_deliver_accepted(earlier, MEMORY, packet, 40, all, 0), 10, 9, 5, 1));
@@ -544,7 +654,7 @@ static void foreign_facts(void) {
             for (size_t spoilt = 0; spoilt <= ways && !failed; spoilt++) {
                 memcpy(packet, two_messages, len);
                 if (spoilt > 0) packet[(spoilt - 1) / sizeof bytes] = bytes[(spoilt - 1) % sizeof bytes];
-                CHECK(cetskobi_accept(packet, len).number == cetskobi_fetch(packet, len, 0).number);
+                CHECK(cetskobi_accept(lower, packet, len).number == cetskobi_fetch(lower, packet, len, 0).number);
                 for (size_t c = 0; c < sizeof counts; c++)
                     for (size_t n = 0; n < sizeof numbers; n++)
                         for (size_t m = 0; m < sizeof messages / sizeof *messages; m++)
@@ -563,10 +673,6 @@ static void playing(void) {
     CHECK(p.number == 0 && p.len == 10 && memcmp(out, "0 W 1 0 0\n", 10) == 0);
 }
 
-static int says(const char *text, const char *words) {
-    return strcmp(text, words) == 0;
-}
-
 /* rust/cetskobi/tests/texts.rs compares every text with Rust's. */
 static void texts(void) {
     CHECK(says(cetskobi_meaning(0), "accepted"));
@@ -575,7 +681,7 @@ static void texts(void) {
     CHECK(says(cetskobi_state_name(CETSKOBI_INVALID_WRITE), "invalid-write"));
     CHECK(says(cetskobi_kind_name(CETSKOBI_NONE), "none") && says(cetskobi_kind_name(CETSKOBI_ACK), "ACK"));
     for (int n = 0; n <= UINT8_MAX; n++) {
-        int known = n <= CETSKOBI_REFUSED_NOT_AS_OPENED || n == CETSKOBI_REFUSED_PLAYER_ROOM;
+        int known = n <= CETSKOBI_REFUSED_OTHER_RULE || n == CETSKOBI_REFUSED_PLAYER_ROOM;
         CHECK(says(cetskobi_meaning((uint8_t)n), "unknown refusal") == !known);
         CHECK(says(cetskobi_state_name((uint8_t)n), "unknown state") == (n > CETSKOBI_REPLAY));
         CHECK(says(cetskobi_kind_name((uint8_t)n), "unknown kind") == (n > CETSKOBI_VAL));
@@ -587,6 +693,7 @@ static void texts(void) {
 
 int main(void) {
     membership();
+    rules();
     writing();
     asking();
     leaving();
@@ -602,6 +709,7 @@ int main(void) {
     ending();
     bytes();
     packets();
+    packets_by_the_rule();
     accepted_once();
     foreign_facts();
     playing();

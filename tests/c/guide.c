@@ -54,9 +54,9 @@ static void ticks(struct hut *h, int count) {
     for (int n = 0; n < count; n++) tick(h);
 }
 
-/* The packet is one message of this kind with this stamp. */
+/* The packet, of a new group, is one message of this kind with this stamp. */
 static int carries(struct packet p, uint8_t kind, uint32_t version, uint8_t tie) {
-    struct cetskobi_fetched m = cetskobi_fetch(p.bytes, p.len, 0);
+    struct cetskobi_fetched m = cetskobi_fetch(SETTINGS, p.bytes, p.len, 0);
     return p.bytes[1] == 1 && m.number == 0 && m.kind == kind && m.version == version && m.tie == tie;
 }
 
@@ -99,6 +99,18 @@ static void fresh(void) {
     CHECK(begin(&one, 1, ALL) == 0 && begin(&two, 2, ALL) == 0 && begin(&five, 5, ALL) == 0);
 }
 
+/* The same of a group with this rule: of one that was formed earlier, say. */
+static void fresh_by(uint8_t rule) {
+    struct cetskobi_settings settings = {.rule = rule};
+    struct hut *huts[] = {&one, &two, &five};
+    fresh();
+    for (size_t k = 0; k < 3; k++) {
+        struct cetskobi_admission a = cetskobi_start(huts[k]->me.number, ALL, settings, LENT(huts[k]));
+        CHECK(a.number == 0 && a.replica.settings.rule == rule);
+        huts[k]->me = a.replica;
+    }
+}
+
 static void a_worked_morning(void) {
     fresh();
     CHECK(is(&one, CETSKOBI_VALID, 0, 1, 0));
@@ -127,7 +139,7 @@ static void a_worked_morning(void) {
     CHECK(cetskobi_deliver_packet(two.me, LENT(&two), ack.bytes, ack.len, 0).number == 13);
     came(&five, inv);
     ack = sent(SET_2);
-    static const uint8_t bytes[] = {1, 1, 0, 20, 2, 5, 0, 0, 0, 0, 0, 7, 0, 0, 0, 1, 2, 0, 20, 0};
+    static const uint8_t bytes[] = {2, 1, 0, 20, 2, 5, 0, 0, 0, 0, 0, 7, 0, 0, 0, 1, 2, 0, 20, 0};
     CHECK(ack.len == sizeof bytes && memcmp(ack.bytes, bytes, sizeof bytes) == 0);
     came(&two, ack);
     val = sent(SET_1 | SET_5);
@@ -218,106 +230,137 @@ static void a_view_that_was_missed(void) {
     CHECK(missed_view(&five) == 0 && cetskobi_read(five.me, LENT(&five), RING).number == 3);
     /* Older messages tell nothing, and neither do bytes that are no packet. */
     came(&one, first);
-    second.bytes[0] = 2;
+    second.bytes[0] = 3;
     CHECK(packet_came(&one, second.bytes, second.len) == 20);
+    /* Nor does a packet of a group with the other rule. */
+    second.bytes[0] = 1;
+    CHECK(packet_came(&one, second.bytes, second.len) == 27);
     silent();
     CHECK(one.heard == 0 && missed_view(&one) == 0);
 }
 
-static void two_saves_at_once(void) {
-    fresh();
-    struct stamp lesser = saves(&two, "two's");
-    struct packet of_two = sent(SET_1 | SET_5);
-    saves(&five, "five's");
-    struct packet of_five = sent(SET_1 | SET_2);
-    /* 1 and 5 acknowledge 2's save, so it is finished; 5 keeps its own, and that comes then. */
-    came(&one, of_two);
-    came(&two, sent(SET_2));
+/* 2 and 5 save at once, in a group with this rule; the tie goes to the winner. */
+static void two_saves_at_once(uint8_t rule, struct hut *winner, struct hut *loser) {
+    fresh_by(rule);
+    uint8_t number = winner->me.number;
+    uint16_t set_w = (uint16_t)(1 << number), set_l = (uint16_t)(1 << loser->me.number);
+    struct stamp lesser = saves(loser, "loser's");
+    struct packet of_loser = sent(SET_1 | set_w);
+    saves(winner, "winner's");
+    struct packet of_winner = sent(SET_1 | set_l);
+    CHECK(of_loser.bytes[0] == rule && of_winner.bytes[0] == rule);
+    /* 1 and the winner acknowledge the loser's save, so it is finished; the winner keeps its own, and that comes then. */
+    came(&one, of_loser);
+    came(loser, sent(set_l));
     silent();
-    came(&five, of_two);
-    came(&two, sent(SET_2));
-    sent(SET_1 | SET_5);
-    CHECK(fate_of(&two, RING, lesser) == FINISHED);
-    came(&two, of_five);
-    sent(SET_5);
-    CHECK(fate_of(&two, RING, lesser) == REPLACED && is(&two, CETSKOBI_INVALID, 1, 5, SET_1 | SET_5));
+    came(winner, of_loser);
+    came(loser, sent(set_l));
+    sent(SET_1 | set_w);
+    CHECK(fate_of(loser, RING, lesser) == FINISHED);
+    came(loser, of_winner);
+    sent(set_w);
+    CHECK(fate_of(loser, RING, lesser) == REPLACED && is(loser, CETSKOBI_INVALID, 1, number, SET_1 | set_w));
 
     /* Where it comes before, the save is overtaken. */
-    fresh();
-    lesser = saves(&two, "two's");
-    sent(SET_1 | SET_5);
-    came(&two, of_five);
-    sent(SET_5);
-    CHECK(fate_of(&two, RING, lesser) == REPLACED && is(&two, CETSKOBI_INVALID_WRITE, 1, 5, 0));
-    CHECK(memcmp(two.store + CETSKOBI_VALUE_MAX * RING, "five's", 7) == 0);
+    fresh_by(rule);
+    lesser = saves(loser, "loser's");
+    sent(SET_1 | set_w);
+    came(loser, of_winner);
+    sent(set_w);
+    CHECK(fate_of(loser, RING, lesser) == REPLACED && is(loser, CETSKOBI_INVALID_WRITE, 1, number, 0));
+    CHECK(memcmp(loser->store + CETSKOBI_VALUE_MAX * RING, "winner's", 9) == 0);
 }
 
-/* 2 and 5 saved together, and 2 was overtaken; then 5 died. What 2 sent. */
+/* Two stations on one channel, or a laptop that was started with the other rule: nothing of such a packet is taken, in either direction, and
+ * the clock goes on. */
+static void a_packet_of_the_other_rule(void) {
+    fresh();
+    saves(&two, "robin");
+    struct packet ours = sent(SET_1 | SET_5), theirs;
+    struct cetskobi_settings old = {.rule = CETSKOBI_HIGHER};
+    one.me = cetskobi_start(1, ALL, old, LENT(&one)).replica;
+    CHECK(packet_came(&one, ours.bytes, ours.len) == 27 && is(&one, CETSKOBI_VALID, 0, 1, 0));
+    saves(&one, "wren");
+    theirs = sent(SET_2 | SET_5);
+    CHECK(ours.bytes[0] == 2 && theirs.bytes[0] == 1);
+    CHECK(packet_came(&two, theirs.bytes, theirs.len) == 27 && is(&two, CETSKOBI_WRITE, 1, 2, 0) && missed_view(&two) == 0);
+    silent();
+    ticks(&two, 8);
+    ours = sent(SET_1 | SET_5);
+    /* Started anew, with its group's rule, it takes what comes. */
+    CHECK(begin(&one, 1, ALL) == 0);
+    came(&one, ours);
+    came(&two, sent(SET_2));
+    silent();
+    CHECK(is(&one, CETSKOBI_INVALID, 1, 2, 0) && is(&two, CETSKOBI_WRITE, 1, 2, SET_1));
+}
+
+/* 2 and 5 saved together, and 5 was overtaken, as a tie goes to the lower number; then 2 died. What 5 sent. */
 static struct packet the_winner_dies(void) {
     fresh();
-    struct stamp lesser = saves(&two, "two's");
-    struct packet of_two = sent(SET_1 | SET_5);
-    saves(&five, "five's");
-    came(&two, sent(SET_1 | SET_2));
-    sent(SET_5);
-    CHECK(is(&two, CETSKOBI_INVALID_WRITE, 1, 5, 0) && fate_of(&two, RING, lesser) == REPLACED);
-    return of_two;
+    struct stamp lesser = saves(&five, "five's");
+    struct packet of_five = sent(SET_1 | SET_2);
+    saves(&two, "two's");
+    came(&five, sent(SET_1 | SET_5));
+    sent(SET_2);
+    CHECK(is(&five, CETSKOBI_INVALID_WRITE, 1, 2, 0) && fate_of(&five, RING, lesser) == REPLACED);
+    return of_five;
 }
 
-/* 2's replay comes to 1, and its ACK back. Both show the winner's text, and 2's ringer is told that hers was replaced. */
+/* 5's replay comes to 1, and its ACK back. Both show the winner's text, and 5's ringer is told that hers was replaced. */
 static void replayed(struct packet inv) {
-    CHECK(carries(inv, CETSKOBI_INV, 1, 5) && is(&two, CETSKOBI_REPLAY, 1, 5, 0));
+    CHECK(carries(inv, CETSKOBI_INV, 1, 2) && is(&five, CETSKOBI_REPLAY, 1, 2, 0));
     came(&one, inv);
-    struct packet ack = sent(SET_2);
-    CHECK(carries(ack, CETSKOBI_ACK, 1, 5) && is(&one, CETSKOBI_INVALID, 1, 5, 0));
-    came(&two, ack);
+    struct packet ack = sent(SET_5);
+    CHECK(carries(ack, CETSKOBI_ACK, 1, 2) && is(&one, CETSKOBI_INVALID, 1, 2, 0));
+    came(&five, ack);
     struct packet val = sent(SET_1);
-    CHECK(carries(val, CETSKOBI_VAL, 1, 5) && is(&two, CETSKOBI_VALID, 1, 5, SET_1));
+    CHECK(carries(val, CETSKOBI_VAL, 1, 2) && is(&five, CETSKOBI_VALID, 1, 2, SET_1));
     came(&one, val);
     silent();
-    CHECK(shows(&one, "five's") && shows(&two, "five's") && fate_of(&two, RING, (struct stamp){1, 2}) == REPLACED);
+    CHECK(shows(&one, "two's") && shows(&five, "two's") && fate_of(&five, RING, (struct stamp){1, 5}) == REPLACED);
 }
 
-/* Only 2 has the winner's text. As long as 5 is in the view it waits; once 5 is struck off it replays that text (02, Wish 2). */
+/* Only 5 has the winner's text. As long as 2 is in the view it waits; once 2 is struck off it replays that text (02, Wish 2). */
 static void an_overtaken_laptop_replays(void) {
     the_winner_dies();
-    ticks(&two, 3000);
-    go_over(&two);
+    ticks(&five, 3000);
+    go_over(&five);
     silent();
-    CHECK(cetskobi_read(two.me, LENT(&two), RING).number == 6 && cetskobi_write(two.me, LENT(&two), RING, NULL, 0).number == 7);
-    CHECK(cetskobi_validate(two.me, LENT(&two), RING).number == 15 && cetskobi_replay(two.me, LENT(&two), RING).number == 16);
-    CHECK(cetskobi_resend(two.me, LENT(&two), RING).number == 17 && is(&two, CETSKOBI_INVALID_WRITE, 1, 5, 0));
-    CHECK(view_came(&two, 1, SET_1 | SET_2) == 0);
-    CHECK(carries(sent(SET_1), CETSKOBI_INV, 1, 5) && is(&two, CETSKOBI_REPLAY, 1, 5, 0));
-    CHECK(fate_of(&two, RING, (struct stamp){1, 2}) == REPLACED);
+    CHECK(cetskobi_read(five.me, LENT(&five), RING).number == 6 && cetskobi_write(five.me, LENT(&five), RING, NULL, 0).number == 7);
+    CHECK(cetskobi_validate(five.me, LENT(&five), RING).number == 15 && cetskobi_replay(five.me, LENT(&five), RING).number == 16);
+    CHECK(cetskobi_resend(five.me, LENT(&five), RING).number == 17 && is(&five, CETSKOBI_INVALID_WRITE, 1, 2, 0));
+    CHECK(view_came(&five, 1, SET_1 | SET_5) == 0);
+    CHECK(carries(sent(SET_1), CETSKOBI_INV, 1, 2) && is(&five, CETSKOBI_REPLAY, 1, 2, 0));
+    CHECK(fate_of(&five, RING, (struct stamp){1, 5}) == REPLACED);
     /* That was lost. 1, which had heard nothing, has the view when it comes again. */
-    CHECK(view_came(&one, 1, SET_1 | SET_2) == 0 && is(&one, CETSKOBI_VALID, 0, 1, 0));
-    ticks(&two, 7);
+    CHECK(view_came(&one, 1, SET_1 | SET_5) == 0 && is(&one, CETSKOBI_VALID, 0, 1, 0));
+    ticks(&five, 7);
     silent();
-    tick(&two);
+    tick(&five);
     replayed(sent(SET_1));
 
-    /* 1 has the text that was overtaken, and cannot help as 2 lives. What it acknowledged is late. */
-    struct packet of_two = the_winner_dies();
-    came(&one, of_two);
-    struct packet late = sent(SET_2);
-    CHECK(view_came(&one, 1, SET_1 | SET_2) == 0);
+    /* 1 has the text that was overtaken, and cannot help as 5 lives. What it acknowledged is late. */
+    struct packet of_five = the_winner_dies();
+    came(&one, of_five);
+    struct packet late = sent(SET_5);
+    CHECK(view_came(&one, 1, SET_1 | SET_5) == 0);
     silent();
-    CHECK(is(&one, CETSKOBI_INVALID, 1, 2, 0) && view_came(&two, 1, SET_1 | SET_2) == 0);
+    CHECK(is(&one, CETSKOBI_INVALID, 1, 5, 0) && view_came(&five, 1, SET_1 | SET_5) == 0);
     struct packet inv = sent(SET_1);
-    CHECK(carries(late, CETSKOBI_ACK, 1, 2));
-    CHECK(cetskobi_deliver_packet(two.me, LENT(&two), late.bytes, late.len, 0).number == 10);
+    CHECK(carries(late, CETSKOBI_ACK, 1, 5));
+    CHECK(cetskobi_deliver_packet(five.me, LENT(&five), late.bytes, late.len, 0).number == 10);
     replayed(inv);
 
-    /* 2 took the view and replayed nothing, as with an engine without Wish 2. Its clock is gone; going over once finds the record. */
+    /* 5 took the view and replayed nothing, as with an engine without Wish 2. Its clock is gone; going over once finds the record. */
     the_winner_dies();
-    CHECK(view_came(&one, 1, SET_1 | SET_2) == 0);
-    two.me = cetskobi_view(two.me, 1, SET_1 | SET_2).replica;
-    memset(two.ticks, 0, sizeof two.ticks);
-    ticks(&two, 3000);
+    CHECK(view_came(&one, 1, SET_1 | SET_5) == 0);
+    five.me = cetskobi_view(five.me, 1, SET_1 | SET_5).replica;
+    memset(five.ticks, 0, sizeof five.ticks);
+    ticks(&five, 3000);
     silent();
-    CHECK(is(&two, CETSKOBI_INVALID_WRITE, 1, 5, 0));
-    go_over(&two);
+    CHECK(is(&five, CETSKOBI_INVALID_WRITE, 1, 2, 0));
+    go_over(&five);
     replayed(sent(SET_1));
 }
 
@@ -457,11 +500,13 @@ static void packets_are_shared(void) {
     in_air = 0;
 }
 
+/* Those of the poor link. The last one dies, to which every tie goes. */
+static struct hut *const huts[] = {&five, &two, &one};
+
 /* What is in the air reaches whom it shall, of those awake, but every third copy is lost. */
 static void poor_link(size_t awake) {
     static unsigned copies;
     static struct packet now[sizeof air / sizeof *air];
-    struct hut *huts[] = {&one, &two, &five};
     size_t count = in_air;
     memcpy(now, air, sizeof air);
     in_air = 0;
@@ -470,16 +515,15 @@ static void poor_link(size_t awake) {
             if (now[n].to >> huts[k]->me.number & 1 && copies++ % 3 != 0) came(huts[k], now[n]);
 }
 
-/* How many records are in invalid-write, 5 being the last writer. */
-static size_t overtaken_by_five(const struct hut *h) {
+/* How many records are in invalid-write, 1 being the last writer. */
+static size_t overtaken_by_one(const struct hut *h) {
     size_t count = 0;
-    for (size_t i = 0; i < COUNT; i++) count += h->table[i].state == CETSKOBI_INVALID_WRITE && h->table[i].writer == 5;
+    for (size_t i = 0; i < COUNT; i++) count += h->table[i].state == CETSKOBI_INVALID_WRITE && h->table[i].writer == 1;
     return count;
 }
 
 /* A tick of those awake, over the poor link. Until tick 1,900 they save, from 1,890 on the same rings. */
 static void a_tick(int now, size_t awake) {
-    struct hut *huts[] = {&one, &two, &five};
     poor_link(awake);
     for (size_t k = 0; k < awake; k++) {
         int together = now >= 1890;
@@ -493,36 +537,35 @@ static void a_tick(int now, size_t awake) {
     }
 }
 
-/* Record i is valid at 1 and 2, with one stamp. */
+/* Record i is valid at 5 and 2, with one stamp. */
 static int settled(size_t i) {
-    const struct cetskobi_record *r = &one.table[i], *s = &two.table[i];
+    const struct cetskobi_record *r = &five.table[i], *s = &two.table[i];
     return r->version > 0 && r->state == CETSKOBI_VALID && s->state == CETSKOBI_VALID && r->version == s->version && r->tie == s->tie;
 }
 
-/* 5 dies amid saves of the same rings by all three. */
+/* 1 dies amid saves of the same rings by all three. */
 static void ticks_alone_settle_every_record(void) {
     fresh();
     for (int now = 0; now < 6000; now++) {
-        if (now == 2000) CHECK(overtaken_by_five(&one) > 0 && view_came(&one, 1, SET_1 | SET_2) == 0);
+        if (now == 2000) CHECK(overtaken_by_one(&five) > 0 && view_came(&five, 1, SET_2 | SET_5) == 0);
         if (now == 2100) {
-            CHECK(missed_view(&two) == 1); /* 1's messages have told it */
-            CHECK(overtaken_by_five(&two) > 0 && view_came(&two, 1, SET_1 | SET_2) == 0);
+            CHECK(missed_view(&two) == 1); /* 5's messages have told it */
+            CHECK(overtaken_by_one(&two) > 0 && view_came(&two, 1, SET_2 | SET_5) == 0);
         }
         a_tick(now, now < 1900 ? 3 : 2);
     }
     for (size_t i = 0; i < 30; i++) CHECK(settled(i));
-    CHECK(memcmp(one.store, two.store, sizeof one.store) == 0);
+    CHECK(memcmp(five.store, two.store, sizeof five.store) == 0);
 }
 
-/* The same, but the morning breaks off there, and what is in the air is lost. 1 and 2 take the view and try nothing at first. Then each goes
+/* The same, but the morning breaks off there, and what is in the air is lost. 5 and 2 take the view and try nothing at first. Then each goes
  * over once, and no packet is lost any more. */
 static void going_over_once_settles_every_record(void) {
     fresh();
     for (int now = 0; now < 1900; now++) a_tick(now, 3);
     in_air = 0;
-    struct hut *huts[] = {&one, &two};
     for (size_t k = 0; k < 2; k++) {
-        struct cetskobi_admission a = cetskobi_view(huts[k]->me, 1, SET_1 | SET_2);
+        struct cetskobi_admission a = cetskobi_view(huts[k]->me, 1, SET_2 | SET_5);
         CHECK(a.number == 0);
         huts[k]->me = a.replica;
     }
@@ -537,13 +580,15 @@ static void going_over_once_settles_every_record(void) {
             if (p.to >> huts[k]->me.number & 1) came(huts[k], p);
     }
     for (size_t i = 0; i < 30; i++) CHECK(settled(i));
-    CHECK(memcmp(one.store, two.store, sizeof one.store) == 0);
+    CHECK(memcmp(five.store, two.store, sizeof five.store) == 0);
 }
 
 int main(void) {
     a_worked_morning();
     a_view_that_was_missed();
-    two_saves_at_once();
+    two_saves_at_once(CETSKOBI_HIGHER, &five, &two);
+    two_saves_at_once(CETSKOBI_LOWER, &two, &five);
+    a_packet_of_the_other_rule();
     an_overtaken_laptop_replays();
     a_save_since_the_ring_was_opened();
     a_save_that_waits_for_a_struck_off_laptop();

@@ -11,9 +11,9 @@ enum { STACK = 1 << 20, PAINT = 0xa5, SCRIPT = 65536, PRINTED = 25 * SCRIPT + 2 
 /* Two records are saved. */
 enum { COUNT = CETSKOBI_COUNT_MAX, LAST = COUNT - 1, OPEN = LAST - 1 };
 
-static struct cetskobi_replica me = {.number = 2, .view = 38, .epoch = 0};
+static struct cetskobi_replica me = {.number = 2, .settings = {.rule = CETSKOBI_LOWER}, .view = 38, .epoch = 0};
 /* After laptop 5 was struck off. */
-static const struct cetskobi_replica later = {.number = 2, .view = 6, .epoch = 1};
+static const struct cetskobi_replica later = {.number = 2, .settings = {.rule = CETSKOBI_LOWER}, .view = 6, .epoch = 1};
 static uint8_t table[COUNT * CETSKOBI_RECORD_BYTES], store[COUNT * CETSKOBI_VALUE_MAX];
 static const uint8_t text[CETSKOBI_VALUE_MAX];
 static struct cetskobi_entry entries[CETSKOBI_MESSAGES_MAX];
@@ -32,7 +32,7 @@ static void nothing(void) {
 }
 
 static void start(void) {
-    number = cetskobi_start(me.number, me.view, MEMORY).number;
+    number = cetskobi_start(me.number, me.view, me.settings, MEMORY).number;
 }
 
 static void view(void) {
@@ -101,14 +101,14 @@ static void replay(void) {
 static void pack(void) {
     for (uint32_t n = 0; n < CETSKOBI_MESSAGES_MAX; n++)
         entries[n] = (struct cetskobi_entry){.kind = CETSKOBI_INV, .sender = 5, .index = n, .version = 9, .tie = 5, .len = n < 2 ? 186 : 0};
-    struct cetskobi_written w = cetskobi_pack((const uint32_t *)entries, CETSKOBI_ENTRY_WORDS * CETSKOBI_MESSAGES_MAX, bodies, 2 * 186,
-                                              packet, sizeof packet);
+    struct cetskobi_written w = cetskobi_pack(me.settings, (const uint32_t *)entries, CETSKOBI_ENTRY_WORDS * CETSKOBI_MESSAGES_MAX, bodies,
+                                              2 * 186, packet, sizeof packet);
     number = w.number;
     packet_len = w.len;
 }
 
 static void fetch(void) {
-    number = cetskobi_fetch(packet, packet_len, CETSKOBI_MESSAGES_MAX - 1).number;
+    number = cetskobi_fetch(me.settings, packet, packet_len, CETSKOBI_MESSAGES_MAX - 1).number;
 }
 
 static void deliver_packet(void) {
@@ -118,7 +118,7 @@ static void deliver_packet(void) {
 static struct cetskobi_accepted all;
 
 static void accept_packet(void) {
-    all = cetskobi_accept(packet, packet_len);
+    all = cetskobi_accept(me.settings, packet, packet_len);
     number = all.number | (all.count != CETSKOBI_MESSAGES_MAX);
 }
 

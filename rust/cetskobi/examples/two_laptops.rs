@@ -1,22 +1,30 @@
 //! Two laptops keep one ring record in step by packets, although one packet is lost and one comes twice. Both open it before either
-//! saves: the second save is refused, and made again over the text that stands there by then.
+//! saves: the second save is refused, and made again over the text that stands there by then. Then the other saves too before it has
+//! heard of that: a tie, which goes to the lower number.
 //! From the repository's root (examples/c/two_laptops.c tells the same in C):
 //!   sh tools/archive
 //!   CARGO_TARGET_DIR=target/rust cargo run --offline --release --quiet --manifest-path rust/Cargo.toml -p cetskobi --example two_laptops
 
-use cetskobi::{packet, Laptop, Leaving, NotCommitted, Opened, Refusal};
+use cetskobi::{packet, Laptop, Leaving, NotCommitted, Opened, Refusal, Rule};
 
 /// The record's number, and what is saved there.
 const RING: usize = 7;
 const WING: &[u8] = b"Blue tit, wing 62";
 const REMARK: &[u8] = b"Blue tit, female";
 const BOTH: &[u8] = b"Blue tit, female, wing 62";
+const AGAIN: &[u8] = b"Blue tit, wing 63";
+
+/// The rule of ties: the same at all laptops of a group, and fixed at its start.
+const RULE: Rule = Rule::Lower;
 
 fn main() -> Result<(), Refusal> {
     // Two laptops, both in the view, eight records each.
-    let mut net = Laptop::start(0, 0b11, 8)?;
-    let mut hut = Laptop::start(1, 0b11, 8)?;
-    println!("laptops 0 and 1 start with {} records", net.count());
+    let mut net = Laptop::start(0, 0b11, RULE, 8)?;
+    let mut hut = Laptop::start(1, 0b11, RULE, 8)?;
+    println!(
+        "laptops 0 and 1 start with {} records; a tie goes to the {RULE} number",
+        net.count()
+    );
 
     println!("a ringer at each opens record {RING}");
     let seen_at_net = open(&net)?;
@@ -49,7 +57,24 @@ fn main() -> Result<(), Refusal> {
     refused(hut.commit(seen_at_hut, REMARK).map_err(NotCommitted::into));
     let seen_at_hut = open(&hut)?;
     println!("laptop 1 saves over that");
-    send(hut.commit(seen_at_hut, BOTH)?)?;
+    let inv_of_hut = send(hut.commit(seen_at_hut, BOTH)?)?;
+
+    // Nor has the other's ringer seen that. Both saves are of version 2.
+    println!("laptop 0 saves before it takes the packet");
+    let seen_at_net = open(&net)?;
+    let inv_of_net = send(net.commit(seen_at_net, AGAIN)?)?;
+    println!("each takes the other's packet");
+    let ack_of_net = take(&mut net, &inv_of_hut)?.expect("an INV is acknowledged");
+    let ack_of_hut = take(&mut hut, &inv_of_net)?.expect("an INV is acknowledged");
+
+    // Laptop 1 was overtaken: its last ACK is counted, and nothing leaves.
+    println!("each takes the other's acknowledgement");
+    take(&mut hut, &ack_of_net)?;
+    let val = take(&mut net, &ack_of_hut)?.expect("the last ACK is answered by a VAL");
+    println!("laptop 1 takes the packet");
+    take(&mut hut, &val)?;
+    show(&net);
+    show(&hut);
     Ok(())
 }
 
@@ -68,7 +93,7 @@ fn open(laptop: &Laptop) -> Result<Opened, Refusal> {
 /// The packet of what left an event.
 fn send(left: Leaving) -> Result<Vec<u8>, Refusal> {
     let mut bytes = vec![0; packet::PACKET_MAX];
-    let len = packet::pack([&left], &mut bytes)?;
+    let len = packet::pack(RULE, [&left], &mut bytes)?;
     bytes.truncate(len);
     for to in left.recipients() {
         println!("  {} to laptop {to}, {len} bytes", left.envelope().message);
@@ -79,7 +104,7 @@ fn send(left: Leaving) -> Result<Vec<u8>, Refusal> {
 /// A packet comes. It is accepted as a whole, and then its messages are delivered,
 /// here one: what leaves, if anything does, as a packet.
 fn take(laptop: &mut Laptop, packet: &[u8]) -> Result<Option<Vec<u8>>, Refusal> {
-    let mut messages = packet::messages(packet)?;
+    let mut messages = packet::messages(laptop.settings(), packet)?;
     let arrival = laptop.deliver_next(&mut messages);
     let reply = arrival.expect("a packet has a message").reply()?;
     reply.leaving().map(send).transpose()

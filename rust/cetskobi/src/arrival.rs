@@ -11,19 +11,19 @@ use crate::{Refusal, Reply};
 ///
 /// ```
 /// #![deny(unused_must_use)]
-/// use cetskobi::{packet, Laptop, Refusal};
+/// use cetskobi::{packet, Laptop, Refusal, Rule};
 ///
 /// # fn main() -> Result<(), Refusal> {
-/// # let mut net = Laptop::start(0, 0b111, 1)?;
-/// # let mut hut = Laptop::start(1, 0b111, 1)?;
+/// # let mut net = Laptop::start(0, 0b111, Rule::Lower, 1)?;
+/// # let mut hut = Laptop::start(1, 0b111, Rule::Lower, 1)?;
 /// # let mut bytes = [0; packet::PACKET_MAX];
 /// // Of {0,1,2} laptop 2 was struck off. 0 has been told so, 1 has not.
 /// net.change_view(1, 0b011)?;
-/// let len = packet::pack([net.write(0, b"Wren")?], &mut bytes)?;
+/// let len = packet::pack(net.settings(), [net.write(0, b"Wren")?], &mut bytes)?;
 ///
 /// let (epoch, view) = (hut.epoch(), hut.view()); // before: an arrival borrows the laptop
 /// let mut heard = None;
-/// let mut messages = packet::messages(&bytes[..len])?;
+/// let mut messages = packet::messages(hut.settings(), &bytes[..len])?;
 /// while let Some(arrival) = hut.deliver_next(&mut messages) {
 ///     // A newer view is within this one, and so is its sender.
 ///     if arrival.epoch() > epoch && view.contains(arrival.sender()) {
@@ -37,7 +37,7 @@ use crate::{Refusal, Reply};
 /// // With that view, of which the warden gives both epoch and laptops, it takes
 /// // the message, once it comes again.
 /// hut.change_view(1, 0b011)?;
-/// let mut messages = packet::messages(&bytes[..len])?;
+/// let mut messages = packet::messages(hut.settings(), &bytes[..len])?;
 /// let arrival = hut.deliver_next(&mut messages).expect("its one message");
 /// assert!(arrival.reply()?.leaving().is_some());
 /// assert_eq!(hut.deliver_next(&mut messages), None);
@@ -54,7 +54,7 @@ use crate::{Refusal, Reply};
 /// #![deny(unused_must_use)]
 /// # use cetskobi::{packet, Laptop, Refusal};
 /// # fn came(hut: &mut Laptop, bytes: &[u8]) -> Result<(), Refusal> {
-/// let mut messages = packet::messages(bytes)?;
+/// let mut messages = packet::messages(hut.settings(), bytes)?;
 /// hut.deliver_next(&mut messages);
 /// # Ok(())
 /// # }

@@ -17,7 +17,9 @@ pub struct Arriving<'a> {
 impl<'a> Arriving<'a> {
     /// For software with a wire format of its own: the message and its bytes,
     /// both as they left one laptop. With other bytes, and be they none, two
-    /// laptops may show different texts for one timestamp.
+    /// laptops may show different texts for one timestamp. Only a packet is asked for
+    /// its group's rule ([`OtherRule`](crate::Refusal::OtherRule)): here the caller sees
+    /// to it that no message of another group comes in.
     pub const fn new(envelope: Envelope, body: &'a [u8]) -> Arriving<'a> {
         Arriving { envelope, body }
     }

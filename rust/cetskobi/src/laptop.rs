@@ -4,14 +4,14 @@ use std::fmt;
 
 use crate::sys::{self, Accepted, Answer, RECORD_BYTES};
 use crate::{packet, raw, Arrival, Arriving, Envelope, Leaving, Members, Message, NotCommitted};
-use crate::{Opened, Record, Refusal, Replica, Reply, Timestamp};
+use crate::{Opened, Record, Refusal, Replica, Reply, Settings, Timestamp};
 
 /// A laptop on memory that the caller lends: [`Laptop::start_in`] and
 /// [`Laptop::from_parts`].
 pub type Lent<'a> = Laptop<&'a mut [u8], &'a mut [u8]>;
 
-/// One laptop of a group: its number, epoch and view, its records and their
-/// bytes.
+/// One laptop of a group: its number, its group's settings, epoch and view, its
+/// records and their bytes.
 ///
 /// [`Laptop::start`] makes one that owns its memory. [`Laptop::start_in`] and
 /// [`Laptop::from_parts`] take the caller's, for software that keeps the records
@@ -35,18 +35,24 @@ pub struct Laptop<T = Vec<u8>, S = Vec<u8>> {
 impl Laptop {
     /// A fresh start of laptop `number` with `count` records: epoch 0, every
     /// record valid and empty. All laptops of a group start with the same view,
-    /// [`Members`] or 16 bits with bit n for laptop n, and the same count.
+    /// [`Members`] or 16 bits with bit n for laptop n, the same [`Settings`], or the
+    /// [`Rule`](crate::Rule) that stands for them, and the same count.
     ///
     /// # Errors
     ///
     /// [`Refusal::NoGroup`], [`Refusal::LentMemory`] (for the count) and
     /// [`Refusal::StruckOff`].
-    pub fn start(number: u8, view: impl Into<Members>, count: usize) -> Result<Laptop, Refusal> {
+    pub fn start(
+        number: u8,
+        view: impl Into<Members>,
+        settings: impl Into<Settings>,
+        count: usize,
+    ) -> Result<Laptop, Refusal> {
         // One record beyond the most is as wrong as a million.
         let count = count.min(Record::COUNT_MAX + 1);
         let table = vec![0; count * RECORD_BYTES];
         let store = vec![0; count * Record::VALUE_MAX];
-        Laptop::start_in(number, view, table, store)
+        Laptop::start_in(number, view, settings, table, store)
     }
 }
 
@@ -60,11 +66,12 @@ impl<T: AsMut<[u8]>, S: AsMut<[u8]>> Laptop<T, S> {
     pub fn start_in(
         number: u8,
         view: impl Into<Members>,
+        settings: impl Into<Settings>,
         mut table: T,
         mut store: S,
     ) -> Result<Self, Refusal> {
-        let view = view.into().bits();
-        let admission = raw::start(number, view, table.as_mut(), store.as_mut());
+        let (view, settings) = (view.into().bits(), settings.into().into());
+        let admission = raw::start(number, view, settings, table.as_mut(), store.as_mut());
         Refusal::check(admission.number)?;
         let me = admission.replica;
         Ok(Laptop { me, table, store })
@@ -77,11 +84,11 @@ impl<T: AsMut<[u8]>, S: AsMut<[u8]>> Laptop<T, S> {
     /// text.
     ///
     /// ```
-    /// use cetskobi::{Laptop, Refusal};
+    /// use cetskobi::{Laptop, Refusal, Rule};
     ///
     /// # fn main() -> Result<(), Refusal> {
-    /// # let mut net = Laptop::start(0, 0b11, 1)?;
-    /// # let mut hut = Laptop::start(1, 0b11, 1)?;
+    /// # let mut net = Laptop::start(0, 0b11, Rule::Lower, 1)?;
+    /// # let mut hut = Laptop::start(1, 0b11, Rule::Lower, 1)?;
     /// // Two ringers open the ring; the first saves over what she saw.
     /// let hers = net.ask(0)?;
     /// let his = hut.ask(0)?;
@@ -106,7 +113,7 @@ impl<T: AsMut<[u8]>, S: AsMut<[u8]>> Laptop<T, S> {
     /// ```
     ///
     /// Two laptops may both commit on one timestamp, as two may write: then the
-    /// save with the greater new timestamp stands.
+    /// save with the later new timestamp, by the group's rule, stands.
     ///
     /// # Errors
     ///
@@ -145,29 +152,29 @@ impl<T: AsMut<[u8]>, S: AsMut<[u8]>> Laptop<T, S> {
     /// and its acknowledgements no longer count.
     ///
     /// ```
-    /// use cetskobi::{Laptop, Refusal};
+    /// use cetskobi::{Laptop, Refusal, Rule};
     ///
     /// # fn main() -> Result<(), Refusal> {
-    /// # let mut net = Laptop::start(0, 0b111, 1)?;
-    /// # let mut hut = Laptop::start(1, 0b111, 1)?;
-    /// # let mut tent = Laptop::start(2, 0b111, 1)?;
-    /// // 0 and 2 of {0,1,2} save together. 2 has the greater timestamp, and dies.
-    /// let _lesser = net.write(0, b"Wren")?;
-    /// let greater = tent.write(0, b"Robin")?;
-    /// let _ack = net.deliver(greater.arriving())?;
-    /// assert_eq!(net.replay(0), Err(Refusal::NotReplayable));
+    /// # let mut net = Laptop::start(0, 0b111, Rule::Lower, 1)?;
+    /// # let mut hut = Laptop::start(1, 0b111, Rule::Lower, 1)?;
+    /// # let mut tent = Laptop::start(2, 0b111, Rule::Lower, 1)?;
+    /// // 0 and 2 of {0,1,2} save together. 0 has the later timestamp, and dies.
+    /// let _earlier = tent.write(0, b"Wren")?;
+    /// let later = net.write(0, b"Robin")?;
+    /// let _ack = tent.deliver(later.arriving())?;
+    /// assert_eq!(tent.replay(0), Err(Refusal::NotReplayable));
     ///
-    /// // It is struck off, at both that are left, and 0 hands its text on.
-    /// net.change_view(1, 0b011)?;
-    /// hut.change_view(1, 0b011)?;
-    /// let inv = net.replay(0)?;
+    /// // It is struck off, at both that are left, and 2 hands its text on.
+    /// tent.change_view(1, 0b110)?;
+    /// hut.change_view(1, 0b110)?;
+    /// let inv = tent.replay(0)?;
     /// assert_eq!(inv.body(), b"Robin");
     /// let ack = hut.deliver(inv.arriving())?.leaving();
     /// let ack = ack.expect("an INV is acknowledged").into_owned();
-    /// let val = net.deliver(ack.arriving())?.leaving();
+    /// let val = tent.deliver(ack.arriving())?.leaving();
     /// let val = val.expect("1 was the last").into_owned();
     /// assert_eq!(hut.deliver(val.arriving())?.leaving(), None);
-    /// assert_eq!(net.read(0)?, b"Robin");
+    /// assert_eq!(tent.read(0)?, b"Robin");
     /// assert_eq!(hut.read(0)?, b"Robin");
     /// # Ok(())
     /// # }
@@ -190,11 +197,11 @@ impl<T: AsMut<[u8]>, S: AsMut<[u8]>> Laptop<T, S> {
     /// itself ([`deliver`](Laptop::deliver)), and then there is nothing to validate.
     ///
     /// ```
-    /// use cetskobi::{Laptop, Refusal};
+    /// use cetskobi::{Laptop, Refusal, Rule};
     ///
     /// # fn main() -> Result<(), Refusal> {
-    /// # let mut net = Laptop::start(0, 0b111, 1)?;
-    /// # let mut hut = Laptop::start(1, 0b111, 1)?;
+    /// # let mut net = Laptop::start(0, 0b111, Rule::Lower, 1)?;
+    /// # let mut hut = Laptop::start(1, 0b111, Rule::Lower, 1)?;
     /// // Of {0,1,2} only 2, which is dead, has not acknowledged.
     /// let inv = net.write(0, b"Wren")?;
     /// let ack = hut.deliver(inv.arriving())?.leaving();
@@ -249,27 +256,30 @@ impl<T: AsMut<[u8]>, S: AsMut<[u8]>> Laptop<T, S> {
         lent.replied(i, answer, envelope.sender)
     }
 
-    /// Takes message `i` of a packet in: [`packet::fetch`], then [`deliver`](Laptop::deliver),
-    /// with what leaves there. The whole packet is judged first, at each call: for
-    /// all of its messages there is [`deliver_next`](Laptop::deliver_next).
+    /// Takes message `i` of a packet in: [`packet::fetch`] by this laptop's settings,
+    /// then [`deliver`](Laptop::deliver), with what leaves there. The whole packet is
+    /// judged first, at each call: for all of its messages there is
+    /// [`deliver_next`](Laptop::deliver_next).
     ///
     /// # Errors
     ///
     /// Those of [`packet::fetch`], then those of [`deliver`](Laptop::deliver).
     pub fn deliver_packet(&mut self, packet: &[u8], i: usize) -> Result<Reply<'_>, Refusal> {
-        let accepted = raw::accept(packet);
+        let accepted = raw::accept(self.me.settings, packet);
         self.lent().arrival(packet, accepted, i).reply()
     }
 
     /// Takes the next message of a packet in, as [`deliver`](Laptop::deliver) does;
-    /// None when there are no more. It takes constant time, as
-    /// [`packet::messages`] has judged the packet.
+    /// None when there are no more. It takes constant time, as [`packet::messages`]
+    /// has judged the packet. If it did so by other settings than this laptop's, the
+    /// packet is judged again, and each of its messages answers what
+    /// [`deliver_packet`](Laptop::deliver_packet) does, [`OtherRule`](Refusal::OtherRule).
     ///
     /// ```
     /// use cetskobi::{packet, Laptop, Leaving, Refusal};
     ///
     /// # fn came(hut: &mut Laptop, outbox: &mut Vec<Leaving>, bytes: &[u8]) -> Result<(), Refusal> {
-    /// let mut messages = packet::messages(bytes)?;
+    /// let mut messages = packet::messages(hut.settings(), bytes)?;
     /// while let Some(arrival) = hut.deliver_next(&mut messages) {
     ///     // A refused message is one message: go on with the next.
     ///     let Ok(reply) = arrival.reply() else { continue };
@@ -283,7 +293,7 @@ impl<T: AsMut<[u8]>, S: AsMut<[u8]>> Laptop<T, S> {
     /// greater epoch than this laptop's says that it missed a view.
     #[must_use = "a message that is not sent is heard by nobody"]
     pub fn deliver_next(&mut self, messages: &mut packet::Messages<'_>) -> Option<Arrival<'_>> {
-        let (packet, accepted, i) = messages.advance()?;
+        let (packet, accepted, i) = messages.advance_by(self.settings())?;
         Some(self.lent().arrival(packet, accepted, i))
     }
 
@@ -312,12 +322,18 @@ impl<T, S> Laptop<T, S> {
         Members::from(self.me.view)
     }
 
-    /// Number, view and epoch together.
+    /// What was fixed at its group's start.
+    pub fn settings(&self) -> Settings {
+        Settings::from(self.me.settings)
+    }
+
+    /// Number, settings, view and epoch together.
     pub fn identity(&self) -> Replica {
         self.me
     }
 
-    /// Takes the view that the warden issued for an epoch; no record changes.
+    /// Takes the view that the warden issued for an epoch; no record changes, and the
+    /// settings stay.
     ///
     /// # Errors
     ///
@@ -335,22 +351,26 @@ impl<T, S> Laptop<T, S> {
     /// The laptop `me` on its table and store, as its last event left the three.
     ///
     /// ```
-    /// use cetskobi::{Laptop, Refusal, State};
+    /// use cetskobi::{Laptop, Refusal, Rule, State};
     ///
     /// # fn main() -> Result<(), Refusal> {
     /// let mut table = [0; 16];
     /// let mut store = [0; 192];
-    /// let mut laptop = Laptop::start_in(0, 0b11, &mut table, &mut store)?;
+    /// let mut laptop = Laptop::start_in(0, 0b11, Rule::Lower, &mut table, &mut store)?;
     /// let inv = laptop.write(0, b"Wren")?.into_owned();
     /// let (me, _, _) = laptop.into_parts();
     ///
     /// // Between the events the memory is the caller's to keep, not to change.
     /// let laptop = Laptop::from_parts(me, &mut table, &mut store);
     /// assert_eq!(laptop.record(0).map(|r| r.state), Some(State::Write));
+    /// assert_eq!(laptop.settings().rule, Rule::Lower);
     /// # Ok(())
     /// # }
     /// ```
-    pub fn from_parts(me: Replica, table: T, store: S) -> Self {
+    ///
+    /// The identity's rule may be any byte, as in C; it is kept as 1 or 2.
+    pub fn from_parts(mut me: Replica, table: T, store: S) -> Self {
+        me.settings = Settings::from(me.settings).into();
         Laptop { me, table, store }
     }
 
@@ -430,6 +450,7 @@ impl<T: AsRef<[u8]>, S: AsRef<[u8]>> fmt::Debug for Laptop<T, S> {
     fn fmt(&self, f: &mut fmt::Formatter<'_>) -> fmt::Result {
         f.debug_struct("Laptop")
             .field("number", &self.number())
+            .field("rule", &self.settings().rule)
             .field("epoch", &self.epoch())
             .field("view", &format_args!("{}", self.view()))
             .field("count", &self.count())

@@ -12,16 +12,16 @@ use crate::{Arriving, Envelope, Members};
 ///
 /// ```
 /// #![deny(unused_must_use)]
-/// use cetskobi::{packet, Laptop, Leaving, Refusal};
+/// use cetskobi::{packet, Laptop, Leaving, Refusal, Rule};
 ///
 /// # fn main() -> Result<(), Refusal> {
-/// let mut net = Laptop::start(0, 0b11, 2)?;
+/// let mut net = Laptop::start(0, 0b11, Rule::Lower, 2)?;
 /// let mut outbox: Vec<Leaving<'static>> = Vec::new();
 /// outbox.push(net.write(0, b"Wren")?.into_owned());
 /// outbox.push(net.write(1, b"Robin")?.into_owned());
 ///
 /// let mut bytes = [0; packet::PACKET_MAX];
-/// let len = packet::pack(&outbox, &mut bytes)?;
+/// let len = packet::pack(net.settings(), &outbox, &mut bytes)?;
 /// assert_eq!(len, 4 + 2 * 16 + 9);
 /// # Ok(())
 /// # }
@@ -32,9 +32,9 @@ use crate::{Arriving, Envelope, Members};
 ///
 /// ```compile_fail
 /// #![deny(unused_must_use)]
-/// # use cetskobi::{Laptop, Refusal};
+/// # use cetskobi::{Laptop, Refusal, Rule};
 /// # fn main() -> Result<(), Refusal> {
-/// # let mut net = Laptop::start(0, 0b11, 2)?;
+/// # let mut net = Laptop::start(0, 0b11, Rule::Lower, 2)?;
 /// net.write(0, b"Wren")?;
 /// # Ok(())
 /// # }
@@ -47,13 +47,13 @@ use crate::{Arriving, Envelope, Members};
 /// while an earlier message still wants its bytes:
 ///
 /// ```compile_fail,E0499
-/// # use cetskobi::{packet, Laptop, Refusal};
+/// # use cetskobi::{packet, Laptop, Refusal, Rule};
 /// # fn main() -> Result<(), Refusal> {
-/// # let mut net = Laptop::start(0, 0b11, 2)?;
+/// # let mut net = Laptop::start(0, 0b11, Rule::Lower, 2)?;
 /// # let mut bytes = [0; packet::PACKET_MAX];
 /// let wren = net.write(0, b"Wren")?;
 /// let robin = net.write(1, b"Robin")?;
-/// let len = packet::pack([wren, robin], &mut bytes)?;
+/// let len = packet::pack(Rule::Lower, [wren, robin], &mut bytes)?;
 /// # Ok(())
 /// # }
 /// ```
@@ -116,7 +116,7 @@ impl<'a> Leaving<'a> {
 /// #![deny(unused_must_use)]
 /// # use cetskobi::{packet, Laptop, Leaving, Refusal};
 /// # fn came(hut: &mut Laptop, outbox: &mut Vec<Leaving>, bytes: &[u8]) -> Result<(), Refusal> {
-/// let mut messages = packet::messages(bytes)?;
+/// let mut messages = packet::messages(hut.settings(), bytes)?;
 /// while let Some(arrival) = hut.deliver_next(&mut messages) {
 ///     // A refused message is one message: go on with the next.
 ///     let Ok(reply) = arrival.reply() else { continue };

@@ -4,9 +4,10 @@
 //! protocol with membership epochs, over a radio link that loses, repeats and
 //! holds back messages. The engine behind this crate is written in Rattle and
 //! proved: for every input the answer, the records and the store are what
-//! document 01 says, with Wishes 1, 2, 4 and 5 of document 02. This crate calls
+//! document 01 says, with Wishes 1, 2, 4, 5 and 6 of document 02. This crate calls
 //! it with Rust's types and adds no rule.
 //!
+//! * [`Settings`] are what is fixed at a group's start: by which [`Rule`] a tie goes.
 //! * [`Laptop`] is one laptop with its records. Each event on it is accepted,
 //!   with what leaves, or refused with its [`Refusal`]; a refused event has
 //!   changed nothing.
@@ -21,12 +22,12 @@
 //! * [`raw`] has the exported functions as they are, over slices and numbers.
 //!
 //! ```
-//! use cetskobi::{Laptop, Refusal};
+//! use cetskobi::{Laptop, Refusal, Rule};
 //!
 //! # fn main() -> Result<(), Refusal> {
 //! // Laptops 0 and 1 of a group of two, one record each.
-//! let mut net = Laptop::start(0, 0b11, 1)?;
-//! let mut hut = Laptop::start(1, 0b11, 1)?;
+//! let mut net = Laptop::start(0, 0b11, Rule::Lower, 1)?;
+//! let mut hut = Laptop::start(1, 0b11, Rule::Lower, 1)?;
 //!
 //! // A ringer at the net opens the record, and saves over what she saw. Until the
 //! // hut has acknowledged, neither shows it.
@@ -54,8 +55,8 @@
 //! The radio, choosing who is alive, and the disk. The agreement that is proved
 //! of a whole group has premises that the caller keeps: the laptops of a group
 //! have different numbers and equally many records, each starts fresh once with
-//! the same first view and is never set back to an older state; one view is
-//! issued for each epoch number, within all earlier ones; a delivered message
+//! the same settings and the same first view, and is never set back to an older
+//! state; one view is issued for each epoch number, within all earlier ones; a delivered message
 //! was sent by a laptop of the group and is unaltered.
 
 #![warn(missing_docs)]
@@ -73,6 +74,7 @@ mod player;
 pub mod raw;
 mod record;
 mod refusal;
+mod settings;
 pub mod sys;
 
 pub use arrival::Arrival;
@@ -85,4 +87,5 @@ pub use opened::{NotCommitted, Opened};
 pub use player::{play, SCRIPT_MAX};
 pub use record::{Record, State, Timestamp};
 pub use refusal::Refusal;
+pub use settings::{Rule, Settings};
 pub use sys::Replica;

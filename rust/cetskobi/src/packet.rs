@@ -1,7 +1,9 @@
 //! Packets: several messages with their bodies in at most 1,400 bytes.
 //!
 //! What [`pack`] writes reads back as the same messages, and a packet that
-//! [`fetch`] accepts is the one that [`pack`] makes of its messages.
+//! [`fetch`] accepts is the one that [`pack`] makes of its messages. All of them take
+//! the [`Settings`] of the group: a packet of a group with the other
+//! [`Rule`](crate::Rule) is refused ([`OtherRule`](Refusal::OtherRule)).
 //!
 //! [`messages`] looks at a packet as a whole, once. Then each of its messages is
 //! taken in constant time, to be delivered ([`Laptop::deliver_next`]) or to be
@@ -9,18 +11,19 @@
 //! for one message.
 //!
 //! ```
-//! use cetskobi::{packet, Laptop, Refusal};
+//! use cetskobi::{packet, Laptop, Refusal, Rule};
 //!
 //! # fn main() -> Result<(), Refusal> {
-//! let mut laptop = Laptop::start(2, 0b10_0110, 8)?;
+//! let mut laptop = Laptop::start(2, 0b10_0110, Rule::Lower, 8)?;
+//! let settings = laptop.settings(); // now: what leaves borrows the laptop
 //! let inv = laptop.write(7, b"Wren")?;
 //! let mut bytes = [0; packet::PACKET_MAX];
-//! let (to, len) = (inv.recipients(), packet::pack([inv], &mut bytes)?);
+//! let (to, len) = (inv.recipients(), packet::pack(settings, [inv], &mut bytes)?);
 //! assert_eq!((to.to_string().as_str(), len), ("{1,5}", 24)); // to the radio: &bytes[..len]
 //!
 //! // What the radio brought: laptop 5 acknowledges.
-//! let received = [1, 1, 0, 20, 2, 5, 0, 0, 0, 0, 0, 7, 0, 0, 0, 1, 2, 0, 20, 0];
-//! let mut messages = packet::messages(&received)?;
+//! let received = [2, 1, 0, 20, 2, 5, 0, 0, 0, 0, 0, 7, 0, 0, 0, 1, 2, 0, 20, 0];
+//! let mut messages = packet::messages(settings, &received)?;
 //! while let Some(arrival) = laptop.deliver_next(&mut messages) {
 //!     // A refused message is one message: go on with the next.
 //!     let Ok(reply) = arrival.reply() else { continue };
@@ -38,7 +41,7 @@ use std::borrow::Borrow;
 use std::iter::FusedIterator;
 
 use crate::sys::{Accepted, Fetched, MESSAGE_WORDS};
-use crate::{raw, Arriving, Envelope, Leaving, Message, Refusal};
+use crate::{raw, Arriving, Envelope, Leaving, Message, Refusal, Settings};
 
 /// The most bytes of a packet.
 pub const PACKET_MAX: usize = 1400;
@@ -49,16 +52,23 @@ pub const HEAD_LEN: usize = 4;
 /// The bytes of one message in the contents table; its body follows the table.
 pub const ENTRY_LEN: usize = 16;
 
-/// Message `i` of a packet. The whole packet is judged first, at each call: for
-/// more than one of its messages there is [`messages`].
+/// Message `i` of a packet of a group with these settings. The whole packet is
+/// judged first, at each call: for more than one of its messages there is
+/// [`messages`].
 ///
 /// # Errors
 ///
-/// [`PacketHead`](Refusal::PacketHead), [`PacketContents`](Refusal::PacketContents)
-/// and [`PacketEntry`](Refusal::PacketEntry) for bytes that are no packet,
+/// [`PacketHead`](Refusal::PacketHead) for bytes that are no packet;
+/// [`OtherRule`](Refusal::OtherRule) for a packet of a group with the other rule;
+/// [`PacketContents`](Refusal::PacketContents) and
+/// [`PacketEntry`](Refusal::PacketEntry) for bytes that are no packet either;
 /// [`PacketIndex`](Refusal::PacketIndex) for a packet with no message `i`.
-pub fn fetch(packet: &[u8], i: usize) -> Result<Arriving<'_>, Refusal> {
-    arriving(packet, raw::fetch(packet, i))
+pub fn fetch(
+    settings: impl Into<Settings>,
+    packet: &[u8],
+    i: usize,
+) -> Result<Arriving<'_>, Refusal> {
+    arriving(packet, raw::fetch(settings.into().into(), packet, i))
 }
 
 /// What arrives by a fetch from this packet.
@@ -74,17 +84,21 @@ fn arriving(packet: &[u8], f: Fetched) -> Result<Arriving<'_>, Refusal> {
     Ok(Arriving::new(envelope, &packet[f.at..][..f.len]))
 }
 
-/// The messages of a packet, in their order. The whole packet is judged here,
-/// once.
+/// The messages of a packet of a group with these settings, in their order. The
+/// whole packet is judged here, once.
 ///
 /// # Errors
 ///
-/// [`PacketHead`](Refusal::PacketHead), [`PacketContents`](Refusal::PacketContents)
-/// and [`PacketEntry`](Refusal::PacketEntry) for bytes that are no packet.
-pub fn messages(packet: &[u8]) -> Result<Messages<'_>, Refusal> {
-    let accepted = raw::accept(packet);
+/// [`PacketHead`](Refusal::PacketHead) for bytes that are no packet;
+/// [`OtherRule`](Refusal::OtherRule) for a packet of a group with the other rule;
+/// [`PacketContents`](Refusal::PacketContents) and
+/// [`PacketEntry`](Refusal::PacketEntry) for bytes that are no packet either.
+pub fn messages(settings: impl Into<Settings>, packet: &[u8]) -> Result<Messages<'_>, Refusal> {
+    let settings = settings.into();
+    let accepted = raw::accept(settings.into(), packet);
     Refusal::check(accepted.number)?;
     Ok(Messages {
+        settings,
         packet,
         accepted,
         next: 0,
@@ -98,10 +112,12 @@ pub fn messages(packet: &[u8]) -> Result<Messages<'_>, Refusal> {
 /// it; as an iterator it gives them to look at, or for
 /// [`Laptop::deliver`](crate::Laptop::deliver). Both take constant time, and `len`
 /// says how many are left. What one laptop has taken is gone for another: clone it
-/// to deliver one packet to several laptops in one memory.
+/// to deliver one packet to several laptops of the group in one memory.
 #[derive(Clone, Debug)]
 #[must_use = "no message has been taken in"]
 pub struct Messages<'a> {
+    /// By which the packet was judged.
+    settings: Settings,
     packet: &'a [u8],
     /// What is known of these very bytes.
     accepted: Accepted,
@@ -112,13 +128,23 @@ pub struct Messages<'a> {
 impl<'a> Messages<'a> {
     /// Takes the next message: its packet, what is known of that, and the message's
     /// number.
-    pub(crate) fn advance(&mut self) -> Option<(&'a [u8], Accepted, usize)> {
+    fn advance(&mut self) -> Option<(&'a [u8], Accepted, usize)> {
         let i = self.next;
         if i == usize::from(self.accepted.count) {
             return None;
         }
         self.next += 1;
         Some((self.packet, self.accepted, i))
+    }
+
+    /// The same for a laptop with these settings. What is known of the packet was
+    /// judged by others, if they are not the same: then it is judged again.
+    pub(crate) fn advance_by(&mut self, settings: Settings) -> Option<(&'a [u8], Accepted, usize)> {
+        let (packet, accepted, i) = self.advance()?;
+        if settings == self.settings {
+            return Some((packet, accepted, i));
+        }
+        Some((packet, raw::accept(settings.into(), packet), i))
     }
 }
 
@@ -141,17 +167,23 @@ impl ExactSizeIterator for Messages<'_> {}
 
 impl FusedIterator for Messages<'_> {}
 
-/// Writes what left events as one packet to the front of `out`, and gives its
-/// length. The rest of `out` is untouched, all of it if refused.
+/// Writes what left events of a group with these settings as one packet to the
+/// front of `out`, and gives its length. The rest of `out` is untouched, all of it
+/// if refused.
 ///
 /// It takes `[inv]` right after its event, or `&outbox`, a `Vec<Leaving<'static>>`.
+/// What leaves borrows its laptop: ask that for its settings before the event.
 ///
 /// # Errors
 ///
 /// [`PacketMessages`](Refusal::PacketMessages) unless there are 1 to 64
 /// messages; [`PacketRoom`](Refusal::PacketRoom) if the packet would be longer
 /// than 1,400 bytes or than `out`.
-pub fn pack<'a, M>(messages: M, out: &mut [u8]) -> Result<usize, Refusal>
+pub fn pack<'a, M>(
+    settings: impl Into<Settings>,
+    messages: M,
+    out: &mut [u8],
+) -> Result<usize, Refusal>
 where
     M: IntoIterator<Item: Borrow<Leaving<'a>>>,
 {
@@ -162,7 +194,7 @@ where
         words.extend(entry_of(message));
         bodies.extend_from_slice(message.body());
     }
-    let written = raw::pack(&words, &bodies, out);
+    let written = raw::pack(settings.into().into(), &words, &bodies, out);
     Refusal::check(written.number)?;
     Ok(written.len)
 }

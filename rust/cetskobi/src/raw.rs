@@ -15,18 +15,26 @@
 use crate::sys;
 
 pub use crate::sys::{Accepted, Admission, Answer, Arrival, Asked, Fetched, Message, Played};
-pub use crate::sys::{Reading, Replica, Written};
+pub use crate::sys::{Reading, Replica, Settings, Written};
 pub use crate::sys::{GONE, MESSAGE_WORDS, RECORD_BYTES};
 
 /// Fresh start: table and store become those of fresh records, unless it is
-/// refused. The identity is of epoch 0.
-pub fn start(number: u8, view: u16, table: &mut [u8], store: &mut [u8]) -> Admission {
+/// refused. The identity is of epoch 0, and has the rule as 1 or 2, whatever byte
+/// was passed; of a refused start too.
+pub fn start(
+    number: u8,
+    view: u16,
+    settings: Settings,
+    table: &mut [u8],
+    store: &mut [u8],
+) -> Admission {
     let (t, t_len, s, s_len) = parts_mut(table, store);
     // SAFETY: two slices, borrowed mutably at once, so apart.
-    unsafe { sys::cetskobi_start(number, view, t, t_len, s, s_len) }
+    unsafe { sys::cetskobi_start(number, view, settings, t, t_len, s, s_len) }
 }
 
-/// Change of view: the identity from then on, the old one if it is refused.
+/// Change of view: the identity from then on, its rule as 1 or 2; the old one, as
+/// it was passed, if it is refused.
 pub fn view(me: Replica, epoch: u32, set: u16) -> Admission {
     // SAFETY: numbers only.
     unsafe { sys::cetskobi_view(me, epoch, set) }
@@ -162,22 +170,24 @@ pub fn recipients(me: Replica, kind: u8, sender: u8) -> u16 {
     unsafe { sys::cetskobi_recipients(me, kind, sender) }
 }
 
-/// Message `i` of a packet, which is looked at as a whole first, at each call.
-pub fn fetch(packet: &[u8], i: usize) -> Fetched {
-    // SAFETY: one slice that is only read.
-    unsafe { sys::cetskobi_fetch(packet.as_ptr(), packet.len(), i) }
+/// Message `i` of a packet of a group with these settings, which is looked at as a
+/// whole first, at each call: questions 20, 27, 21, 22 and 23.
+pub fn fetch(settings: Settings, packet: &[u8], i: usize) -> Fetched {
+    // SAFETY: one slice that is only read, and numbers.
+    unsafe { sys::cetskobi_fetch(settings, packet.as_ptr(), packet.len(), i) }
 }
 
 /// Messages, of seven words each, with their bodies one behind the other, as a
-/// packet at the front of `out`.
-pub fn pack(messages: &[u32], bodies: &[u8], out: &mut [u8]) -> Written {
+/// packet of a group with these settings at the front of `out`.
+pub fn pack(settings: Settings, messages: &[u32], bodies: &[u8], out: &mut [u8]) -> Written {
     let (m, m_len, b, b_len) = parts(messages, bodies);
+    let (o, o_len) = (out.as_mut_ptr(), out.len());
     // SAFETY: three slices; the output is borrowed mutably, so apart from both.
-    unsafe { sys::cetskobi_pack(m, m_len, b, b_len, out.as_mut_ptr(), out.len()) }
+    unsafe { sys::cetskobi_pack(settings, m, m_len, b, b_len, o, o_len) }
 }
 
-/// Delivery of message `i` of a packet: [`fetch`], then [`deliver`]. Here too the
-/// whole packet is looked at first, at each call.
+/// Delivery of message `i` of a packet: [`fetch`] by the laptop's own settings,
+/// then [`deliver`]. Here too the whole packet is looked at first, at each call.
 pub fn deliver_packet(
     me: Replica,
     table: &mut [u8],
@@ -192,14 +202,15 @@ pub fn deliver_packet(
     }
 }
 
-/// The whole of a packet, once: questions 20 to 22, and how many messages it has.
-pub fn accept(packet: &[u8]) -> Accepted {
-    // SAFETY: one slice that is only read.
-    unsafe { sys::cetskobi_accept(packet.as_ptr(), packet.len()) }
+/// The whole of a packet, once: questions 20, 27, 21 and 22, and how many messages
+/// it has. The settings are those of the laptops that they are then delivered to.
+pub fn accept(settings: Settings, packet: &[u8]) -> Accepted {
+    // SAFETY: one slice that is only read, and numbers.
+    unsafe { sys::cetskobi_accept(settings, packet.as_ptr(), packet.len()) }
 }
 
 /// Message `i` of a packet, in constant time: what [`fetch`] answers, if
-/// `accepted` is what [`accept`] gave of these very bytes.
+/// `accepted` is what [`accept`] gave of these very bytes by the same settings.
 ///
 /// It may be anything else, and nothing outside the packet is read. Where `i` is
 /// not below its count, its number is the answer, or 23 if that is 0; else 21
@@ -212,8 +223,9 @@ pub fn fetch_accepted(packet: &[u8], accepted: Accepted, i: usize) -> Fetched {
 }
 
 /// Delivery of message `i` of a packet, which is taken in constant time:
-/// [`fetch_accepted`], then [`deliver`]. With it comes which message it was, also
-/// where its delivery was refused.
+/// [`fetch_accepted`], then [`deliver`]. Byte 0 is not looked at again: the packet
+/// is to be accepted by the settings of `me`. With it comes which message it was,
+/// also where its delivery was refused.
 pub fn deliver_accepted(
     me: Replica,
     table: &mut [u8],

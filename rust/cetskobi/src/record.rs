@@ -1,9 +1,10 @@
 //! Records as the engine keeps them.
 
+use std::cmp::Ordering;
 use std::fmt;
 
 use crate::sys::RECORD_BYTES;
-use crate::Members;
+use crate::{Members, Rule};
 
 /// The state of a record. Later versions may have more.
 #[derive(Clone, Copy, Debug, PartialEq, Eq, Hash)]
@@ -67,22 +68,48 @@ impl fmt::Display for State {
     }
 }
 
-/// When a value was written: the later of two has the greater version or,
-/// versions equal, the greater tie-breaker.
+/// When a value was written. The later of two has the greater version or, versions
+/// equal, the tie-breaker that wins by the group's [`Rule`].
 ///
 /// ```
-/// use cetskobi::Timestamp;
+/// use cetskobi::{Rule, Timestamp};
+/// let saved = Timestamp { version: 1, tie: 5 };
+/// assert!(saved.later(Timestamp { version: 0, tie: 9 }, Rule::Lower));
+/// assert!(saved.later(Timestamp { version: 1, tie: 2 }, Rule::Higher));
+/// assert!(saved.later(Timestamp { version: 1, tie: 9 }, Rule::Lower));
+/// ```
+///
+/// So timestamps have no order of their own, and `<` or `max` does not compile:
+///
+/// ```compile_fail,E0369
+/// # use cetskobi::Timestamp;
 /// let saved = Timestamp { version: 1, tie: 5 };
 /// assert!(saved > Timestamp { version: 1, tie: 2 });
-/// assert!(saved < Timestamp { version: 2, tie: 0 });
 /// ```
-#[derive(Clone, Copy, Debug, Default, PartialEq, Eq, Hash, PartialOrd, Ord)]
+#[derive(Clone, Copy, Debug, Default, PartialEq, Eq, Hash)]
 pub struct Timestamp {
-    // The order of these fields is the order of timestamps.
     /// Counts the writes.
     pub version: u32,
     /// The number of the laptop that wrote, 0 to 15.
     pub tie: u8,
+}
+
+impl Timestamp {
+    /// Whether it is later than the other, by this rule of ties: the engine takes an
+    /// INV's value where its timestamp is later than the record's.
+    pub fn later(self, other: Timestamp, rule: Rule) -> bool {
+        self.compare(other, rule).is_gt()
+    }
+
+    /// The order of the two by this rule of ties, the later being the greater: of many
+    /// the latest is that of `max_by(|a, b| a.compare(*b, rule))`.
+    pub fn compare(self, other: Timestamp, rule: Rule) -> Ordering {
+        let ties = match rule {
+            Rule::Higher => self.tie.cmp(&other.tie),
+            Rule::Lower => other.tie.cmp(&self.tie),
+        };
+        self.version.cmp(&other.version).then(ties)
+    }
 }
 
 impl fmt::Display for Timestamp {

@@ -5,7 +5,7 @@ use std::fmt;
 
 /// Why an event or a packet was refused: the first question of document 01, or
 /// from 26 on of document 02, whose answer is no. A refused event has changed
-/// nothing. Later versions may have more: document 02 announces 27 to 37.
+/// nothing. Later versions may have more: document 02 announces 28 to 37.
 #[derive(Clone, Copy, Debug, PartialEq, Eq, Hash, PartialOrd, Ord)]
 #[non_exhaustive]
 #[repr(u8)]
@@ -67,6 +67,8 @@ pub enum Refusal {
     /// 26: a commit on a record that is not valid, or whose timestamp is another
     /// than the one that it was opened with.
     NotAsOpened = 26,
+    /// 27: the packet is of a group with the other rule of ties.
+    OtherRule = 27,
     /// A script that is longer than the player takes, or has too little room to
     /// print. No question of document 01, so its number, 255, is none there.
     PlayerRoom = 255,
@@ -101,6 +103,7 @@ impl Refusal {
         Refusal::PacketMessages,
         Refusal::PacketRoom,
         Refusal::NotAsOpened,
+        Refusal::OtherRule,
         Refusal::PlayerRoom,
     ];
 
@@ -179,6 +182,7 @@ impl Refusal {
                 "the record is not valid now, or no longer has the timestamp that \
                  it was opened with"
             }
+            Refusal::OtherRule => "the packet is of a group with the other rule of ties",
             Refusal::PlayerRoom => "the script is longer than 65,536 bytes or lacks room to print",
         }
     }

@@ -14,12 +14,24 @@ pub const MESSAGE_WORDS: usize = 7;
 /// The length of a text that is gone from its record: [`cetskobi_body`].
 pub const GONE: usize = usize::MAX;
 
+/// What is fixed at a group's start: [`Settings`](crate::Settings), which converts
+/// into it and back, as C has it.
+#[repr(C)]
+#[derive(Clone, Copy, Debug, PartialEq, Eq, Hash)]
+pub struct Settings {
+    /// The rule of ties: 2 is [`Rule::Lower`](crate::Rule::Lower); every other value,
+    /// 0 too, is [`Rule::Higher`](crate::Rule::Higher).
+    pub rule: u8,
+}
+
 /// The identity of a replica, a laptop of a group.
 #[repr(C)]
 #[derive(Clone, Copy, Debug, PartialEq, Eq, Hash)]
 pub struct Replica {
     /// Its number, 0 to 15.
     pub number: u8,
+    /// The settings of its group.
+    pub settings: Settings,
     /// Its view: bit n for replica n.
     pub view: u16,
     /// The epoch of its view.
@@ -116,8 +128,8 @@ pub struct Fetched {
 }
 
 /// What is known of a packet that was looked at as a whole: 0 and how many
-/// messages it has; or the number of the question that refused it, 20 to 22,
-/// and no messages.
+/// messages it has; or the number of the question that refused it, 20, 27, 21 or
+/// 22, and no messages.
 #[repr(C)]
 #[derive(Clone, Copy, Debug, PartialEq, Eq)]
 pub struct Accepted {
@@ -165,7 +177,7 @@ pub struct Played {
 #[rustfmt::skip]
 unsafe extern "C" {
     /// Fresh start: see [`Laptop::start`](crate::Laptop::start).
-    pub fn cetskobi_start(number: u8, view: u16, table: *mut u8, table_len: usize, store: *mut u8, store_len: usize) -> Admission;
+    pub fn cetskobi_start(number: u8, view: u16, settings: Settings, table: *mut u8, table_len: usize, store: *mut u8, store_len: usize) -> Admission;
     /// Change of view: see [`Laptop::change_view`](crate::Laptop::change_view).
     pub fn cetskobi_view(me: Replica, epoch: u32, set: u16) -> Admission;
     /// Read of record i: see [`Laptop::read`](crate::Laptop::read).
@@ -189,13 +201,13 @@ unsafe extern "C" {
     /// Who gets a message of this kind: see [`Leaving::recipients`](crate::Leaving::recipients).
     pub fn cetskobi_recipients(me: Replica, kind: u8, sender: u8) -> u16;
     /// Message i of a packet: see [`packet::fetch`](crate::packet::fetch).
-    pub fn cetskobi_fetch(packet: *const u8, packet_len: usize, i: usize) -> Fetched;
+    pub fn cetskobi_fetch(settings: Settings, packet: *const u8, packet_len: usize, i: usize) -> Fetched;
     /// Messages as a packet: see [`packet::pack`](crate::packet::pack).
-    pub fn cetskobi_pack(messages: *const u32, messages_len: usize, bodies: *const u8, bodies_len: usize, out: *mut u8, out_len: usize) -> Written;
+    pub fn cetskobi_pack(settings: Settings, messages: *const u32, messages_len: usize, bodies: *const u8, bodies_len: usize, out: *mut u8, out_len: usize) -> Written;
     /// Delivery of message i of a packet: see [`Laptop::deliver_packet`](crate::Laptop::deliver_packet).
     pub fn cetskobi_deliver_packet(me: Replica, table: *mut u8, table_len: usize, store: *mut u8, store_len: usize, packet: *const u8, packet_len: usize, i: usize) -> Answer;
     /// The whole of a packet, once: see [`packet::messages`](crate::packet::messages).
-    pub fn cetskobi_accept(packet: *const u8, packet_len: usize) -> Accepted;
+    pub fn cetskobi_accept(settings: Settings, packet: *const u8, packet_len: usize) -> Accepted;
     /// Message i of an accepted packet: see [`packet::Messages`](crate::packet::Messages).
     pub fn cetskobi_fetch_accepted(packet: *const u8, packet_len: usize, accepted: Accepted, i: usize) -> Fetched;
     /// Delivery of message i of an accepted packet: see [`Laptop::deliver_next`](crate::Laptop::deliver_next).

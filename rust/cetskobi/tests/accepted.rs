@@ -2,10 +2,12 @@
 //! gives, whatever the packet. And facts that are not the packet's own, which
 //! the header lets anybody pass: of another packet, or made up.
 
-use cetskobi::raw::{self, Accepted, Answer, Arrival, Fetched, Message, Replica};
+use cetskobi::raw::{self, Accepted, Answer, Arrival, Fetched, Message, Replica, Settings};
 
+const RULE: Settings = Settings { rule: 2 };
 const ME: Replica = Replica {
     number: 2,
+    settings: RULE,
     view: 0b10_0110,
     epoch: 9,
 };
@@ -25,7 +27,7 @@ const WORDS: [u32; 6 * raw::MESSAGE_WORDS] = [
 
 fn packet() -> Vec<u8> {
     let mut out = [0; 104];
-    let written = raw::pack(&WORDS, b"wing", &mut out);
+    let written = raw::pack(RULE, &WORDS, b"wing", &mut out);
     assert_eq!((written.number, written.len), (0, out.len()));
     out.to_vec()
 }
@@ -157,23 +159,23 @@ fn taken(packet: &[u8], accepted: Accepted, i: usize) -> (Fetched, Answer, Memor
 fn what_is_accepted_is_what_is_fetched() {
     let mut answers = [0; 256];
     for packet in altered() {
-        let accepted = raw::accept(&packet);
-        let first = raw::fetch(&packet, 0).number;
+        let accepted = raw::accept(RULE, &packet);
+        let first = raw::fetch(RULE, &packet, 0).number;
         assert_eq!(accepted.number, first, "{packet:?}");
-        let count = (0..300).take_while(|i| raw::fetch(&packet, *i).number == 0);
+        let count = (0..300).take_while(|i| raw::fetch(RULE, &packet, *i).number == 0);
         assert_eq!(usize::from(accepted.count), count.count(), "{packet:?}");
         for i in NUMBERS {
             let mut memory = MEMORY;
             let (table, store) = (&mut memory.0, &mut memory.1);
             let answer = raw::deliver_packet(ME, table, store, &packet, i);
-            let each = (raw::fetch(&packet, i), answer, memory);
+            let each = (raw::fetch(RULE, &packet, i), answer, memory);
             let once = taken(&packet, accepted, i);
             assert_eq!(once, each, "message {i} of {packet:?}");
             answers[usize::from(answer.number)] += 1;
         }
     }
     // Each of these came about: accepted; refused by the delivery; no packet, or no message.
-    for number in [0, 4, 10, 11, 13, 14, 20, 21, 22, 23] {
+    for number in [0, 4, 10, 11, 13, 14, 20, 21, 22, 23, 27] {
         assert!(answers[number] > 10, "{number}: {} times", answers[number]);
     }
     // Ill-formed ones are refused with their packet.
@@ -214,7 +216,7 @@ fn nothing_outside_the_packet_is_read() {
             let mut bytes = vec![around; 64 + len + 8192];
             bytes[64..][..len].copy_from_slice(&whole[..len]);
             let part = &bytes[64..][..len];
-            assert_eq!(raw::accept(part), raw::accept(&whole[..len]));
+            assert_eq!(raw::accept(RULE, part), raw::accept(RULE, &whole[..len]));
             for count in [6, 255] {
                 let accepted = Accepted { number: 0, count };
                 for i in NUMBERS {

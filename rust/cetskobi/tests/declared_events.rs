@@ -3,9 +3,13 @@
 
 use cetskobi::sys::*;
 
+const HIGHER: Settings = Settings { rule: 1 };
+const LOWER: Settings = Settings { rule: 2 };
+
 /// Laptop 2 with view {1,2,5} at epoch 9: two records, and its store.
 const ME: Replica = Replica {
     number: 2,
+    settings: LOWER,
     view: 0b10_0110,
     epoch: 9,
 };
@@ -35,10 +39,11 @@ fn answer(number: u8, kind: u8, tie: u8, version: u32) -> Answer {
 fn start() {
     let mut table = vec![9; 2 * RECORD_BYTES];
     let mut store = vec![7; 2 * 192];
-    let mut call = |number, view| unsafe {
+    let mut call = |number, view, rule| unsafe {
         cetskobi_start(
             number,
             view,
+            Settings { rule },
             table.as_mut_ptr(),
             table.len(),
             store.as_mut_ptr(),
@@ -46,14 +51,21 @@ fn start() {
         )
     };
     let admission = |number, replica| Admission { number, replica };
-    let newcomer = |number, view| Replica {
+    let newcomer = |number, settings, view| Replica {
         number,
+        settings,
         view,
         epoch: 0,
     };
-    assert_eq!(call(16, 38), admission(1, newcomer(16, 38)));
-    assert_eq!(call(3, 38), admission(3, newcomer(3, 38)));
-    assert_eq!(call(5, 38), admission(0, newcomer(5, 38)));
+    assert_eq!(call(16, 38, 2), admission(1, newcomer(16, LOWER, 38)));
+    assert_eq!(call(3, 38, 1), admission(3, newcomer(3, HIGHER, 38)));
+    // Every byte is a rule, and the identity has it as 1 or 2, also where it is refused.
+    for rule in 0..=255 {
+        let read = if rule == 2 { LOWER } else { HIGHER };
+        assert_eq!(call(3, 38, rule), admission(3, newcomer(3, read, 38)));
+        assert_eq!(call(5, 38, rule), admission(0, newcomer(5, read, 38)));
+    }
+    // Under both the lowest number in the view.
     assert_eq!(table, [FRESH, FRESH].as_flattened());
     assert_eq!(store, [0; 2 * 192]);
 }
@@ -63,7 +75,8 @@ fn a_refused_start_changes_nothing() {
     let mut table = vec![9; 2 * RECORD_BYTES];
     let mut store = vec![7; 2 * 192];
     let (t, s) = (table.as_mut_ptr(), store.as_mut_ptr());
-    let call = |table_len, store_len| unsafe { cetskobi_start(5, 38, t, table_len, s, store_len) };
+    let call =
+        |table_len, store_len| unsafe { cetskobi_start(5, 38, LOWER, t, table_len, s, store_len) };
     assert_eq!(call(2 * RECORD_BYTES, 2 * 192 - 1).number, 2);
     assert_eq!(call(2 * RECORD_BYTES - 1, 2 * 192).number, 2);
     assert_eq!(table, [9; 2 * RECORD_BYTES]);
@@ -72,16 +85,23 @@ fn a_refused_start_changes_nothing() {
 
 #[test]
 fn view() {
-    let changed = Replica {
-        number: 2,
-        view: 0b110,
-        epoch: VERSION,
-    };
     let admission = |number, replica| Admission { number, replica };
-    let call = |epoch, set| unsafe { cetskobi_view(ME, epoch, set) };
-    assert_eq!(call(VERSION, 0b110), admission(0, changed));
-    assert_eq!(call(9, 0b110), admission(18, ME));
-    assert_eq!(call(10, 0b111), admission(19, ME));
+    // Every byte is a rule. An accepted view keeps it, as 1 or 2; a refused one gives the
+    // identity as it was passed.
+    for rule in 0..=255 {
+        let settings = Settings { rule };
+        let me = Replica { settings, ..ME };
+        let changed = Replica {
+            number: 2,
+            settings: if rule == 2 { LOWER } else { HIGHER },
+            view: 0b110,
+            epoch: VERSION,
+        };
+        let call = |epoch, set| unsafe { cetskobi_view(me, epoch, set) };
+        assert_eq!(call(VERSION, 0b110), admission(0, changed));
+        assert_eq!(call(9, 0b110), admission(18, me));
+        assert_eq!(call(10, 0b111), admission(19, me));
+    }
 }
 
 #[test]
@@ -276,6 +296,48 @@ fn deliver() {
     assert_eq!(store[..192], [7; 192]);
     assert_eq!(store[192..198], *b"weight");
     assert_eq!(store[198..], [0; 186]);
+}
+
+/// Record 1 has (16909060,2); an INV comes with this timestamp, to a laptop with this
+/// byte as its rule. Whether the INV is taken.
+fn overtakes(rule: u8, version: u32, tie: u8) -> bool {
+    let writing = [3, 2, 2, 2, 4, 3, 2, 1, 4, 3, 2, 1, 0b10, 0, 62, 9];
+    let (mut table, mut store) = table(writing);
+    let settings = Settings { rule };
+    let (t, s) = (table.as_mut_ptr(), store.as_mut_ptr());
+    let inv = Message {
+        kind: 1,
+        sender: 5,
+        tie,
+        epoch: 9,
+        version,
+    };
+    let me = Replica { settings, ..ME };
+    let none = [].as_ptr();
+    let left = unsafe { cetskobi_deliver(me, t, 2 * RECORD_BYTES, s, 2 * 192, 1, inv, none, 0) };
+    // An ACK always leaves.
+    assert_eq!(left, answer(0, 2, tie, version));
+    let [a, b, c, d] = version.to_le_bytes();
+    let taken = [2, tie, 5, 2, a, b, c, d, 4, 3, 2, 1, 0b10, 0, 0, 9];
+    let is_taken = table[RECORD_BYTES..] == taken;
+    assert!(is_taken || table[RECORD_BYTES..] == writing);
+    assert_eq!(store[192..] == [0; 192], is_taken);
+    is_taken
+}
+
+/// Document 02, Wish 6: with one version the higher tie-breaker wins or, where the
+/// rule is 2, the lower. Other versions are compared alike, and equal timestamps are
+/// not greater.
+#[test]
+fn deliver_by_the_rule() {
+    for rule in 0..=255 {
+        for tie in 0..=15 {
+            assert!(overtakes(rule, VERSION + 1, tie), "{rule} {tie}");
+            assert!(!overtakes(rule, VERSION - 1, tie), "{rule} {tie}");
+            let wins = if rule == 2 { tie < 2 } else { 2 < tie };
+            assert_eq!(overtakes(rule, VERSION, tie), wins, "{rule} {tie}");
+        }
+    }
 }
 
 /// Acknowledgements of record 1 in this state: by 1, and by 8 and 15, which are

@@ -3,8 +3,12 @@
 
 use cetskobi::sys::*;
 
+const HIGHER: Settings = Settings { rule: 1 };
+const LOWER: Settings = Settings { rule: 2 };
+
 const ME: Replica = Replica {
     number: 2,
+    settings: LOWER,
     view: 0b10_0110,
     epoch: 9,
 };
@@ -12,8 +16,9 @@ const ME: Replica = Replica {
 /// An INV of (16909060,4) from 5 at epoch 9 for record 1, with four bytes; an
 /// ACK of (1,2) from 5 at epoch 0 for record 7.
 const WORDS_OF_TWO: [u32; 2 * MESSAGE_WORDS] = [1, 5, 9, 1, 0x0102_0304, 4, 4, 2, 5, 0, 7, 1, 2, 0];
+/// Of a group with the new rule: byte 0 is 2.
 const PACKET_OF_TWO: [u8; 40] = [
-    1, 2, 0, 40, //
+    2, 2, 0, 40, //
     1, 5, 0, 0, 0, 9, 0, 1, 1, 2, 3, 4, 4, 0, 36, 4, //
     2, 5, 0, 0, 0, 0, 0, 7, 0, 0, 0, 1, 2, 0, 40, 0, //
     b'w', b'i', b'n', b'g',
@@ -109,20 +114,89 @@ fn recipients() {
 
 #[test]
 fn fetch() {
-    let call = |i| unsafe { cetskobi_fetch(PACKET_OF_TWO.as_ptr(), PACKET_OF_TWO.len(), i) };
+    let by = |settings, packet: &[u8], i| unsafe {
+        cetskobi_fetch(settings, packet.as_ptr(), packet.len(), i)
+    };
+    let call = |i| by(LOWER, &PACKET_OF_TWO, i);
     assert_eq!(call(0), INV);
     assert_eq!(call(1), ACK);
     assert_eq!(call(2), unfetched(23));
+    // 27 after 20, and before 21, 22 and 23: of every message alike.
+    for i in [0, 1, 2, usize::MAX] {
+        for (settings, other) in [(LOWER, HIGHER), (HIGHER, LOWER)] {
+            let packet = with(0, other.rule);
+            assert_eq!(by(settings, &packet, i), unfetched(27));
+            assert_eq!(by(settings, &packet[..39], i), unfetched(20));
+            let mut broken = packet;
+            broken[4] = 9;
+            assert_eq!(by(settings, &broken, i), unfetched(27));
+            assert_eq!(by(other, &broken, i), unfetched(22));
+            broken[1] = 3;
+            assert_eq!(by(settings, &broken, i), unfetched(27));
+            assert_eq!(by(other, &broken, i), unfetched(21));
+            broken[1] = 65;
+            assert_eq!(by(settings, &broken, i), unfetched(20));
+        }
+    }
+}
+
+/// What every byte 0 answers to every byte of the settings: 0 for the group's own.
+fn number_of(rule: u8, first: u8) -> u8 {
+    match (rule, first) {
+        (2, 2) => 0,
+        (2, 1) => 27,
+        (_, 1) => 0,
+        (_, 2) => 27,
+        _ => 20,
+    }
+}
+
+/// Every value of the rule, as the settings have it and as byte 0 has it: fetch,
+/// accept and the delivery of a message ask alike.
+#[test]
+fn every_rule_and_every_byte_0() {
+    let fresh = [0, 1, 1, 1, 0, 0, 0, 0, 0, 0, 0, 0, 0, 0, 0, 9];
+    for (rule, first) in (0..=255).flat_map(|rule| (0..=255).map(move |first| (rule, first))) {
+        let settings = Settings { rule };
+        let packet = with(0, first);
+        let (p, p_len) = (packet.as_ptr(), packet.len());
+        let number = number_of(rule, first);
+        let case = format!("rule {rule}, byte 0 {first}");
+        let fetched = unsafe { cetskobi_fetch(settings, p, p_len, 0) };
+        let right = if number == 0 { INV } else { unfetched(number) };
+        assert_eq!(fetched, right, "{case}");
+        let accepted = unsafe { cetskobi_accept(settings, p, p_len) };
+        let count = if number == 0 { 2 } else { 0 };
+        assert_eq!(accepted, Accepted { number, count }, "{case}");
+
+        let before = [fresh, fresh].concat();
+        let (mut table, mut store) = (before.clone(), vec![7; 2 * 192]);
+        let (t, s) = (table.as_mut_ptr(), store.as_mut_ptr());
+        let me = Replica { settings, ..ME };
+        let answer =
+            unsafe { cetskobi_deliver_packet(me, t, 2 * RECORD_BYTES, s, 2 * 192, p, p_len, 0) };
+        assert_eq!(answer.number, number, "{case}");
+        assert_eq!(table == before, number != 0, "{case}");
+        assert_eq!(store == vec![7; 2 * 192], number != 0, "{case}");
+    }
 }
 
 #[test]
 fn accept() {
-    let call = |packet: &[u8]| unsafe { cetskobi_accept(packet.as_ptr(), packet.len()) };
+    let by = |settings, packet: &[u8]| unsafe {
+        cetskobi_accept(settings, packet.as_ptr(), packet.len())
+    };
+    let call = |packet: &[u8]| by(LOWER, packet);
     let refused = |number| Accepted { number, count: 0 };
     assert_eq!(call(&PACKET_OF_TWO), TWO);
     assert_eq!(call(&PACKET_OF_TWO[..39]), refused(20));
     assert_eq!(call(&with(1, 3)), refused(21));
     assert_eq!(call(&with(4, 9)), refused(22));
+    assert_eq!(call(&with(0, 1)), refused(27));
+    assert_eq!(by(HIGHER, &with(0, 1)), TWO);
+    assert_eq!(by(HIGHER, &with(1, 3)), refused(27));
+    assert_eq!(by(HIGHER, &with(4, 9)), refused(27));
+    assert_eq!(by(HIGHER, &with(1, 65)), refused(20));
 }
 
 #[test]
@@ -149,16 +223,33 @@ fn pack() {
     let bodies = b"wing";
     let mut out = [0xee; 41];
     let o = out.as_mut_ptr();
-    let call = |messages_len, bodies_len, out_len| unsafe {
-        let words = WORDS_OF_TWO.as_ptr();
-        cetskobi_pack(words, messages_len, bodies.as_ptr(), bodies_len, o, out_len)
+    let by = |rule, messages_len, bodies_len, out_len| unsafe {
+        let (words, bodies) = (WORDS_OF_TWO.as_ptr(), bodies.as_ptr());
+        let settings = Settings { rule };
+        cetskobi_pack(
+            settings,
+            words,
+            messages_len,
+            bodies,
+            bodies_len,
+            o,
+            out_len,
+        )
     };
+    let call = |messages_len, bodies_len, out_len| by(2, messages_len, bodies_len, out_len);
     assert_eq!(call(14, 3, 41), Written { number: 24, len: 0 });
     assert_eq!(call(14, 4, 39), Written { number: 25, len: 0 });
     assert_eq!(call(0, 0, 41).number, 24);
     assert_eq!(call(14, 4, 41), Written { number: 0, len: 40 });
     assert_eq!(out[..40], PACKET_OF_TWO);
-    assert_eq!(out[40], 0xee);
+    // Byte 0 is the rule's number, and nothing else goes by the rule.
+    for rule in 0..=255 {
+        out.fill(0xee);
+        assert_eq!(by(rule, 14, 4, 41), Written { number: 0, len: 40 });
+        let first = if rule == 2 { 2 } else { 1 };
+        assert_eq!(out[..40], with(0, first));
+        assert_eq!(out[40], 0xee);
+    }
 }
 
 #[test]
@@ -186,6 +277,8 @@ fn deliver_packet() {
         version: 0x0102_0304,
     };
     assert_eq!(call(&PACKET_OF_TWO[..3], 0).number, 20);
+    assert_eq!(call(&with(0, 1), 0).number, 27);
+    assert_eq!(call(&with(0, 1), 2).number, 27);
     assert_eq!(call(&PACKET_OF_TWO, 2).number, 23);
     assert_eq!(call(&PACKET_OF_TWO, 1).number, 4);
     assert_eq!(call(&PACKET_OF_TWO, 0), accepted);
@@ -233,6 +326,11 @@ fn deliver_accepted() {
         count: 0,
     };
     assert_eq!(call(&PACKET_OF_TWO, head, 0), none(20));
+    let other = Accepted {
+        number: 27,
+        count: 0,
+    };
+    assert_eq!(call(&PACKET_OF_TWO, other, 0), none(27));
     assert_eq!(call(&PACKET_OF_TWO, TWO, 2), none(23));
     assert_eq!(call(&PACKET_OF_TWO[..35], TWO, 1), none(21));
     assert_eq!(call(&PACKET_OF_TWO[..39], TWO, 0), none(22));
@@ -261,7 +359,8 @@ fn deliver_accepted() {
         tie: 4,
         version: 0x0102_0304,
     };
-    assert_eq!(call(&PACKET_OF_TWO, TWO, 0), Arrival { answer, ..inv });
+    // By its facts alone: byte 0 is not looked at again.
+    assert_eq!(call(&with(0, 1), TWO, 0), Arrival { answer, ..inv });
     let invalid = [1, 4, 5, 1, 4, 3, 2, 1, 0, 0, 0, 0, 0, 0, 4, 9];
     assert_eq!(table, [fresh, invalid].as_flattened());
     assert_eq!(store[..192], [7; 192]);

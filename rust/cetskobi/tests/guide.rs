@@ -96,6 +96,15 @@ fn three() -> [Hut; 3] {
     })
 }
 
+/// The same of a group with this rule: of one that was formed earlier, say.
+fn three_by(rule: Rule) -> [Hut; 3] {
+    three().map(|hut| {
+        let laptop = Laptop::start(hut.laptop.number(), 38, rule, 8);
+        let laptop = laptop.expect("a laptop of the first view");
+        Hut { laptop, ..hut }
+    })
+}
+
 impl Hut {
     /// Opens the ring and saves it at once.
     fn saves(&mut self, text: &[u8]) -> Timestamp {
@@ -150,9 +159,9 @@ impl Hut {
     }
 }
 
-/// The packet's messages.
+/// The messages of a packet of a new group.
 fn messages(packet: &[u8]) -> Vec<Message> {
-    let messages = packet::messages(packet).expect("a packet");
+    let messages = packet::messages(RULE, packet).expect("a packet");
     messages.map(|m| m.envelope().message).collect()
 }
 
@@ -185,7 +194,7 @@ fn a_worked_morning() {
     two.is(State::Write, first, 1 << 1);
     five.came(&inv);
     let ack = five.sent([2]);
-    let bytes = [1, 1, 0, 20, 2, 5, 0, 0, 0, 0, 0, 7, 0, 0, 0, 1, 2, 0, 20, 0];
+    let bytes = [2, 1, 0, 20, 2, 5, 0, 0, 0, 0, 0, 7, 0, 0, 0, 1, 2, 0, 20, 0];
     assert_eq!(ack, bytes);
     two.came(&ack);
     let val = two.sent([1, 5]);
@@ -287,8 +296,11 @@ fn a_view_that_was_missed_shows() {
     // Older messages tell nothing, and neither do bytes that are no packet.
     one.came(&first);
     let mut broken = second.clone();
-    broken[0] = 2;
+    broken[0] = 3;
     assert_eq!(one.packet_came(&broken), Err(Refusal::PacketHead));
+    // Nor does a packet of a group with the other rule.
+    broken[0] = 1;
+    assert_eq!(one.packet_came(&broken), Err(Refusal::OtherRule));
     assert_eq!((one.heard, one.missed_view()), (0, None));
 }
 
@@ -390,42 +402,87 @@ fn the_worked_morning_is_told_as_it_happens() {
     }
 }
 
+/// Laptop 1; then of 2 and 5 the one to which a tie goes by this rule, and the other.
+fn tied(rule: Rule) -> [Hut; 3] {
+    let [one, two, five] = three_by(rule);
+    match rule {
+        Rule::Higher => [one, five, two],
+        Rule::Lower => [one, two, five],
+    }
+}
+
+/// 2 and 5 save at once: by the old rule 5's text stands, by the new one 2's.
 #[test]
 fn an_overtaken_text_is_gone_from_the_record() {
-    let [mut one, mut two, mut five] = three();
-    let (lesser, greater) = (two.saves(b"two's"), five.saves(b"five's"));
-    let (of_two, of_five) = (two.sent([1, 5]), five.sent([1, 2]));
-    two.came(&of_five);
-    assert_eq!(two.fate(RING, lesser), Fate::Replaced);
-    one.came(&of_two);
-    one.came(&of_five);
-    for hut in [&mut one, &mut two] {
-        five.came(&hut.all_sent().pop().expect("the last ACK").0);
+    for &rule in Rule::ALL {
+        let [mut one, mut winner, mut loser] = tied(rule);
+        let [w, l] = [&winner, &loser].map(|hut| hut.laptop.number());
+        let (greater, lesser) = (winner.saves(b"winner's"), loser.saves(b"loser's"));
+        assert_eq!((greater, lesser), (stamp(1, w), stamp(1, l)));
+        let (of_winner, of_loser) = (winner.sent([1, l]), loser.sent([1, w]));
+        loser.came(&of_winner);
+        assert_eq!(loser.fate(RING, lesser), Fate::Replaced);
+        one.came(&of_loser);
+        one.came(&of_winner);
+        for hut in [&mut one, &mut loser] {
+            winner.came(&hut.all_sent().pop().expect("the last ACK").0);
+        }
+        let val = winner.sent([1, l]);
+        assert_eq!(winner.fate(RING, greater), Fate::Finished);
+        // The winner's text stands, and the other is in nobody's store.
+        for hut in [&mut one, &mut loser] {
+            hut.came(&val);
+            hut.shows(b"winner's");
+        }
+        for hut in [&one, &winner, &loser] {
+            assert!(!hut.laptop.store().windows(7).any(|w| w == b"loser's"));
+        }
     }
-    let val = five.sent([1, 2]);
-    assert_eq!(five.fate(RING, greater), Fate::Finished);
-    // The winner's text stands, and the other is in nobody's store.
-    for hut in [&mut one, &mut two] {
-        hut.came(&val);
-        hut.shows(b"five's");
-        assert!(!hut.laptop.store().windows(5).any(|w| w == b"two's"));
-    }
-    assert!(!five.laptop.store().windows(5).any(|w| w == b"two's"));
 }
 
 #[test]
 fn a_finished_save_may_be_covered_by_one_that_crossed_it() {
-    let [mut one, mut two, mut five] = three();
-    let (lesser, _) = (two.saves(b"two's"), five.saves(b"five's"));
-    let (of_two, of_five) = (two.sent([1, 5]), five.sent([1, 2]));
-    // 5 acknowledges 2's save and keeps its own.
-    for hut in [&mut one, &mut five] {
-        hut.came(&of_two);
-        two.came(&hut.sent([2]));
+    for &rule in Rule::ALL {
+        let [mut one, mut winner, mut loser] = tied(rule);
+        let [w, l] = [&winner, &loser].map(|hut| hut.laptop.number());
+        let (_, lesser) = (winner.saves(b"winner's"), loser.saves(b"loser's"));
+        let (of_winner, of_loser) = (winner.sent([1, l]), loser.sent([1, w]));
+        // The winner acknowledges the loser's save and keeps its own.
+        for hut in [&mut one, &mut winner] {
+            hut.came(&of_loser);
+            loser.came(&hut.sent([l]));
+        }
+        assert_eq!(loser.fate(RING, lesser), Fate::Finished);
+        loser.came(&of_winner);
+        assert_eq!(loser.fate(RING, lesser), Fate::Replaced);
     }
-    assert_eq!(two.fate(RING, lesser), Fate::Finished);
-    two.came(&of_five);
-    assert_eq!(two.fate(RING, lesser), Fate::Replaced);
+}
+
+/// Two stations on one channel, or a laptop that was started with the other rule:
+/// nothing of such a packet is taken, in either direction, and the clock goes on.
+#[test]
+fn a_packet_of_a_group_with_the_other_rule_is_refused() {
+    let [_, mut two, _] = three();
+    let [mut other, ..] = three_by(Rule::Higher);
+    two.saves(b"robin");
+    let ours = two.sent([1, 5]);
+    assert_eq!(other.packet_came(&ours), Err(Refusal::OtherRule));
+    other.is(State::Valid, stamp(0, 1), 0);
+    other.saves(b"wren");
+    let theirs = other.sent([2, 5]);
+    assert_eq!((ours[0], theirs[0]), (2, 1));
+    assert_eq!(two.packet_came(&theirs), Err(Refusal::OtherRule));
+    two.is(State::Write, stamp(1, 2), 0);
+    assert_eq!(two.sends_at(30), [8, 24]);
+    assert_eq!(
+        (two.missed_view(), two.fate(RING, stamp(1, 2))),
+        (None, Fate::Waiting)
+    );
+    // Started anew, with its group's rule, it takes what comes.
+    let mut one = Hut::begin(1, 38, 8, Radio::default()).expect("a laptop");
+    one.came(&ours);
+    two.came(&one.sent([2]));
+    two.is(State::Write, stamp(1, 2), 1 << 1);
 }
 
 /// 1's ringer opens the ring and measures the bird; 2's save comes between. Hers
@@ -570,108 +627,108 @@ fn the_guide_says_what_the_ringer_sees_of_each_fate() {
     assert!(rows.iter().all(|r| !r[1].is_empty() && !r[2].is_empty()));
 }
 
-/// The stamps of two saves at once, by 2 and by 5.
-const LESSER: Timestamp = Timestamp { version: 1, tie: 2 };
-const GREATER: Timestamp = Timestamp { version: 1, tie: 5 };
+/// The stamps of two saves at once, by 2 and by 5: the tie goes to the lower number.
+const GREATER: Timestamp = Timestamp { version: 1, tie: 2 };
+const LESSER: Timestamp = Timestamp { version: 1, tie: 5 };
 
-/// 2 and 5 saved together, and 2 was overtaken; then 5 died. Laptops 1 and 2, and
-/// the two INVs, of which 1 has heard neither.
+/// 2 and 5 saved together, and 5 was overtaken; then 2 died. Laptops 1 and 5, and
+/// the two INVs, 5's and 2's, of which 1 has heard neither.
 fn overtaken() -> (Hut, Hut, [Vec<u8>; 2]) {
     let [one, mut two, mut five] = three();
-    assert_eq!(two.saves(b"two's"), LESSER);
-    assert_eq!(five.saves(b"five's"), GREATER);
+    assert_eq!(two.saves(b"two's"), GREATER);
+    assert_eq!(five.saves(b"five's"), LESSER);
     let (of_two, of_five) = (two.sent([1, 5]), five.sent([1, 2]));
-    two.came(&of_five);
-    two.sent([5]);
-    two.is(State::InvalidWrite, GREATER, 0);
-    (one, two, [of_two, of_five])
+    five.came(&of_two);
+    five.sent([2]);
+    five.is(State::InvalidWrite, GREATER, 0);
+    (one, five, [of_five, of_two])
 }
 
-/// 1 and 2 hand each other their packets until none is sent. Both show the
-/// winner's text then, and 2's ringer is told that hers was replaced.
-fn both_show_the_winners_text(mut one: Hut, mut two: Hut) {
+/// 1 and 5 hand each other their packets until none is sent. Both show the
+/// winner's text then, and 5's ringer is told that hers was replaced.
+fn both_show_the_winners_text(mut one: Hut, mut five: Hut) {
     loop {
-        let (from_one, from_two) = (one.all_sent(), two.all_sent());
-        if from_one.is_empty() && from_two.is_empty() {
+        let (from_one, from_five) = (one.all_sent(), five.all_sent());
+        if from_one.is_empty() && from_five.is_empty() {
             break;
         }
-        from_one.iter().for_each(|(p, _)| two.came(p));
-        from_two.iter().for_each(|(p, _)| one.came(p));
+        from_one.iter().for_each(|(p, _)| five.came(p));
+        from_five.iter().for_each(|(p, _)| one.came(p));
     }
-    for hut in [&one, &two] {
-        hut.shows(b"five's");
+    for hut in [&one, &five] {
+        hut.shows(b"two's");
         assert_eq!(hut.open(RING).expect("shown").timestamp(), GREATER);
     }
-    assert_eq!(two.fate(RING, LESSER), Fate::Replaced);
+    assert_eq!(five.fate(RING, LESSER), Fate::Replaced);
 }
 
-/// Only 2 has the winner's text. As long as 5 is in the view it waits; once 5 is
+/// Only 5 has the winner's text. As long as 2 is in the view it waits; once 2 is
 /// struck off it replays that text, at once and then by its clock.
 #[test]
 fn an_overtaken_laptop_replays_the_winners_text() {
-    let (mut one, mut two, _) = overtaken();
-    assert_eq!(two.sends_at(3000), []);
-    two.go_over();
-    two.is(State::InvalidWrite, GREATER, 0);
-    assert_eq!(two.open(RING), Err(Refusal::NotReadable));
-    assert_eq!(two.fate(RING, LESSER), Fate::Replaced);
+    let (mut one, mut five, _) = overtaken();
+    assert_eq!(five.sends_at(3000), []);
+    five.go_over();
+    five.is(State::InvalidWrite, GREATER, 0);
+    assert_eq!(five.open(RING), Err(Refusal::NotReadable));
+    assert_eq!(five.fate(RING, LESSER), Fate::Replaced);
 
-    two.view_came(1, 6).expect("accepted");
-    let inv = two.sent([1]);
+    five.view_came(1, 34).expect("accepted");
+    let inv = five.sent([1]);
     assert_eq!(messages(&inv), [Message::Inv(GREATER)]);
-    two.is(State::Replay, GREATER, 0);
-    assert_eq!(two.fate(RING, LESSER), Fate::Replaced);
-    assert_eq!(two.sends_at(130), [8, 24, 56, 88, 120]);
+    five.is(State::Replay, GREATER, 0);
+    assert_eq!(five.fate(RING, LESSER), Fate::Replaced);
+    assert_eq!(five.sends_at(130), [8, 24, 56, 88, 120]);
 
     // 1 had heard nothing, and hears of the view late.
     one.came(&inv);
     one.is(State::Valid, stamp(0, 1), 0);
-    one.view_came(1, 6).expect("accepted");
+    one.view_came(1, 34).expect("accepted");
     one.is(State::Valid, stamp(0, 1), 0);
-    two.ticks(152 - 130); // the next of these
-    both_show_the_winners_text(one, two);
+    five.ticks(152 - 130); // the next of these
+    both_show_the_winners_text(one, five);
 }
 
-/// 1 holds the text that was overtaken. It cannot help, as 2 lives; and what it
+/// 1 holds the text that was overtaken. It cannot help, as 5 lives; and what it
 /// acknowledged is late.
 #[test]
 fn an_overtaken_laptop_gives_its_own_save_up() {
-    let (mut one, mut two, [of_two, _]) = overtaken();
-    one.came(&of_two);
-    let late = one.sent([2]);
-    one.view_came(1, 6).expect("accepted");
+    let (mut one, mut five, [of_five, _]) = overtaken();
+    one.came(&of_five);
+    let late = one.sent([5]);
+    one.view_came(1, 34).expect("accepted");
     one.is(State::Invalid, LESSER, 0);
-    two.view_came(1, 6).expect("accepted");
+    five.view_came(1, 34).expect("accepted");
     assert_eq!(messages(&late), [Message::Ack(LESSER)]);
-    let ack = packet::fetch(&late, 0).expect("a message");
-    assert_eq!(two.laptop.deliver(ack), Err(Refusal::OtherEpoch));
-    both_show_the_winners_text(one, two);
+    let ack = packet::fetch(RULE, &late, 0).expect("a message");
+    assert_eq!(five.laptop.deliver(ack), Err(Refusal::OtherEpoch));
+    both_show_the_winners_text(one, five);
 }
 
 /// 1 holds the winner's text too: both replay it.
 #[test]
 fn an_overtaken_laptop_and_another_replay_together() {
-    let (mut one, mut two, [_, of_five]) = overtaken();
-    one.came(&of_five);
-    one.sent([5]);
-    for hut in [&mut one, &mut two] {
-        hut.view_came(1, 6).expect("accepted");
+    let (mut one, mut five, [_, of_two]) = overtaken();
+    one.came(&of_two);
+    one.sent([2]);
+    for hut in [&mut one, &mut five] {
+        hut.view_came(1, 34).expect("accepted");
         let r = hut.laptop.record(RING).expect("the ring");
         assert_eq!((r.state, r.timestamp), (State::Replay, GREATER));
     }
-    both_show_the_winners_text(one, two);
+    both_show_the_winners_text(one, five);
 }
 
-/// 2 took the view and replayed nothing, as with an engine without Wish 2; then it
+/// 5 took the view and replayed nothing, as with an engine without Wish 2; then it
 /// starts again on the memory that it kept. Its clocks are gone, so ticks do not
 /// find the record; going over once does.
 #[test]
 fn a_record_that_hung_is_freed_by_going_over() {
-    let (mut one, mut two, _) = overtaken();
-    one.view_came(1, 6).expect("accepted");
-    two.laptop.change_view(1, 6).expect("accepted");
-    let (me, table, store) = two.laptop.into_parts();
-    let mut two = Hut {
+    let (mut one, mut five, _) = overtaken();
+    one.view_came(1, 34).expect("accepted");
+    five.laptop.change_view(1, 34).expect("accepted");
+    let (me, table, store) = five.laptop.into_parts();
+    let mut five = Hut {
         laptop: Laptop::from_parts(me, table, store),
         radio: Radio::default(),
         clocks: vec![(0, 0); 8],
@@ -679,10 +736,10 @@ fn a_record_that_hung_is_freed_by_going_over() {
         to: 0,
         heard: 0,
     };
-    assert_eq!(two.sends_at(3000), []);
-    two.is(State::InvalidWrite, GREATER, 0);
-    two.go_over();
-    both_show_the_winners_text(one, two);
+    assert_eq!(five.sends_at(3000), []);
+    five.is(State::InvalidWrite, GREATER, 0);
+    five.go_over();
+    both_show_the_winners_text(one, five);
 }
 
 #[test]
@@ -755,7 +812,7 @@ impl Dice {
 /// Five laptops over a link that loses 30 of 100 packets to the end. One dies
 /// amid saves that others make of the same rings; one hears of that late. Nothing
 /// but packets, views and ticks reaches a hut, and every record settles, also
-/// where the dead laptop had overtaken a save.
+/// where the dead laptop, to which every tie went, had overtaken a save.
 #[test]
 fn ticks_alone_settle_every_record() {
     let overtaken: usize = (1..=20).map(|seed| settles(Dice(seed))).sum();
@@ -765,15 +822,17 @@ fn ticks_alone_settle_every_record() {
 /// How many records were in invalid-write when their last writer was struck off.
 fn settles(mut dice: Dice) -> usize {
     const RINGS: usize = 60;
+    // Laptops 4 to 0, in this order: the last dies.
     const DYING: usize = 4;
     let hut = |n| Hut::begin(n, 0b1_1111, RINGS, Radio::default()).expect("a laptop");
-    let mut huts: Vec<Hut> = (0..5).map(hut).collect();
+    let mut huts: Vec<Hut> = (0..5).rev().map(hut).collect();
+    let place = |number: u8| 4 - usize::from(number);
     let mut air: Vec<(u32, usize, Vec<u8>)> = Vec::new();
     let mut saves: Vec<(usize, usize, Timestamp, Vec<u8>)> = Vec::new();
     let mut overtaken = 0;
     for now in 0..20_000 {
         let awake = if now < 600 { 5 } else { 4 };
-        // The warden strikes the dead laptop off; laptop 0 hears it late.
+        // The warden strikes the dead laptop off; the first hears it late.
         if now == 700 || now == 900 {
             let told = if now == 700 { 1..4 } else { 0..1 };
             // By then the others' messages have told it.
@@ -781,9 +840,9 @@ fn settles(mut dice: Dice) -> usize {
             assert!(huts[told.clone()].iter().all(|h| h.missed_view() == heard));
             for hut in &mut huts[told] {
                 let records = (0..RINGS).filter_map(|ring| hut.laptop.record(ring));
-                let waits = |r: &Record| r.state == State::InvalidWrite && r.writer == DYING as u8;
+                let waits = |r: &Record| r.state == State::InvalidWrite && place(r.writer) == DYING;
                 overtaken += records.filter(waits).count();
-                hut.view_came(1, 0b0_1111).expect("accepted");
+                hut.view_came(1, 0b1_1110).expect("accepted");
             }
         }
         let (due, later) = air.into_iter().partition(|(at, _, _)| *at <= now);
@@ -813,7 +872,7 @@ fn settles(mut dice: Dice) -> usize {
                 for to in to {
                     if dice.below(100) >= 30 {
                         let at = now + 1 + dice.below(5) as u32;
-                        air.push((at, usize::from(to), packet.clone()));
+                        air.push((at, place(to), packet.clone()));
                     }
                 }
             }
@@ -882,7 +941,11 @@ fn goes_over(mut dice: Dice) -> usize {
         let record = hut.laptop.record(ring).expect("a ring");
         (record.timestamp, record.len, bytes)
     };
-    let greatest = |ring| huts.iter().map(|hut| held(hut, ring)).max().expect("a hut");
+    // Whoever has one stamp has one text.
+    let greatest = |ring| {
+        let held = huts.iter().map(|hut| held(hut, ring));
+        held.max_by(|a, b| a.0.compare(b.0, RULE)).expect("a hut")
+    };
     let outset: Vec<(Timestamp, u8, Vec<u8>)> = (0..RINGS).map(greatest).collect();
     let settled = |huts: &[Hut], ring| huts.iter().all(|hut| hut.laptop.shows_valid(ring));
     let open = (0..RINGS).filter(|ring| !settled(&huts, *ring)).count();

@@ -2,7 +2,7 @@
 //! and the player export; the header's numbers are those of the wrapper and of
 //! the engine.
 
-use cetskobi::{packet, raw, sys, Message, Record, Refusal, State, Timestamp};
+use cetskobi::{packet, raw, sys, Message, Record, Refusal, Rule, State, Timestamp};
 use std::collections::BTreeMap;
 use std::fmt::Debug;
 use std::fs;
@@ -197,8 +197,8 @@ fn header_and_declarations_are_the_same() {
     assert_eq!(declared, header);
     let fields: Vec<usize> = declared.values().map(Vec::len).collect();
     // Accepted, Admission, Answer, Arrival, Asked, Fetched, Message, Played, Reading, Replica,
-    // Written.
-    assert_eq!(fields, [2, 2, 4, 4, 4, 9, 5, 2, 2, 3, 2]);
+    // Settings, Written.
+    assert_eq!(fields, [2, 2, 4, 4, 4, 9, 5, 2, 2, 4, 1, 2]);
     // In C++ a struct and a function of one name hide each other.
     let named = |f: &String| {
         structs_of_c(HEADER)
@@ -255,7 +255,8 @@ fn a_message_has_the_fields_of_its_words() {
 /// not the last, as laptop 2 is still missing.
 fn none() -> u8 {
     let (mut table, mut store) = ([0; sys::RECORD_BYTES], [0; Record::VALUE_MAX]);
-    let me = raw::start(0, 0b111, &mut table, &mut store).replica;
+    let settings = Rule::Lower.into();
+    let me = raw::start(0, 0b111, settings, &mut table, &mut store).replica;
     let inv = raw::write(me, &mut table, &mut store, 0, b"");
     let ack = raw::Message {
         kind: 2,
@@ -286,9 +287,11 @@ fn numbers_are_the_same() {
         ("VAL", kind(Message::Val)),
     ];
     let named = limits_and_kinds.map(|(name, number)| (name.to_owned(), number));
+    let rules = Rule::ALL.iter().map(|r| (upper(r), r.number().into()));
     let refusals = Refusal::ALL.iter();
     let refusals = refusals.map(|r| (format!("REFUSED_{}", upper(r)), r.number().into()));
-    let all: BTreeMap<String, usize> = named.into_iter().chain(states()).chain(refusals).collect();
+    let named = named.into_iter().chain(states()).chain(rules);
+    let all: BTreeMap<String, usize> = named.chain(refusals).collect();
     let header = begun("CETSKOBI_").into_iter();
     let header: BTreeMap<String, usize> = header.map(|(name, c)| (name, c.0)).collect();
     assert_eq!(header, all);
@@ -299,6 +302,23 @@ fn numbers_are_the_same() {
 fn states() -> BTreeMap<String, usize> {
     let states = State::ALL.iter();
     states.map(|s| (upper(s), s.number().into())).collect()
+}
+
+/// The numbers that the engine has for the rules.
+#[test]
+fn rules_are_the_engines() {
+    let source = source("hermes_record");
+    let numbers = source.lines().filter_map(|line| {
+        let (name, number) = line
+            .trim()
+            .strip_prefix("pub const ")?
+            .split_once(": u8 = ")?;
+        Some((name.to_owned(), number.strip_suffix(';')?.parse().ok()?))
+    });
+    let numbers: BTreeMap<String, u8> = numbers.collect();
+    for rule in Rule::ALL {
+        assert_eq!(numbers.get(&upper(rule)), Some(&rule.number()));
+    }
 }
 
 /// The numbers that the engine puts into a record's byte 0.

@@ -1,15 +1,16 @@
 //! A laptop's events, its limits, and lent memory.
 
 use cetskobi::{Arriving, Envelope, Laptop, Leaving, Members, Message, NotCommitted, Opened};
-use cetskobi::{Record, Refusal, Replica, Reply, State, Timestamp};
+use cetskobi::{Record, Refusal, Replica, Reply, Rule, State, Timestamp};
 
 fn stamp(version: u32, tie: u8) -> Timestamp {
     Timestamp { version, tie }
 }
 
-/// Laptop 2 with view {1,2,5} and three records, as in document 01's table.
+/// Laptop 2 with view {1,2,5} and three records, as in document 01's table, which
+/// keeps the old rule. `rules.rs` has the new one.
 fn laptop() -> Laptop {
-    Laptop::start(2, 0b10_0110, 3).expect("a sound start")
+    Laptop::start(2, 0b10_0110, Rule::Higher, 3).expect("a sound start")
 }
 
 fn from(sender: u8, message: Message) -> Envelope {
@@ -69,14 +70,14 @@ fn a_fresh_start() {
     assert_eq!(l.read(3), Err(Refusal::StrayRecord));
     assert_eq!(
         format!("{l:?}"),
-        "Laptop { number: 2, epoch: 0, view: {1,2,5}, count: 3, .. }"
+        "Laptop { number: 2, rule: Higher, epoch: 0, view: {1,2,5}, count: 3, .. }"
     );
 }
 
 #[test]
 fn a_view_is_bits_or_a_set() {
     let view: Members = [1, 2, 5].into_iter().collect();
-    let mut l = Laptop::start(2, view, 3).expect("a sound start");
+    let mut l = Laptop::start(2, view, Rule::Higher, 3).expect("a sound start");
     assert_eq!(l, laptop());
     let fewer: Members = [1, 2].into_iter().collect();
     assert_eq!(l.change_view(1, fewer), Ok(()));
@@ -85,14 +86,26 @@ fn a_view_is_bits_or_a_set() {
 
 #[test]
 fn a_refused_start() {
-    assert_eq!(Laptop::start(16, 38, 1).err(), Some(Refusal::NoGroup));
-    assert_eq!(Laptop::start(2, 4, 1).err(), Some(Refusal::NoGroup));
-    assert_eq!(Laptop::start(2, 38, 0).err(), Some(Refusal::LentMemory));
     assert_eq!(
-        Laptop::start(2, 38, usize::MAX).err(),
+        Laptop::start(16, 38, Rule::Higher, 1).err(),
+        Some(Refusal::NoGroup)
+    );
+    assert_eq!(
+        Laptop::start(2, 4, Rule::Higher, 1).err(),
+        Some(Refusal::NoGroup)
+    );
+    assert_eq!(
+        Laptop::start(2, 38, Rule::Higher, 0).err(),
         Some(Refusal::LentMemory)
     );
-    assert_eq!(Laptop::start(0, 38, 1).err(), Some(Refusal::StruckOff));
+    assert_eq!(
+        Laptop::start(2, 38, Rule::Higher, usize::MAX).err(),
+        Some(Refusal::LentMemory)
+    );
+    assert_eq!(
+        Laptop::start(0, 38, Rule::Higher, 1).err(),
+        Some(Refusal::StruckOff)
+    );
 }
 
 #[test]
@@ -288,7 +301,7 @@ fn a_refused_commit_is_tried_again() {
     let opened = refused(&mut l, opened, b"", Refusal::LastVersion);
 
     // A laptop with fewer records, and one that is struck off.
-    let mut small = Laptop::start(2, 38, 1).unwrap();
+    let mut small = Laptop::start(2, 38, Rule::Higher, 1).unwrap();
     let opened = refused(&mut small, opened, b"", Refusal::StrayRecord);
     l.change_view(1, 0b10_0010).unwrap();
     refused(&mut l, opened, b"", Refusal::StruckOff);
@@ -312,10 +325,12 @@ fn a_refused_commit_as_an_error() {
 }
 
 /// Laptops 2 and 5 commit on one timestamp: both are accepted, and the greater new
-/// one stands, as of two writes. The lesser text is in no record.
+/// one stands, here by the old rule, as of two writes. The lesser text is in no
+/// record.
 #[test]
 fn two_laptops_commit_on_one_timestamp() {
-    let [mut two, mut five] = [2, 5].map(|number| Laptop::start(number, 0b10_0100, 3).unwrap());
+    let [mut two, mut five] =
+        [2, 5].map(|number| Laptop::start(number, 0b10_0100, Rule::Higher, 3).unwrap());
     let (hers, his) = (two.ask(1).unwrap(), five.ask(1).unwrap());
     assert_eq!(hers, his);
     let lesser = two.commit(hers, b"wren").unwrap().into_owned();
@@ -339,7 +354,7 @@ fn two_laptops_commit_on_one_timestamp() {
 /// timestamp, and the VAL has it.
 #[test]
 fn a_replay_from_view_to_screen() {
-    let mut l = Laptop::start(2, 0b1010_0110, 3).unwrap();
+    let mut l = Laptop::start(2, 0b1010_0110, Rule::Higher, 3).unwrap();
     let inv = from(7, Message::Inv(stamp(1, 7)));
     assert!(l.deliver(Arriving::new(inv, b"wren")).is_ok());
     l.change_view(1, 0b10_0110).unwrap();
@@ -415,7 +430,7 @@ fn an_overtaken_write_is_given_up_for_a_replay() {
     assert_eq!(came(later(1, own)), Err(Refusal::StrayAck));
     assert_eq!(l, waiting);
 
-    let mut one = Laptop::start(1, 0b10_0110, 3).unwrap();
+    let mut one = Laptop::start(1, 0b10_0110, Rule::Higher, 3).unwrap();
     one.change_view(1, 0b110).unwrap();
     let ack = one.deliver(inv.arriving()).unwrap().leaving();
     let ack = ack.expect("an INV is acknowledged").into_owned();
@@ -564,8 +579,11 @@ fn values_of_192_and_193_bytes() {
 
 #[test]
 fn records_4095_and_4096() {
-    assert_eq!(Laptop::start(2, 38, 4097).err(), Some(Refusal::LentMemory));
-    let mut l = Laptop::start(2, 38, Record::COUNT_MAX).unwrap();
+    assert_eq!(
+        Laptop::start(2, 38, Rule::Higher, 4097).err(),
+        Some(Refusal::LentMemory)
+    );
+    let mut l = Laptop::start(2, 38, Rule::Higher, Record::COUNT_MAX).unwrap();
     assert_eq!(l.write(4096, b"x"), Err(Refusal::StrayRecord));
     assert_eq!(l.write(usize::MAX, b"x"), Err(Refusal::StrayRecord));
     assert_eq!(l.record(4096), None);
@@ -588,13 +606,14 @@ fn the_last_version() {
 fn lent_memory_keeps_what_an_event_left() {
     let mut table = [9; 2 * Record::BYTES];
     let mut store = [7; 2 * Record::VALUE_MAX];
-    let mut lent = Laptop::start_in(2, 38, &mut table[..], &mut store[..]).unwrap();
+    let mut lent = Laptop::start_in(2, 38, Rule::Higher, &mut table[..], &mut store[..]).unwrap();
     let inv = lent.write(1, b"wren").unwrap().into_owned();
     let (me, _, _) = lent.into_parts();
     assert_eq!(
         me,
         Replica {
             number: 2,
+            settings: Rule::Higher.into(),
             view: 38,
             epoch: 0
         }
@@ -638,6 +657,7 @@ fn an_unsound_record_is_not_shown() {
 fn damaged_memory_is_refused() {
     let me = Replica {
         number: 2,
+        settings: Rule::Higher.into(),
         view: 38,
         epoch: 0,
     };
@@ -684,9 +704,11 @@ fn records_and_their_bytes() {
 }
 
 #[test]
-fn timestamps_are_ordered_by_version_then_tie_breaker() {
-    let rising = [stamp(0, 15), stamp(1, 0), stamp(1, 5), stamp(2, 0)];
-    assert!(rising.is_sorted_by(|a, b| a < b));
+fn timestamps_are_ordered_by_version_then_by_the_rule() {
+    let mut rising = [stamp(0, 15), stamp(1, 0), stamp(1, 5), stamp(2, 0)];
+    assert!(rising.is_sorted_by(|a, b| b.later(*a, Rule::Higher)));
+    rising.swap(1, 2);
+    assert!(rising.is_sorted_by(|a, b| b.later(*a, Rule::Lower)));
 }
 
 #[test]

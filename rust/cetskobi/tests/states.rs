@@ -1,10 +1,11 @@
 //! docs/states.dot and the guide's table of the five states, tried on the
-//! library: on every record below an event is accepted exactly where it is
-//! drawn, leads where the picture and the table say, and sends what they say.
+//! library: on every record below, under both rules of ties, an event is accepted
+//! exactly where it is drawn, leads where the picture and the table say, and sends
+//! what they say.
 //! tests/picture.sh compares docs/states.svg with the dot.
 
 use cetskobi::{Arriving, Envelope, Laptop, Leaving, Members, Message, NotCommitted, Opened};
-use cetskobi::{Record, Refusal, State, Timestamp};
+use cetskobi::{Record, Refusal, Rule, State, Timestamp};
 use std::collections::BTreeSet;
 use std::fs;
 
@@ -143,7 +144,9 @@ fn opened(timestamp: Timestamp) -> Opened {
         acks: Members::default(),
         len: 5,
     };
-    laptop(&seen).ask(0).expect("a valid record is opened")
+    // No rule is asked here.
+    let opened = laptop(Rule::Higher, &seen).ask(0);
+    opened.expect("a valid record is opened")
 }
 
 /// Messages of each kind about record 0, from both others.
@@ -166,14 +169,14 @@ fn messages() -> Vec<Envelope> {
 }
 
 /// What a message is to a record, by document 01's words, and of an ACK by
-/// Wish 1's: the last one completes the view.
-fn kind_of(r: &Record, envelope: &Envelope) -> Kind {
+/// Wish 1's: the last one completes the view. Which stamp is greater, Wish 6 says.
+fn kind_of(rule: Rule, r: &Record, envelope: &Envelope) -> Kind {
     let counted = r.acks.contains(envelope.sender);
     let last = OTHERS
         .iter()
         .all(|&n| n == envelope.sender || r.acks.contains(n));
     match envelope.message {
-        Message::Inv(t) if t > r.timestamp => Kind::InvGreater,
+        Message::Inv(t) if t.later(r.timestamp, rule) => Kind::InvGreater,
         Message::Inv(_) => Kind::InvNotGreater,
         Message::Ack(t) if t == r.written && !counted && last => Kind::LastAck,
         Message::Ack(t) if t == r.written && !counted => Kind::OtherAck,
@@ -185,28 +188,28 @@ fn kind_of(r: &Record, envelope: &Envelope) -> Kind {
 }
 
 /// The record as the one of laptop 2.
-fn laptop(r: &Record) -> Laptop {
-    let fresh = Laptop::start(ME, VIEW, 1).expect("a laptop");
+fn laptop(rule: Rule, r: &Record) -> Laptop {
+    let fresh = Laptop::start(ME, VIEW, rule, 1).expect("a laptop");
     let (me, _, store) = fresh.into_parts();
     Laptop::from_parts(me, r.to_bytes().to_vec(), store)
 }
 
-/// An event of a kind on a laptop with that record.
+/// An event of a kind on that laptop.
 fn attempt(
-    r: &Record,
+    before: &Laptop,
     kind: Kind,
     event: impl FnOnce(&mut Laptop) -> Result<Option<Message>, Refusal>,
 ) -> Tried {
-    let mut laptop = laptop(r);
+    let mut laptop = before.clone();
     let answer = event(&mut laptop);
-    let after = laptop.record(0).expect("a record");
     if answer.is_err() {
-        assert_eq!(after, *r);
+        assert_eq!(laptop, *before);
     }
+    let state = |laptop: &Laptop| laptop.record(0).expect("a record").state;
     Tried {
         kind,
-        from: r.state,
-        to: answer.map(|_| after.state),
+        from: state(before),
+        to: answer.map(|_| state(&laptop)),
         left: answer.unwrap_or(None),
     }
 }
@@ -216,10 +219,16 @@ fn sent(left: Leaving) -> Option<Message> {
     Some(left.envelope().message)
 }
 
-/// Every event on every record.
+/// Every event on every record, under both rules.
 fn all_tried() -> Vec<Tried> {
+    let tried = Rule::ALL.iter().flat_map(|rule| tried_by(*rule));
+    tried.collect()
+}
+
+fn tried_by(rule: Rule) -> Vec<Tried> {
     let mut tried = Vec::new();
     for r in records() {
+        let before = laptop(rule, &r);
         let all_acknowledged = OTHERS.iter().all(|&n| r.acks.contains(n));
         let validate = match all_acknowledged {
             true => Kind::Validate,
@@ -233,23 +242,25 @@ fn all_tried() -> Vec<Tried> {
             ME => Kind::ResendSelf,
             _ => Kind::Resend,
         };
-        tried.push(attempt(&r, Kind::Read, |l| l.read(0).map(|_| None)));
-        tried.push(attempt(&r, Kind::Ask, |l| l.ask(0).map(|_| None)));
-        tried.push(attempt(&r, Kind::Write, |l| l.write(0, b"robin").map(sent)));
+        tried.push(attempt(&before, Kind::Read, |l| l.read(0).map(|_| None)));
+        tried.push(attempt(&before, Kind::Ask, |l| l.ask(0).map(|_| None)));
+        tried.push(attempt(&before, Kind::Write, |l| {
+            l.write(0, b"robin").map(sent)
+        }));
         for timestamp in stamps() {
             let commit = match timestamp == r.timestamp {
                 true => Kind::Commit,
                 false => Kind::Other(Refusal::NotAsOpened),
             };
-            tried.push(attempt(&r, commit, |l| {
+            tried.push(attempt(&before, commit, |l| {
                 let inv = l.commit(opened(timestamp), b"robin");
                 inv.map(sent).map_err(NotCommitted::into)
             }));
         }
-        tried.push(attempt(&r, validate, |l| l.validate(0).map(sent)));
-        tried.push(attempt(&r, replay, |l| l.replay(0).map(sent)));
-        tried.push(attempt(&r, resend, |l| l.resend(0).map(sent)));
-        tried.push(attempt(&r, Kind::View, |l| {
+        tried.push(attempt(&before, validate, |l| l.validate(0).map(sent)));
+        tried.push(attempt(&before, replay, |l| l.replay(0).map(sent)));
+        tried.push(attempt(&before, resend, |l| l.resend(0).map(sent)));
+        tried.push(attempt(&before, Kind::View, |l| {
             l.change_view(1, 6).map(|()| None)
         }));
         for m in messages() {
@@ -257,7 +268,7 @@ fn all_tried() -> Vec<Tried> {
                 Message::Inv(_) => b"wren",
                 _ => b"",
             };
-            tried.push(attempt(&r, kind_of(&r, &m), |l| {
+            tried.push(attempt(&before, kind_of(rule, &r, &m), |l| {
                 let reply = l.deliver(Arriving::new(m, body))?;
                 Ok(reply.leaving().and_then(sent))
             }));
@@ -331,8 +342,10 @@ fn drawn() -> BTreeSet<String> {
 
 #[test]
 fn a_fresh_start_is_valid() {
-    let fresh = Laptop::start(ME, VIEW, 1).expect("a laptop");
-    assert_eq!(fresh.record(0).map(|r| r.state), Some(State::Valid));
+    for &rule in Rule::ALL {
+        let fresh = Laptop::start(ME, VIEW, rule, 1).expect("a laptop");
+        assert_eq!(fresh.record(0).map(|r| r.state), Some(State::Valid));
+    }
 }
 
 /// What is accepted is drawn, on every record where it is drawn; a view, which

@@ -1,6 +1,6 @@
 //! The headers for C have Rust's words and version.
 
-use cetskobi::{Message, Refusal, State, Timestamp};
+use cetskobi::{Message, Refusal, Rule, State, Timestamp};
 use std::collections::BTreeMap;
 
 const HEADER: &str = include_str!("../../../include/cetskobi.h");
@@ -87,6 +87,15 @@ fn names_of_kinds_are_the_same() {
     let (names, others) = texts("cetskobi_kind_name");
     assert_eq!(names, with((0, "none"), all));
     assert_eq!(others, "unknown kind");
+}
+
+/// Every byte is a rule: all but the new one's are the old one.
+#[test]
+fn names_of_rules_are_the_same() {
+    let (names, others) = texts("cetskobi_rule_name");
+    let lower = (Rule::Lower.number(), Rule::Lower.name().to_owned());
+    assert_eq!(names, BTreeMap::from([lower]));
+    assert_eq!(others, Rule::Higher.name());
 }
 
 #[test]

@@ -1,4 +1,7 @@
-use cetskobi::{packet, Laptop, Leaving, Members, Message, NotCommitted, Opened, Refusal, State, Timestamp};
+use cetskobi::{packet, Laptop, Leaving, Members, Message, NotCommitted, Opened, Refusal, Rule, State, Timestamp};
+
+/// The rule of ties of a new group: the same at all of its laptops, to its end.
+const RULE: Rule = Rule::Lower;
 
 /// Ticks until a message goes again: each wait is twice the one before, up to the most.
 const WAIT_FIRST: u16 = 8;
@@ -28,7 +31,7 @@ enum Fate {
 
 impl Hut {
     fn begin(number: u8, view: u16, count: usize, radio: Radio) -> Result<Hut, Refusal> {
-        let laptop = Laptop::start(number, view, count)?;
+        let laptop = Laptop::start(number, view, RULE, count)?;
         Ok(Hut { laptop, radio, clocks: vec![(0, 0); count], messages: Vec::new(), to: 0, heard: 0 })
     }
 
@@ -36,7 +39,7 @@ impl Hut {
     fn send(&mut self) {
         let mut bytes = [0; packet::PACKET_MAX];
         // 24: nothing waits.
-        if let Ok(len) = packet::pack(&self.messages, &mut bytes) {
+        if let Ok(len) = packet::pack(self.laptop.settings(), &self.messages, &mut bytes) {
             self.radio.send(&bytes[..len], Members::from(self.to));
         }
         self.messages.clear();
@@ -88,9 +91,9 @@ impl Hut {
         }
     }
 
-    /// All messages of a packet, in one pass.
+    /// All messages of a packet, in one pass. 27: it is of a group with the other rule.
     fn packet_came(&mut self, bytes: &[u8]) -> Result<(), Refusal> {
-        let mut messages = packet::messages(bytes)?;
+        let mut messages = packet::messages(self.laptop.settings(), bytes)?;
         let (epoch, view) = (self.laptop.epoch(), self.laptop.view()); // now: an arrival borrows the laptop
         while let Some(arrival) = self.laptop.deliver_next(&mut messages) {
             // Told of a refused message too. A newer view is within this one, and so is its sender.
