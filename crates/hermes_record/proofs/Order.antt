@@ -3,13 +3,13 @@
 use Prim.Native.Nat.{ℕ, _≤_, _<_}
 use mathlib.Core.Path.{_≡_, refl, sym, ap, subst, _∙_}
 use mathlib.Core.Bool.{Bool, true, false, _&&_, false≢true}
-use mathlib.Core.Logic.{_⊎_, inl, inr}
+use mathlib.Core.Logic.{_⊎_, inl, inr, _≢_}
 use native.Mathlib.Omega.{arith}
 use lib.Dec.{ltb, eqb}
 use borrow.Author.Tests.{ltb-true, ltb-false, eqb-true, eqb-false, lt-ltb, le-ltb, eq-eqb}
 use Rattle.hermes_record.specs.declared.timestamp.Timestamp.{Timestamp}
 use Rattle.hermes_record.specs.declared.timestamp.Rule.the-variants.{Higher, Lower}
-use Rattle.hermes_record.specs.Order.{TieOrder, TieOrders, higher, lower, ties, later, sameTimestamp, NotAfter, equal, rises}
+use Rattle.hermes_record.specs.Order.{TieOrder, TieOrders, higher, lower, ties, later, sameTimestamp, NotAfter, equal, rises, OrderedAny, OrderedBoth}
 use Rattle.hermes_record.proofs.Tests.{both, and-both, or-right, either, is-false}
 
 pub timestamp-path : {s t : Timestamp} → s .version ≡ t .version → s .tie ≡ t .tie → s ≡ t
@@ -153,3 +153,20 @@ module _ (wins : ℕ → ℕ → Bool) (ord : TieOrder wins) where
       go true p y q = test wins (older (ltb-true _ _ p))
       go false p true q = equal (timestamp-path (level p) (eqb-true _ _ q))
       go false p false q = test wins (tied (level p) (ord .total (s .tie) (t .tie) (eqb-false _ _ q) (is-false _ (λ w. never (inr (level p, w))))))
+
+-- ---- the claims
+
+pub ordered-by : OrderedAny
+ordered-by wins ord = record {
+  irreflexive = λ s. is-false _ (λ h. later-apart wins ord s s h refl);
+  transitive = later-trans wins ord;
+  total = λ s t d g. go s t d (notAfter-total wins ord s t g);
+  versions = λ s t h. greater-later wins s t (inl h);
+}
+  where
+    go : (s t : Timestamp) → s ≢ t → NotAfter wins s t → later wins t s ≡ true
+    go s t d (equal e) = absurd (d e)
+    go s t d (rises h) = h
+
+pub ordered : OrderedBoth
+ordered rule = ordered-by (ties rule) (ties-order rule)

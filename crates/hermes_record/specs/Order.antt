@@ -1,6 +1,6 @@
 -- The order of timestamps (01, "The greater stamp has the greater version or, versions equal, the greater tie-breaker"; 02, Wish 6, "Comparing two
 -- stamps now depends on the rule"), over any strict total order of ties.
-use Prim.Native.Nat.{ℕ}
+use Prim.Native.Nat.{ℕ, _<_}
 use mathlib.Core.Path.{_≡_}
 use mathlib.Core.Bool.{Bool, true, false, _&&_, _||_}
 use mathlib.Core.Logic.{_≢_}
@@ -53,3 +53,20 @@ sameTimestamp s t = eqb (s .version) (t .version) && eqb (s .tie) (t .tie)
 pub data NotAfter (wins : ℕ → ℕ → Bool) (s t : Timestamp) : Type 0 where
   equal : s ≡ t → NotAfter wins s t
   rises : later wins t s ≡ true → NotAfter wins s t
+
+-- ---- what is claimed; `proofs/Order` proves it
+
+-- timestamps are strictly and totally ordered, and the version comes first
+pub record Ordered (wins : ℕ → ℕ → Bool) : Type 0 where
+  pub irreflexive : (s : Timestamp) → later wins s s ≡ false
+  pub transitive : (s t u : Timestamp) → later wins s t ≡ true → later wins t u ≡ true → later wins s u ≡ true
+  pub total : (s t : Timestamp) → s ≢ t → later wins s t ≡ false → later wins t s ≡ true
+  pub versions : (s t : Timestamp) → t .version < s .version → later wins s t ≡ true
+
+-- 02, Wish 6, "What holds of ordering .. is proved over every strict total order of ties"
+abbrev pub OrderedAny : Type 0
+OrderedAny = (wins : ℕ → ℕ → Bool) → TieOrder wins → Ordered wins
+
+-- "then used for these two"
+abbrev pub OrderedBoth : Type 0
+OrderedBoth = (rule : Rule) → Ordered (ties rule)
