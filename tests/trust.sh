@@ -28,6 +28,9 @@ Wish 4|that all of a packet in one pass is each message by itself|packet_format.
 Wish 4|the same, as C calls the functions|export_packets.OnePass.OnePass export_packets.OnePass.ToldAtOnce export_packets.OnePass.NothingOutside export_packets.OnePass.PackedIsTaken export_accepted.OnePass.DeliversAll|crates/export_packets/proofs/OnePass.antt:one-pass crates/export_packets/proofs/OnePass.antt:told-at-once crates/export_packets/proofs/OnePass.antt:nothing-outside crates/export_packets/proofs/OnePass.antt:packed-is-taken crates/export_accepted/proofs/OnePass.antt:delivers-all
 Wish 5|what an ask hands out; that a commit saves over what was seen, and is not refused in vain|hermes.Asking.EveryAskGives hermes.Asking.Asking|crates/hermes/proofs/Asking.antt:ask-gives crates/hermes/proofs/Asking.antt:asking
 Wish 5|the same of a commit, as C calls the functions|check_air.Opened.CalledAsking|crates/check_air/proofs/Opened.antt:called-asking
+Wish 6|that each rule orders timestamps strictly and totally, the version first|hermes_record.Order.OrderedAny hermes_record.Order.OrderedBoth|crates/hermes_record/proofs/Order.antt:ordered-by crates/hermes_record/proofs/Order.antt:ordered
+Wish 6|that a packet for one rule is refused by 27 in a group with the other|packet_format.Accepting.AcceptedByOne packet_format.RoundTrip.WrittenOtherRule|crates/packet_format/proofs/Accepting.antt:accepted-by-one crates/packet_format/proofs/RoundTrip.antt:written-other-rule
+Wish 6|the same, as C calls the functions|export_packets.OnePass.OtherRule|crates/export_packets/proofs/OnePass.antt:other-rule
 END
 
 grep -nE '^(pub )?(struct|enum) ' crates/*/src/*.rt >"$dir/types"
