@@ -70,12 +70,12 @@ pub fn view(me: Replica, epoch: u32, set: u16) -> Admission
             if inside {
                 let two = replica_members::plural(set);
                 if two {
-                    let settings = me.settings;
+                    let fixed = me.settings;
                     return Admission::Admitted(Replica {
                         number: me.number,
                         epoch: epoch,
                         view: set,
-                        settings: settings,
+                        settings: fixed,
                     });
                 }
             }
