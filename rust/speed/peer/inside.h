@@ -40,10 +40,24 @@ static inline bool two_or_more(uint16_t set)
     return (set & (set - 1)) != 0;
 }
 
-/* A timestamp as one number, in the order of timestamps. */
+/* A timestamp as one number: the greater version is the greater, then the higher tie-breaker. */
 static inline uint64_t stamp(uint32_t version, uint8_t tie)
 {
     return (uint64_t)version << 8 | tie;
+}
+
+/* ---- the rule of ties (02, Wish 6); every byte is one */
+
+static inline uint8_t rule_of(struct cetskobi_settings settings)
+{
+    return settings.rule == CETSKOBI_LOWER ? CETSKOBI_LOWER : CETSKOBI_HIGHER;
+}
+
+/* Is this timestamp the greater by the group's rule? Where the lower number wins, the tie-breakers are compared with all bits turned. */
+static inline bool later(uint32_t version, uint8_t tie, const record *r, struct cetskobi_settings settings)
+{
+    uint8_t turn = settings.rule == CETSKOBI_LOWER ? UINT8_MAX : 0;
+    return stamp(version, tie ^ turn) > stamp(r->version, r->tie ^ turn);
 }
 
 /* ---- answers */
