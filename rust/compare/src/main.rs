@@ -74,11 +74,11 @@ const PARTS: [(&str, Part); 12] = [
     ("deliver", |settings| {
         shown(deliver::compare(settings, deliver::by_model), |tally| {
             let [x, w, r] = tally.last;
-            let [[old_left, old], [new_left, new]] = tally.ties;
             format!(
-                "{}\n{}\nthe last ack at X:{x} W:{w} R:{r}\nties by the old rule taken:{old} not:{old_left}, by the new taken:{new} not:{new_left}",
+                "{}\n{}\n{}\nthe last ack at X:{x} W:{w} R:{r}",
                 answers(&tally.answers),
-                tally.heads
+                tally.heads,
+                ties(&tally.ties)
             )
         })
     }),
@@ -98,9 +98,10 @@ const PARTS: [(&str, Part); 12] = [
     ("arrive", |settings| {
         shown(arrive::compare(settings, arrive::by_model), |tally| {
             format!(
-                "{}\n{}\nwith foreign facts {}, their entries {}",
+                "{}\n{}\n{}\nwith foreign facts {}, their entries {}",
                 answers(&tally.own),
                 tally.heads,
+                ties(&tally.ties),
                 cases(&tally.foreign),
                 answers(&tally.entries)
             )
@@ -150,6 +151,11 @@ fn answers(counts: &[u64]) -> String {
     let counts = counts.iter().enumerate().filter(|(_, &times)| times > 0);
     let counts = counts.map(|(answer, times)| format!("{answer}:{times}"));
     counts.collect::<Vec<_>>().join(" ")
+}
+
+fn ties(counts: &[[u64; 2]; 2]) -> String {
+    let [[old_left, old], [new_left, new]] = counts;
+    format!("ties taken by the old rule:{old} not:{old_left}, by the new:{new} not:{new_left}")
 }
 
 /// What the header says with foreign facts.

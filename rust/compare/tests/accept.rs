@@ -74,6 +74,8 @@ fn random_deliveries() {
             // 02, Wish 6: the rarest is 27 before 21, some 130 under each rule.
             tally.heads.often(&[0, 21, 22, 23], 50);
             assert!(tally.own[27] >= 5000);
+            println!("ties by each rule, not taken and taken: {:?}", tally.ties);
+            assert!(tally.ties.as_flattened().iter().all(|&times| times >= 1500));
             println!("{:8} entries of the other rule", tally.unruled);
             assert!(tally.unruled >= 1000);
         }

@@ -116,11 +116,10 @@ static inline uint8_t ask_packet(struct cetskobi_settings settings, const uint8_
         return CETSKOBI_REFUSED_PACKET_HEAD;
     uint8_t rule = packet[0];
     size_t count = packet[1];
-    bool known = rule == CETSKOBI_HIGHER || rule == CETSKOBI_LOWER;
-    if (!known || count < 1 || count > CETSKOBI_MESSAGES_MAX || load2(packet + 2) != packet_len)
+    if (count < 1 || count > CETSKOBI_MESSAGES_MAX || load2(packet + 2) != packet_len)
         return CETSKOBI_REFUSED_PACKET_HEAD;
     if (rule != rule_of(settings))
-        return CETSKOBI_REFUSED_OTHER_RULE;
+        return rule == CETSKOBI_HIGHER || rule == CETSKOBI_LOWER ? CETSKOBI_REFUSED_OTHER_RULE : CETSKOBI_REFUSED_PACKET_HEAD;
     size_t at = HEAD_BYTES + CONTENTS_BYTES * count;
     if (at > packet_len)
         return CETSKOBI_REFUSED_PACKET_CONTENTS;

@@ -149,7 +149,7 @@ struct cetskobi_admission peer_view(struct cetskobi_replica me, uint32_t epoch, 
         no = CETSKOBI_REFUSED_OLD_EPOCH;
     if (!no && ((set & ~me.view) != 0 || !two_or_more(set)))
         no = CETSKOBI_REFUSED_VIEW_NOT_WITHIN;
-    if (no)
+    if (rarely(no))
         return admission(me.number, me.settings.rule, me.view, me.epoch, no);
     return admission(me.number, rule_of(me.settings), set, epoch, 0);
 }

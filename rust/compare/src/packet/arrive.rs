@@ -10,7 +10,7 @@ use super::deliver::{self, some_delivery, some_letters_with};
 use super::facts::{self, entry_of, lesser, message_of, some_facts, some_index, Told};
 use super::{damage, set_total, some_rule_for, Heads, Letter};
 use crate::bytes::Bytes;
-use crate::crossing::{sent_of, settings_of};
+use crate::crossing::{rule_of, sent_of, settings_of};
 use crate::memory::Memory;
 use crate::settings::Settings;
 use crate::shrink::{shrink, Found, Smaller};
@@ -121,6 +121,8 @@ pub struct Tally {
     pub own: [u64; 28],
     /// The same by byte 0 of the packet.
     pub heads: Heads,
+    /// Ties, as `single::tie` has them: by the rule, not taken and taken.
+    pub ties: [[u64; 2]; 2],
     /// With other facts, by what the header says, in the order of `Told::ALL`.
     pub foreign: [u64; 5],
     /// Of these the entries, by the answer of their delivery.
@@ -142,6 +144,11 @@ impl Tally {
             self.own[answer] += 1;
             let number = arrival.answer.number;
             self.heads.count(lent.me.settings, packet, *i, number);
+            let outcome = single::Outcome::of(lent.me, arrival.answer);
+            if let Some(taken) = case.delivery.tie(&outcome) {
+                let rule = rule_of(lent.me.settings) as usize;
+                self.ties[rule][usize::from(taken)] += 1;
+            }
             let later = answer == 10 && arrival.epoch > lent.me.epoch;
             self.later += u64::from(later);
             return;

@@ -66,15 +66,12 @@ impl Tally {
         self.heads
             .count(lent.me.settings, packet, *i, outcome.number);
         let rule = rule_of(lent.me.settings);
+        if let Some(taken) = case.tie(outcome) {
+            self.ties[rule as usize][usize::from(taken)] += 1;
+        }
         let Ok((envelope, _)) = packet::fetch(rule, packet, *i) else {
             return;
         };
-        if let (Message::Inv(stamp), true) = (envelope.message, envelope.record == lent.i) {
-            let stamp = (stamp.version, stamp.tie);
-            if let Some(taken) = tie(lent.me, &lent.record, stamp, outcome) {
-                self.ties[rule as usize][usize::from(taken)] += 1;
-            }
-        }
         if matches!(envelope.message, Message::Ack(_)) && envelope.record == lent.i {
             let at = last_ack(lent.me, &lent.record, envelope.sender, outcome);
             at.into_iter().for_each(|at| self.last[at] += 1);
@@ -155,6 +152,19 @@ pub(super) fn some_letters_with(
 }
 
 impl Case {
+    /// A tie of the record that is meant, as `single::tie` has it.
+    pub(super) fn tie(&self, outcome: &Outcome) -> Option<bool> {
+        let lent = &self.lent;
+        let fetched = packet::fetch(rule_of(lent.me.settings), &self.packet, self.i);
+        let envelope = fetched.ok()?.0;
+        match envelope.message {
+            Message::Inv(stamp) if envelope.record == lent.i => {
+                tie(lent.me, &lent.record, (stamp.version, stamp.tie), outcome)
+            }
+            _ => None,
+        }
+    }
+
     /// The answers that a delivery from a packet can give. 12 is none of them:
     /// question 22 has seen to what it asks.
     pub fn answers() -> Vec<usize> {

@@ -109,6 +109,8 @@ fn arrived() {
             often("delivery of an entry", &tally.entries, &answers, 100);
             assert!(tally.unasked >= 1000 && tally.unruled >= 1000);
             tally.heads.often(&[0, 21, 22, 23], 50);
+            println!("ties by each rule, not taken and taken: {:?}", tally.ties);
+            assert!(tally.ties.as_flattened().iter().all(|&times| times >= 1500));
         }
         Err(found) => panic!("{settings}\n{found}"),
     }
