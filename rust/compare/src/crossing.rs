@@ -1,8 +1,8 @@
-//! Records as sixteen bytes (include/cetskobi.h) and messages as numbers, for
-//! the model's side.
+//! Records as sixteen bytes (include/cetskobi.h), messages as numbers and rules as
+//! bytes, for the model's side.
 
-use cetskobi::raw::RECORD_BYTES;
-use model::engine::{Message, Record, State, Timestamp};
+use cetskobi::raw::{Settings, RECORD_BYTES};
+use model::engine::{self, Message, Record, Rule, State, Timestamp};
 
 /// The bytes of one record, or any others.
 pub type RecordBytes = [u8; RECORD_BYTES];
@@ -86,15 +86,49 @@ impl Fields {
         }
     }
 
-    /// The timestamp as it is ordered.
+    /// Version and tie-breaker of the timestamp.
     pub fn stamp(&self) -> (u32, u8) {
         (self.version, self.tie)
     }
 
-    /// The last-write timestamp as it is ordered.
+    /// The same of the last-write timestamp.
     pub fn written(&self) -> (u32, u8) {
         (self.written_version, self.written_tie)
     }
+}
+
+/// The rule of ties that this byte of a group's settings is (02, Wish 6): by the
+/// header every byte is one, 2 the new rule and every other the old.
+pub fn rule_of(settings: Settings) -> Rule {
+    match settings.rule {
+        2 => Rule::Lower,
+        _ => Rule::Higher,
+    }
+}
+
+/// The model's settings.
+pub fn model_of(settings: Settings) -> engine::Settings {
+    let rule = rule_of(settings);
+    engine::Settings { rule }
+}
+
+/// The settings of a group with this rule, by its number.
+pub fn settings_of(rule: Rule) -> Settings {
+    let rule = rule.byte();
+    Settings { rule }
+}
+
+/// The rule that the group does not have.
+pub fn other_rule(rule: Rule) -> Rule {
+    match rule {
+        Rule::Higher => Rule::Lower,
+        Rule::Lower => Rule::Higher,
+    }
+}
+
+/// Is the first stamp, version and tie-breaker, the greater by this rule?
+pub fn is_after(one: (u32, u8), other: (u32, u8), rule: Rule) -> bool {
+    Timestamp::new(one.0, one.1).is_after(Timestamp::new(other.0, other.1), rule)
 }
 
 /// The model's table of these bytes. Sixteen that are no record count as an

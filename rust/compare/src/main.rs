@@ -1,6 +1,7 @@
 //! Compares the engine with the model at any size:
 //! `compare --seed S --times N [PART..]`. Without a part all of them are run.
 
+use std::collections::BTreeMap;
 use std::fmt::Display;
 use std::process::ExitCode;
 use std::time::Instant;
@@ -22,18 +23,21 @@ const PARTS: [(&str, Part); 12] = [
         )
     }),
     ("group", |settings| {
-        shown(group::compare(settings, by_hand, single::on_table), listed)
+        shown(
+            group::compare(settings, by_hand, single::on_table),
+            by_rules,
+        )
     }),
     ("group-by-packet", |settings| {
         shown(
             group::compare(settings, by_packet, single::on_table),
-            listed,
+            by_rules,
         )
     }),
     ("group-in-one-pass", |settings| {
         shown(
             group::compare_in_packets(settings, single::on_table),
-            listed,
+            by_rules,
         )
     }),
     ("settling", |settings| {
@@ -50,43 +54,54 @@ const PARTS: [(&str, Part); 12] = [
     ("fetch", |settings| {
         shown(fetch::compare(settings, fetch::by_model), |tally| {
             format!(
-                "{} packets, {} damaged; {}",
+                "{} packets, {} damaged; {}\n{}",
                 tally.packets,
                 tally.damaged,
-                answers(&tally.answers)
+                answers(&tally.answers),
+                tally.heads
             )
         })
     }),
     ("pack", |settings| {
         shown(pack::compare(settings, pack::by_model), |tally| {
-            answers(&tally.answers)
+            let [old, new] = tally.rules;
+            format!(
+                "{}\n{old} written under the old rule, {new} under the new",
+                answers(&tally.answers)
+            )
         })
     }),
     ("deliver", |settings| {
         shown(deliver::compare(settings, deliver::by_model), |tally| {
             let [x, w, r] = tally.last;
             format!(
-                "{}\nthe last ack at X:{x} W:{w} R:{r}",
-                answers(&tally.answers)
+                "{}\n{}\n{}\nthe last ack at X:{x} W:{w} R:{r}",
+                answers(&tally.answers),
+                tally.heads,
+                ties(&tally.ties)
             )
         })
     }),
     ("accept", |settings| {
         shown(accept::compare(settings, accept::BY_MODEL), |tally| {
             format!(
-                "packets {}\nmessages {}\nwith foreign facts {}, {} of them entries that 22 was not asked of",
+                "packets {}\n{}\nmessages {}\nwith foreign facts {}, {} of them entries that 22 was not asked of, {} of packets of the other rule",
                 answers(&tally.packets),
+                tally.heads,
                 answers(&tally.own),
                 cases(&tally.foreign),
-                tally.unasked
+                tally.unasked,
+                tally.unruled
             )
         })
     }),
     ("arrive", |settings| {
         shown(arrive::compare(settings, arrive::by_model), |tally| {
             format!(
-                "{}\nwith foreign facts {}, their entries {}",
+                "{}\n{}\n{}\nwith foreign facts {}, their entries {}",
                 answers(&tally.own),
+                tally.heads,
+                ties(&tally.ties),
                 cases(&tally.foreign),
                 answers(&tally.entries)
             )
@@ -117,10 +132,18 @@ where
     }
 }
 
-fn listed(tally: &group::Tally) -> String {
+fn listed(tally: &BTreeMap<String, u64>) -> String {
     let lines = tally
         .iter()
         .map(|(name, times)| format!("{times:9} {name}"));
+    lines.collect::<Vec<_>>().join("\n")
+}
+
+/// In groups with the old rule of ties, and with the new.
+fn by_rules(tally: &group::Tally) -> String {
+    let lines = tally
+        .iter()
+        .map(|(name, [old, new])| format!("{old:9}{new:9} {name}"));
     lines.collect::<Vec<_>>().join("\n")
 }
 
@@ -128,6 +151,11 @@ fn answers(counts: &[u64]) -> String {
     let counts = counts.iter().enumerate().filter(|(_, &times)| times > 0);
     let counts = counts.map(|(answer, times)| format!("{answer}:{times}"));
     counts.collect::<Vec<_>>().join(" ")
+}
+
+fn ties(counts: &[[u64; 2]; 2]) -> String {
+    let [[old_left, old], [new_left, new]] = counts;
+    format!("ties taken by the old rule:{old} not:{old_left}, by the new:{new} not:{new_left}")
 }
 
 /// What the header says with foreign facts.

@@ -1,7 +1,8 @@
 //! Packets accepted once: every message taken and delivered, with the packet's own
 //! facts and with any others.
 
-use cetskobi::raw::{self, Accepted, Arrival, Fetched};
+use cetskobi::raw::{self, Accepted, Arrival, Fetched, Settings as Group};
+use compare::crossing::{rule_of, settings_of};
 use compare::group;
 use compare::memory::Memory;
 use compare::packet::accept::{self, Side, BY_MODEL};
@@ -11,6 +12,7 @@ use compare::packet::facts::{self, fetched_of, Told};
 use compare::packet::fetch::full;
 use compare::settings::Settings;
 use compare::single::on_table;
+use model::engine::Rule;
 
 /// Each of these came so often, and nothing else.
 fn often(what: &str, counts: &[u64], which: &[usize], least: u64) {
@@ -37,11 +39,18 @@ fn damaged_packets() {
     let settings = Settings::from_env();
     match accept::compare(&settings, BY_MODEL) {
         Ok(tally) => {
-            often("accept answers", &tally.packets, &[0, 20, 21, 22], 1000);
-            often("a message answers", &tally.own, &[0, 20, 21, 22, 23], 1000);
+            let answers = [0, 20, 21, 22, 27];
+            often("accept answers", &tally.packets, &answers, 1000);
+            let answers = [0, 20, 21, 22, 23, 27];
+            often("a message answers", &tally.own, &answers, 1000);
             each_case("foreign facts", &tally.foreign, 1000);
             println!("{:8} entries that 22 was not asked of", tally.unasked);
             assert!(tally.unasked >= 1000);
+            // 02, Wish 6: 5,500 and more of each; by byte 0 alone 1,700 and more. Also
+            // entries of packets of the other rule, with foreign facts.
+            tally.heads.often(&[0, 21, 22], 1000);
+            println!("{:8} entries of the other rule", tally.unruled);
+            assert!(tally.unruled >= 1000);
         }
         Err(found) => panic!("{settings}\n{found}"),
     }
@@ -62,26 +71,56 @@ fn random_deliveries() {
             often("an entry's delivery answers", &tally.entries, &answers, 100);
             println!("{:8} entries that 22 was not asked of", tally.unasked);
             assert!(tally.unasked >= 1000);
+            // 02, Wish 6: the rarest is 27 before 21, some 130 under each rule.
+            tally.heads.often(&[0, 21, 22, 23], 50);
+            assert!(tally.own[27] >= 5000);
+            println!("ties by each rule, not taken and taken: {:?}", tally.ties);
+            assert!(tally.ties.as_flattened().iter().all(|&times| times >= 1500));
+            println!("{:8} entries of the other rule", tally.unruled);
+            assert!(tally.unruled >= 1000);
         }
         Err(found) => panic!("{settings}\n{found}"),
     }
 }
 
-/// A full packet, and what is told of it with facts of its own and of others.
+/// A full packet, and what is told of it with facts of its own and of others. 02, Wish
+/// 6: in a group with the other rule its own are 27 and no messages; and with those of
+/// its own group it is taken there too, as byte 0 is not looked at again.
 #[test]
 fn a_full_packet() {
-    let packet = full();
-    let own = raw::accept(&packet);
-    assert_eq!(own, facts::by_model(&packet));
+    for rule in Rule::ALL {
+        full_packet(settings_of(rule), &full(rule));
+    }
+}
+
+fn full_packet(group: Group, packet: &[u8]) {
+    let own = raw::accept(group, packet);
+    assert_eq!(own, facts::by_model(group, packet));
     assert_eq!((own.number, own.count), (0, 7));
     for i in [0, 1, 6, 7, 8, usize::MAX] {
-        assert_eq!(raw::fetch_accepted(&packet, own, i), raw::fetch(&packet, i));
+        let fetched = raw::fetch(group, packet, i);
+        assert_eq!(raw::fetch_accepted(packet, own, i), fetched);
+    }
+    for rule in 0..=255 {
+        let other = Group { rule };
+        let by_other = raw::accept(other, packet);
+        assert_eq!(by_other, facts::by_model(other, packet));
+        if rule_of(other) == rule_of(group) {
+            assert_eq!(by_other, own);
+            continue;
+        }
+        assert_eq!((by_other.number, by_other.count), (27, 0));
+        for i in [0, 6, 7, usize::MAX] {
+            let fetched = raw::fetch_accepted(packet, by_other, i);
+            assert_eq!(fetched, raw::fetch(other, packet, i));
+            assert_eq!((fetched.number, fetched.at, fetched.len), (27, 0, 0));
+        }
     }
     let with = |number, count, i| {
         let facts = Accepted { number, count };
-        let fetched = raw::fetch_accepted(&packet, facts, i);
-        assert_eq!(fetched, fetched_of(&packet, facts, i));
-        (fetched.number, Told::of(&packet, facts, i))
+        let fetched = raw::fetch_accepted(packet, facts, i);
+        assert_eq!(fetched, fetched_of(packet, facts, i));
+        (fetched.number, Told::of(packet, facts, i))
     };
     assert_eq!(with(0, 6, 6), (23, Told::NoMessage));
     assert_eq!(with(21, 6, 6), (21, Told::Number));
@@ -127,28 +166,35 @@ fn bytes_at_the_end() {
 #[test]
 fn wrong_readers() {
     // The number of the facts is asked before their count.
-    fn number_first(packet: &[u8], facts: Accepted, i: usize) -> Fetched {
+    fn number_first(group: Group, packet: &[u8], facts: Accepted, i: usize) -> Fetched {
         match facts.number {
-            0 => accept::by_model(packet, facts, i),
+            0 => accept::by_model(group, packet, facts, i),
             _ => fetched_of(packet, Accepted { count: 0, ..facts }, i),
         }
     }
     // Facts of another packet are refused as its own would be.
-    fn asks_again(packet: &[u8], facts: Accepted, i: usize) -> Fetched {
-        match facts::by_model(packet) {
+    fn asks_again(group: Group, packet: &[u8], facts: Accepted, i: usize) -> Fetched {
+        match facts::by_model(group, packet) {
             own if own.number == 22 && i < facts.count.into() => fetched_of(packet, own, i),
-            _ => accept::by_model(packet, facts, i),
+            _ => accept::by_model(group, packet, facts, i),
+        }
+    }
+    // The same of its rule (02, Wish 6): byte 0 is looked at again.
+    fn asks_the_rule(group: Group, packet: &[u8], facts: Accepted, i: usize) -> Fetched {
+        match facts::by_model(group, packet) {
+            own if own.number == 27 && i < facts.count.into() => fetched_of(packet, own, i),
+            _ => accept::by_model(group, packet, facts, i),
         }
     }
     // The bytes of an entry are not looked at.
-    fn beyond(packet: &[u8], facts: Accepted, i: usize) -> Fetched {
-        let right = accept::by_model(packet, facts, i);
+    fn beyond(group: Group, packet: &[u8], facts: Accepted, i: usize) -> Fetched {
+        let right = accept::by_model(group, packet, facts, i);
         if Told::of(packet, facts, i) == Told::NoBytes {
             return Fetched { number: 0, ..right };
         }
         right
     }
-    for wrong in [number_first, asks_again, beyond] {
+    for wrong in [number_first, asks_again, asks_the_rule, beyond] {
         let side = Side {
             fetch: wrong,
             ..BY_MODEL
@@ -159,18 +205,43 @@ fn wrong_readers() {
         assert_ne!(found.shrunk.facts, None);
     }
     // Its own count is that of a refused packet too.
-    fn counts(packet: &[u8]) -> Accepted {
-        let right = facts::by_model(packet);
+    fn counts(group: Group, packet: &[u8]) -> Accepted {
+        let right = facts::by_model(group, packet);
         let count = packet.get(1).copied().unwrap_or(0);
         Accepted { count, ..right }
     }
-    let side = Side {
-        accept: counts,
-        ..BY_MODEL
-    };
-    let found = accept::compare(&Settings::USUAL, side).expect_err("a difference");
-    println!("{found}");
-    assert_eq!(found.shrunk.facts, None);
+    // 02, Wish 6: 27 is asked after 21; the same of 22; the rule is the packet's.
+    fn after_21(group: Group, packet: &[u8]) -> Accepted {
+        by_its_own(group, packet, &[21])
+    }
+    fn after_22(group: Group, packet: &[u8]) -> Accepted {
+        by_its_own(group, packet, &[22])
+    }
+    fn packets(group: Group, packet: &[u8]) -> Accepted {
+        by_its_own(group, packet, &[0, 21, 22])
+    }
+    for wrong in [counts, after_21, after_22, packets] {
+        let side = Side {
+            accept: wrong,
+            ..BY_MODEL
+        };
+        let found = accept::compare(&Settings::USUAL, side).expect_err("a difference");
+        println!("{found}");
+        assert!(found.shrunk.packet.len() <= 40);
+        assert_eq!(found.shrunk.facts, None);
+    }
+}
+
+/// In the place of 27 what a group with the packet's own rule has of it, if its number
+/// is one of these.
+fn by_its_own(group: Group, packet: &[u8], numbers: &[u8]) -> Accepted {
+    let right = facts::by_model(group, packet);
+    let rule = packet.first().copied().unwrap_or(0);
+    let own = facts::by_model(Group { rule }, packet);
+    match right.number == 27 && numbers.contains(&own.number) {
+        true => own,
+        false => right,
+    }
 }
 
 /// An arrival that is silent about a refused message, and one that tells what does
@@ -231,11 +302,19 @@ fn groups_in_one_pass() {
     let settings = Settings::from_env();
     match group::compare_in_packets(&settings, on_table) {
         Ok(tally) => {
+            let times = |name: &str| tally.get(name).copied().unwrap_or_default();
             for (name, floor) in IN_ONE_PASS {
-                let times = tally.get(&format!("one pass: {name}")).copied();
-                let times = times.unwrap_or(0);
-                println!("{times:8} {name}");
-                assert!(times >= floor, "{name}: only {times} times");
+                let [old, new] = times(&format!("one pass: {name}"));
+                println!("{old:8}{new:8} {name}");
+                assert!(old + new >= floor, "{name}: only {old} and {new} times");
+                assert!(old.min(new) >= floor / 4, "{name}: {old} and {new} times");
+            }
+            // 02, Wish 6: packets of a group with the other rule come too, and are
+            // refused; 666 were the fewest.
+            for name in ["Inv answers 27", "Ack answers 27", "Val answers 27"] {
+                let by_rule = times(name);
+                println!("{by_rule:?} {name}");
+                assert!(by_rule.iter().all(|&times| times >= 300), "{name}");
             }
         }
         Err(found) => panic!("{settings}\n{found}"),

@@ -1,5 +1,6 @@
 //! Deliveries out of packets, on memory of any kind, and in whole groups.
 
+use cetskobi::raw::Settings as Group;
 use compare::group::{self, by_packet};
 use compare::memory::Memory;
 use compare::packet::deliver::{by_model, compare, Case};
@@ -18,6 +19,12 @@ fn random_deliveries() {
             }
             println!("the last ACK at X, W, R: {:?}", tally.last);
             assert!(tally.last.iter().all(|&times| times >= 100));
+            // 02, Wish 6: the rarest are 27 before 21 and 20 by byte 0 alone.
+            tally.heads.often(&[0, 21, 22, 23], 100);
+            assert!(tally.answers[27] >= 10_000);
+            // Some 5,200 of each.
+            println!("ties by each rule, not taken and taken: {:?}", tally.ties);
+            assert!(tally.ties.as_flattened().iter().all(|&times| times >= 3000));
         }
         Err(found) => panic!("{settings}\n{found}"),
     }
@@ -35,8 +42,10 @@ fn groups_by_packet() {
                 ("given up: the last Ack, Valid", 120),
                 ("given up: a greater Inv, Invalid", 60),
             ] {
-                let times = tally.get(name).copied().unwrap_or(0);
+                let [old, new] = tally.get(name).copied().unwrap_or_default();
+                let times = old + new;
                 assert!(times >= floor, "{name}: only {times} times");
+                assert!(old.min(new) >= floor / 4, "{name}: {old} and {new} times");
             }
         }
         Err(found) => panic!("{settings}\n{found}"),
@@ -54,6 +63,42 @@ fn a_wrong_order_is_found() {
         outcome
     }
     let found = compare(&Settings::USUAL, wrong).expect_err("a difference");
+    println!("{found}");
+    assert_eq!(found.shrunk.lent.me.number, 16);
+}
+
+/// 02, Wish 6: a delivery that goes by the packet's rule, and not by the group's: it
+/// takes a packet of the other rule in. One that asks 27 after the questions of the
+/// delivery.
+#[test]
+fn wrong_rules_are_found() {
+    fn packets(case: &Case, memory: &mut Memory) -> Outcome {
+        let before = memory.clone();
+        let outcome = by_model(case, memory);
+        if outcome.number != 27 {
+            return outcome;
+        }
+        memory.clone_from(&before);
+        let mut other = case.clone();
+        let rule = case.packet[0];
+        other.lent.me.settings = Group { rule };
+        Outcome {
+            me: case.lent.me,
+            ..by_model(&other, memory)
+        }
+    }
+    let found = compare(&Settings::USUAL, packets).expect_err("a difference");
+    println!("{found}");
+    assert!(found.what.contains("number: 27"));
+
+    fn late(case: &Case, memory: &mut Memory) -> Outcome {
+        let mut outcome = by_model(case, memory);
+        if outcome.number == 27 && case.lent.me.number > 15 {
+            outcome.number = 1;
+        }
+        outcome
+    }
+    let found = compare(&Settings::USUAL, late).expect_err("a difference");
     println!("{found}");
     assert_eq!(found.shrunk.lent.me.number, 16);
 }

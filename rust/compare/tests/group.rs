@@ -1,10 +1,10 @@
 //! Random runs of whole groups, of 64 to 4,096 records.
 
 use compare::bytes::Bytes;
-use compare::group::{by_hand, compare, Entry, Group, Run, Tally, What};
+use compare::group::{by_hand, compare, Entry, Group, OnTable, Run, Tally, What};
 use compare::settings::Settings;
 use compare::single::{on_table, Case, Event, Outcome};
-use model::engine::{Record, State};
+use model::engine::{Record, Rule, State};
 
 /// What must have come about, each at least so many times.
 const OFTEN: u64 = 40;
@@ -99,15 +99,40 @@ const NEVER: [&str; 3] = [
     "given up: a greater Inv, InvalidWrite",
 ];
 
+/// Document 02, Wish 6: INVs that tie with the record, under each rule at least so many
+/// times.
+const TIES: [(&str, u64); 10] = [
+    ("a tie, not taken, at Valid", 150),
+    ("a tie, not taken, at Invalid", 700),
+    ("a tie, not taken, at InvalidWrite", 100),
+    ("a tie, not taken, at Write", 1200),
+    ("a tie, not taken, at Replay", 12),
+    ("a tie, taken, at Valid", 120),
+    ("a tie, taken, at Invalid", 500),
+    ("a tie, taken, at InvalidWrite", 60),
+    ("a tie, taken, at Write", 900),
+    ("a tie, taken, at Replay", 8),
+];
+
 fn often(tally: &Tally) {
-    for (name, times) in tally {
-        println!("{times:8} {name}");
+    for (name, [old, new]) in tally {
+        println!("{old:8}{new:8} {name}");
     }
+    let by_rule = |name| tally.get(name).copied().unwrap_or_default();
     let names = NAMES.map(|name| (name, OFTEN)).into_iter();
     for (name, floor) in names.chain(MANY).chain(SAVES) {
-        let times = tally.get(name).copied().unwrap_or(0);
+        let [old, new] = by_rule(name);
+        let times = old + new;
         assert!(times >= floor, "{name}: only {times} times");
+        // Under each rule, of which half of the groups have each.
+        assert!(old.min(new) >= floor / 4, "{name}: {old} and {new} times");
     }
+    for (name, floor) in TIES {
+        let [old, new] = by_rule(name);
+        assert!(old.min(new) >= floor, "{name}: only {old} and {new} times");
+    }
+    let [old, new] = by_rule("runs");
+    assert!(old.abs_diff(new) <= (old + new) / 8, "{old} and {new} runs");
     for name in NEVER {
         assert_eq!(tally.get(name), None, "{name}");
     }
@@ -181,7 +206,7 @@ fn a_commit_on_the_version_alone_is_found() {
     }
     let found = compare(&Settings::USUAL, by_hand, wrong).expect_err("a difference");
     println!("{found}");
-    assert!(found.shrunk.entries.len() <= 12);
+    assert!(found.shrunk.entries.len() <= 16);
     assert_eq!(found.shrunk.records, 1);
     let last = found.shrunk.entries.last().map(|entry| &entry.what);
     let event = match last {
@@ -206,7 +231,12 @@ fn play(group: &mut Group, entries: &[(usize, What, usize)]) -> Result<(), Strin
 
 /// Laptops 0, 1 and 2 with one record each, all in the view, as they start.
 fn three() -> Group {
+    three_by(Rule::Higher)
+}
+
+fn three_by(rule: Rule) -> Group {
     let run = Run {
+        rule,
         numbers: vec![0, 1, 2],
         view: 7,
         records: 1,
@@ -257,6 +287,7 @@ fn the_check_of_agreement_can_fail() {
 /// 0 has written, and a forged acknowledgement of 2's is under way as post 0.
 fn forged(numbers: Vec<u8>, view: u16) -> Group {
     let run = Run {
+        rule: Rule::Lower,
         numbers,
         view,
         records: 1,
@@ -391,13 +422,187 @@ fn a_record_hung_after_two_saves() {
     }
 }
 
+/// The same by the new rule: 0's save has the greater stamp, and 0 dies.
+#[test]
+fn a_record_hung_after_two_saves_by_the_new_rule() {
+    let mut group = three_by(Rule::Lower);
+    let own = |event| What::Own { i: 0, event };
+    let write = |text: &[u8]| {
+        own(Event::Write {
+            value: Bytes(text.to_vec()),
+        })
+    };
+    let view = || own(Event::View { epoch: 1, set: 6 });
+    let entries = [
+        (2, write(b"lesser"), 0),
+        (0, write(b"greater"), 1),
+        (1, What::Deliver { of: 0 }, 2),
+        (2, What::Deliver { of: 2 }, 3),
+        (2, What::Deliver { of: 1 }, 4),
+        // Refused: 0 is in the view.
+        (2, own(Event::Replay), 5),
+        (2, view(), 6),
+        (1, view(), 7),
+        (2, own(Event::Replay), 8),
+        (1, What::Deliver { of: 8 }, 9),
+        (2, What::Deliver { of: 9 }, 10),
+        (1, What::Deliver { of: 10 }, 11),
+    ];
+    assert_eq!(play(&mut group, &entries), Ok(()));
+    let posts: Vec<usize> = group.posts.keys().copied().collect();
+    assert_eq!(posts, [0, 1, 2, 4, 8, 9, 10]);
+    for at in [1, 2] {
+        assert_eq!(shows(&group, at, b"greater"), (0, (1, 0)));
+    }
+}
+
+/// Document 02, Wish 6: two laptops save at once. All show the higher number's text by
+/// the old rule, and the lower number's by the new, in whichever order they hear.
+#[test]
+fn two_saves_at_once() {
+    for (rule, winner, loser) in [(Rule::Higher, 2, 0), (Rule::Lower, 0, 2)] {
+        for first in [0, 2] {
+            let mut group = three_by(rule);
+            let write = |text: &[u8]| What::Own {
+                i: 0,
+                event: Event::Write {
+                    value: Bytes(text.to_vec()),
+                },
+            };
+            let entries = [
+                (winner, write(b"stands"), winner),
+                (loser, write(b"yields"), loser),
+                (1, What::Deliver { of: first }, 3),
+                (1, What::Deliver { of: 2 - first }, 4),
+                (loser, What::Deliver { of: winner }, 5),
+                (winner, What::Deliver { of: loser }, 6),
+            ];
+            assert_eq!(play(&mut group, &entries), Ok(()));
+            let tie = winner as u8;
+            assert_eq!(shows(&group, 1, b"stands"), (1, (1, tie)));
+            assert_eq!(shows(&group, loser, b"stands"), (2, (1, tie)));
+            assert_eq!(shows(&group, winner, b"stands"), (3, (1, tie)));
+            // 1's acknowledgement of the winner's, and the loser's.
+            let of_1 = if first == winner { 3 } else { 4 };
+            let entries = [
+                (winner, What::Deliver { of: of_1 }, 7),
+                (winner, What::Deliver { of: 5 }, 8),
+                (1, What::Deliver { of: 8 }, 9),
+                (loser, What::Deliver { of: 8 }, 10),
+            ];
+            assert_eq!(play(&mut group, &entries), Ok(()));
+            for at in 0..3 {
+                assert_eq!(shows(&group, at, b"stands"), (0, (1, tie)), "{rule:?}");
+            }
+        }
+    }
+}
+
+/// A packet of a group with the other rule: refused by 27, and nothing moves.
+#[test]
+fn a_packet_of_the_other_rule() {
+    for rule in Rule::ALL {
+        let mut group = three_by(rule);
+        let value = Bytes(b"ring".to_vec());
+        let event = Event::Write { value };
+        let write = [(0, What::Own { i: 0, event }, 0)];
+        assert_eq!(play(&mut group, &write), Ok(()));
+        let mut tally = Tally::new();
+        for accepted in [false, true] {
+            let what = What::OtherRule { of: 0, accepted };
+            let entry = Entry { id: 1, at: 1, what };
+            assert_eq!(group.play(&entry, &mut tally), Ok(()));
+        }
+        let refused = tally.get("Inv answers 27").copied().unwrap_or_default();
+        assert_eq!(refused[rule as usize], 2);
+        assert_eq!(shows(&group, 1, b""), (0, (0, 0)));
+        assert_eq!(play(&mut group, &[(1, What::Deliver { of: 0 }, 2)]), Ok(()));
+        assert_eq!(shows(&group, 1, b"ring"), (1, (1, 0)));
+    }
+}
+
+/// A model that ignores the rule is found by a group, the old rule's and the new
+/// one's; and so is one that turns the rule round at a view.
+#[test]
+fn a_wrong_rule_is_found() {
+    // Of this rule whatever the group has.
+    fn by(rule: u8, case: &Case, table: &mut [Record], store: &mut [u8]) -> Outcome {
+        let mut other = case.clone();
+        other.me.settings.rule = rule;
+        let outcome = on_table(&other, table, store);
+        let mut me = outcome.me;
+        me.settings = case.me.settings;
+        Outcome { me, ..outcome }
+    }
+    fn always_higher(case: &Case, table: &mut [Record], store: &mut [u8]) -> Outcome {
+        by(1, case, table, store)
+    }
+    fn always_lower(case: &Case, table: &mut [Record], store: &mut [u8]) -> Outcome {
+        by(2, case, table, store)
+    }
+    for (wrong, rule) in [
+        (always_higher as OnTable, Rule::Lower),
+        (always_lower, Rule::Higher),
+    ] {
+        let found = compare(&Settings::USUAL, by_hand, wrong).expect_err("a difference");
+        println!("{found}");
+        // Two saves, and one of them delivered to the other's laptop; or both to a third.
+        assert_eq!(found.shrunk.rule, rule);
+        assert!(found.shrunk.entries.len() <= 4);
+    }
+
+    fn turns(case: &Case, table: &mut [Record], store: &mut [u8]) -> Outcome {
+        let mut outcome = on_table(case, table, store);
+        if matches!(case.event, Event::View { .. }) && outcome.number == 0 {
+            outcome.me.settings.rule = 3 - outcome.me.settings.rule;
+        }
+        outcome
+    }
+    let found = compare(&Settings::USUAL, by_hand, turns).expect_err("a difference");
+    println!("{found}");
+    assert_eq!(found.shrunk.entries.len(), 1);
+}
+
+/// Against the premises the laptops of a group have different rules: the check of
+/// agreement sees that they show different texts.
+#[test]
+fn one_group_has_one_rule() {
+    let mut group = three();
+    let own = |event| What::Own { i: 0, event };
+    let write = |text: &[u8]| {
+        own(Event::Write {
+            value: Bytes(text.to_vec()),
+        })
+    };
+    // 0 goes by the new rule, so both savers take their own for the winner.
+    group.members[0].me.settings.rule = 2;
+    let entries = [
+        (0, write(b"lower"), 0),
+        (2, write(b"higher"), 1),
+        (1, What::Deliver { of: 0 }, 2),
+        (2, What::Deliver { of: 0 }, 3),
+        (0, What::Deliver { of: 2 }, 4),
+        // 0 is finished, and shows its own.
+        (0, What::Deliver { of: 3 }, 5),
+        (0, What::Deliver { of: 1 }, 6),
+        (1, What::Deliver { of: 1 }, 7),
+        (2, What::Deliver { of: 6 }, 8),
+    ];
+    assert_eq!(play(&mut group, &entries), Ok(()));
+    assert_eq!(shows(&group, 0, b"lower"), (0, (1, 0)));
+    // And so is 2.
+    let last = [(2, What::Deliver { of: 7 }, 9)];
+    let broken = play(&mut group, &last).expect_err("0 and 2 differ");
+    assert!(broken.contains("shows"), "{broken}");
+}
+
 /// Document 02, Wish 5: what the laptop at this place was handed out of record 0.
 fn asked(group: &mut Group, at: usize, id: usize) -> (u32, u8) {
     let event = Event::Ask;
     let ask = [(at, What::Own { i: 0, event }, id)];
     assert_eq!(play(group, &ask), Ok(()));
     let stamps = group.members[at].opened[0].stamps();
-    let last = stamps.max().expect("it is valid");
+    let last = stamps.last().expect("it is valid");
     (last.version, last.tie)
 }
 

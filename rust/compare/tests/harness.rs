@@ -1,13 +1,14 @@
 //! The comparison can fail: wrong models are found, and the case that shows it
 //! is small.
 
-use cetskobi::raw::RECORD_BYTES;
+use cetskobi::raw::{Message, Settings as Group, RECORD_BYTES};
 use compare::bytes::Bytes;
-use compare::crossing::Fields;
+use compare::crossing::{rule_of, Fields};
 use compare::memory::Memory;
 use compare::settings::Settings;
 use compare::shrink::{drops, less, shrink, Smaller};
 use compare::single::{by_model, compare, Case, Event, Kind, Outcome, Play};
+use model::engine::Rule;
 
 /// What a difference is printed with runs its case again: with the seed alone
 /// it may lie beyond the usual count.
@@ -448,6 +449,239 @@ fn an_ask_of_an_invalid_record_is_taken() {
         outcome
     }
     assert_eq!(ask_by(wrong).state, 1);
+}
+
+// Document 02, Wish 6: wrong rules of ties. Packets have theirs in `fetch`, `pack`,
+// `accept` and `deliver_packet`.
+
+/// A delivery goes by this byte of the rule.
+fn by_rule(case: &Case, memory: &mut Memory, rule: u8) -> Outcome {
+    let Event::Deliver { .. } = case.event else {
+        return by_model(case, memory);
+    };
+    let mut other = case.clone();
+    other.me.settings = Group { rule };
+    let me = case.me;
+    Outcome {
+        me,
+        ..by_model(&other, memory)
+    }
+}
+
+/// An INV that ties, by the wrong models below: the byte of the rule, and the two
+/// tie-breakers.
+fn tie_by(wrong: Play) -> (u8, u8, u8) {
+    let case = caught(wrong);
+    one_record(&case);
+    let Event::Deliver { message, .. } = &case.event else {
+        panic!("{case:?}");
+    };
+    assert_eq!((message.kind, message.version), (1, case.record.version));
+    (case.me.settings.rule, message.tie, case.record.tie)
+}
+
+#[test]
+fn the_rule_is_ignored() {
+    let (rule, inv, held) = tie_by(|case, memory| by_rule(case, memory, 1));
+    assert_eq!((rule, inv.abs_diff(held)), (2, 1));
+    let (rule, inv, held) = tie_by(|case, memory| by_rule(case, memory, 2));
+    assert_eq!((rule, inv.abs_diff(held)), (0, 1));
+}
+
+/// Some other byte is taken for the new rule: 0, any above 2, or any that is even.
+#[test]
+fn a_byte_is_the_wrong_rule() {
+    let (rule, ..) = tie_by(|case, memory| match case.me.settings.rule {
+        0 => by_rule(case, memory, 2),
+        _ => by_model(case, memory),
+    });
+    assert_eq!(rule, 0);
+    let (rule, ..) = tie_by(|case, memory| match case.me.settings.rule {
+        3.. => by_rule(case, memory, 2),
+        _ => by_model(case, memory),
+    });
+    assert_eq!(rule, 3);
+    let (rule, ..) = tie_by(|case, memory| match case.me.settings.rule {
+        byte if byte > 2 && byte % 2 == 0 => by_rule(case, memory, 2),
+        _ => by_model(case, memory),
+    });
+    assert_eq!(rule, 4);
+    // One byte alone.
+    let (rule, ..) = tie_by(|case, memory| match case.me.settings.rule {
+        0x82 => by_rule(case, memory, 2),
+        _ => by_model(case, memory),
+    });
+    assert_eq!(rule, 0x82);
+}
+
+/// An accepted INV by another order: taken where `later` says so of its stamp, the
+/// record's and the rule.
+fn ordered(
+    case: &Case,
+    memory: &mut Memory,
+    later: fn((u32, u8), (u32, u8), Rule) -> bool,
+) -> Outcome {
+    let before = memory.clone();
+    let outcome = by_model(case, memory);
+    let Event::Deliver { message, value } = &case.event else {
+        return outcome;
+    };
+    if outcome.number != 0 || message.kind != 1 {
+        return outcome;
+    }
+    memory.clone_from(&before);
+    let Message {
+        version,
+        tie,
+        sender,
+        ..
+    } = *message;
+    let held = case.record;
+    if later((version, tie), held.stamp(), rule_of(case.me.settings)) {
+        let writing = matches!(held.state, 2 | 3);
+        let taken = Fields {
+            state: if writing { 2 } else { 1 },
+            version,
+            tie,
+            writer: sender,
+            len: value.len() as u8,
+            ..held
+        };
+        memory.put_record(case.i, &taken);
+        let mut slot = [0; 192];
+        slot[..value.len()].copy_from_slice(value);
+        memory.put_slot(case.i, &slot);
+    }
+    outcome
+}
+
+/// The new rule compares versions the other way too.
+#[test]
+fn the_lower_version_wins() {
+    let case = caught(|case, memory| {
+        ordered(case, memory, |inv, held, rule| match rule {
+            Rule::Higher => inv > held,
+            Rule::Lower => inv < held,
+        })
+    });
+    one_record(&case);
+    assert_eq!(case.me.settings.rule, 2);
+    let Event::Deliver { message, .. } = &case.event else {
+        panic!("{case:?}");
+    };
+    assert_eq!(message.version.abs_diff(case.record.version), 1);
+}
+
+/// Ties are won by equal numbers, under the new rule alone.
+#[test]
+fn equal_numbers_win() {
+    let (rule, inv, held) = tie_by(|case, memory| {
+        ordered(case, memory, |inv, held, rule| match rule {
+            Rule::Higher => inv > held,
+            Rule::Lower => inv.0 > held.0 || inv.0 == held.0 && inv.1 <= held.1,
+        })
+    });
+    assert_eq!((rule, inv, held), (2, 0, 0));
+}
+
+/// The rule of a start or a view by the wrong models: the case.
+fn admission_by(wrong: Play, kind: Kind) -> Case {
+    let case = caught(wrong);
+    assert_eq!(case.kind(), kind);
+    case
+}
+
+/// A rule that turns round at a view; one that a view sets back to the old; one that it
+/// does not name.
+#[test]
+fn a_view_changes_the_rule() {
+    // What this makes of the rule that an accepted view gives.
+    fn after(case: &Case, memory: &mut Memory, made: fn(&Case, u8) -> u8) -> Outcome {
+        let mut outcome = by_model(case, memory);
+        if case.kind() == Kind::View && outcome.number == 0 {
+            outcome.me.settings.rule = made(case, outcome.me.settings.rule);
+        }
+        outcome
+    }
+    let turned = |case: &Case, memory: &mut Memory| after(case, memory, |_, rule| 3 - rule);
+    let case = admission_by(turned, Kind::View);
+    assert_eq!(case.me.settings.rule, 0);
+    let reset = |case: &Case, memory: &mut Memory| after(case, memory, |_, _| 1);
+    let case = admission_by(reset, Kind::View);
+    assert_eq!(case.me.settings.rule, 2);
+    let unnamed =
+        |case: &Case, memory: &mut Memory| after(case, memory, |case, _| case.me.settings.rule);
+    let case = admission_by(unnamed, Kind::View);
+    assert_eq!(case.me.settings.rule, 0);
+}
+
+/// A refused view names the rule, and does not give the byte back.
+#[test]
+fn a_refused_view_names_the_rule() {
+    let case = admission_by(
+        |case, memory| {
+            let mut outcome = by_model(case, memory);
+            if case.kind() == Kind::View && outcome.number != 0 && outcome.me.settings.rule != 2 {
+                outcome.me.settings.rule = 1;
+            }
+            outcome
+        },
+        Kind::View,
+    );
+    assert_eq!(case.me.settings.rule, 0);
+}
+
+/// A start that always has the old rule; one that keeps the byte, accepted and refused.
+#[test]
+fn a_start_has_another_rule() {
+    let old = |case: &Case, memory: &mut Memory| {
+        let mut outcome = by_model(case, memory);
+        if case.kind() == Kind::Start {
+            outcome.me.settings.rule = 1;
+        }
+        outcome
+    };
+    let case = admission_by(old, Kind::Start);
+    assert_eq!(case.me.settings.rule, 2);
+    fn kept(case: &Case, memory: &mut Memory, refused: bool) -> Outcome {
+        let mut outcome = by_model(case, memory);
+        if case.kind() == Kind::Start && (outcome.number != 0) == refused {
+            outcome.me.settings = case.me.settings;
+        }
+        outcome
+    }
+    for kept in [
+        (|case, memory| kept(case, memory, false)) as Play,
+        |case, memory| kept(case, memory, true),
+    ] {
+        let case = admission_by(kept, Kind::Start);
+        assert_eq!(case.me.settings.rule, 0);
+    }
+}
+
+/// By the new rule a fresh record has the highest number of the view.
+#[test]
+fn a_start_has_the_highest_number() {
+    let case = admission_by(
+        |case, memory| {
+            let outcome = by_model(case, memory);
+            let started = case.kind() == Kind::Start && outcome.number == 0;
+            if started && rule_of(case.me.settings) == Rule::Lower {
+                let highest = 15 - case.me.view.leading_zeros() as u8;
+                for i in 0..memory.table().len() / RECORD_BYTES {
+                    let Some(mut record) = memory.record(i) else {
+                        continue;
+                    };
+                    (record.tie, record.writer, record.written_tie) = (highest, highest, highest);
+                    memory.put_record(i, &record);
+                }
+            }
+            outcome
+        },
+        Kind::Start,
+    );
+    one_record(&case);
+    assert_eq!(case.me.settings.rule, 2);
 }
 
 #[test]

@@ -2,10 +2,14 @@
 
 use std::ptr::{null, null_mut};
 
-use cetskobi::sys::{self, Accepted, Answer, Message, Replica, GONE};
+use cetskobi::sys::{self, Accepted, Answer, Message, Replica, Settings, GONE};
+
+/// Of a group with the new rule of ties (02, Wish 6).
+const GROUP: Settings = Settings { rule: 2 };
 
 const ME: Replica = Replica {
     number: 0,
+    settings: GROUP,
     view: 3,
     epoch: 0,
 };
@@ -19,7 +23,7 @@ const INV: Message = Message {
 };
 
 /// The same in a packet, for record 0, with no bytes.
-const PACKET: [u8; 20] = [1, 1, 0, 20, 1, 1, 0, 0, 0, 0, 0, 0, 0, 0, 0, 1, 1, 0, 20, 0];
+const PACKET: [u8; 20] = [2, 1, 0, 20, 1, 1, 0, 0, 0, 0, 0, 0, 0, 0, 0, 1, 1, 0, 20, 0];
 
 fn sent(kind: u8, version: u32, tie: u8) -> Answer {
     Answer {
@@ -34,7 +38,7 @@ fn sent(kind: u8, version: u32, tie: u8) -> Answer {
 fn no_memory() {
     let (t, s) = (null_mut(), null_mut());
     unsafe {
-        assert_eq!(sys::cetskobi_start(0, 3, t, 0, s, 0).number, 2);
+        assert_eq!(sys::cetskobi_start(0, 3, GROUP, t, 0, s, 0).number, 2);
         assert_eq!(sys::cetskobi_read(ME, t, 0, s, 0, 0).number, 2);
         assert_eq!(sys::cetskobi_write(ME, t, 0, s, 0, 0, null(), 0).number, 2);
         let asked = sys::cetskobi_ask(ME, t, 0, s, 0, 0);
@@ -50,7 +54,7 @@ fn no_memory() {
         let packet = PACKET.as_ptr();
         let delivered = sys::cetskobi_deliver_packet(ME, t, 0, s, 0, packet, 20, 0);
         assert_eq!(delivered.number, 2);
-        let all = sys::cetskobi_accept(packet, 20);
+        let all = sys::cetskobi_accept(GROUP, packet, 20);
         let arrival = sys::cetskobi_deliver_accepted(ME, t, 0, s, 0, packet, 20, all, 0);
         assert_eq!((arrival.answer.number, arrival.sender), (2, 1));
         for kind in 0..5 {
@@ -112,11 +116,11 @@ fn a_message_without_bytes() {
 fn no_packet_no_script() {
     let mut out = [7; 2];
     unsafe {
-        assert_eq!(sys::cetskobi_fetch(null(), 0, 0).number, 20);
+        assert_eq!(sys::cetskobi_fetch(GROUP, null(), 0, 0).number, 20);
         let (t, s) = (null_mut(), null_mut());
         let delivered = sys::cetskobi_deliver_packet(ME, t, 0, s, 0, null(), 0, 0);
         assert_eq!(delivered.number, 20);
-        let all = sys::cetskobi_accept(null(), 0);
+        let all = sys::cetskobi_accept(GROUP, null(), 0);
         assert_eq!((all.number, all.count), (20, 0));
         // With its own facts, and with others.
         for (number, count, answer) in [(20, 0, 20), (0, 0, 23), (0, 1, 21), (9, 255, 21)] {
@@ -126,7 +130,7 @@ fn no_packet_no_script() {
             let arrival = sys::cetskobi_deliver_accepted(ME, t, 0, s, 0, null(), 0, all, 0);
             assert_eq!((arrival.answer.number, arrival.index), (answer, 0));
         }
-        let packed = sys::cetskobi_pack(null(), 0, null(), 0, null_mut(), 0);
+        let packed = sys::cetskobi_pack(GROUP, null(), 0, null(), 0, null_mut(), 0);
         assert_eq!(packed.number, 24);
         let played = sys::cetskobi_play(null(), 0, out.as_mut_ptr(), 2);
         assert_eq!((played.number, played.len, &out), (0, 2, b"?\n"));

@@ -5,15 +5,17 @@
 use std::ffi::{c_int, c_void};
 use std::slice;
 
-use cetskobi::raw::{self, Accepted, Answer, Arrival, Replica};
+use cetskobi::raw::{self, Accepted, Answer, Arrival, Replica, Settings as Group};
 use compare::bytes::Bytes;
+use compare::crossing::settings_of;
 use compare::memory::Memory;
 use compare::packet::arrive;
 use compare::packet::deliver;
 use compare::packet::facts::{self, fetched_of, some_facts, some_index, Told};
-use compare::packet::{damage, fetch, some_packet};
+use compare::packet::{damage, fetch, some_packet, some_rule_for};
 use compare::settings::Settings;
 use compare::single;
+use model::engine::Rule;
 use model::rng::Rng;
 
 const PAGE: usize = 4096;
@@ -56,27 +58,33 @@ impl Fenced {
 /// How often each answer came.
 #[derive(Default)]
 struct Tally {
-    own: [u64; 26],
+    own: [u64; 28],
     foreign: [u64; 5],
     /// Values that were taken from a packet.
     taken: u64,
 }
 
-/// Every function that reads a packet, on this one.
-fn look(tally: &mut Tally, rng: &mut Rng, page: &mut Fenced, bytes: &[u8], whole: &[u8]) {
-    let own = facts::by_model(bytes);
+/// Every function that reads a packet, on this one, in a group with these settings.
+fn look(
+    tally: &mut Tally,
+    rng: &mut Rng,
+    page: &mut Fenced,
+    group: Group,
+    (bytes, whole): (&[u8], &[u8]),
+) {
+    let own = facts::by_model(group, bytes);
     for end in [true, false] {
         let packet = page.put(bytes, end);
-        assert_eq!(raw::accept(packet), own);
+        assert_eq!(raw::accept(group, packet), own);
         for _ in 0..3 {
-            let foreign = some_facts(rng, packet, whole);
+            let foreign = some_facts(rng, group, packet, whole);
             let i = some_index(rng, packet, foreign);
             for facts in [own, foreign] {
                 let fetched = raw::fetch_accepted(packet, facts, i);
                 assert_eq!(fetched, fetched_of(bytes, facts, i));
-                taken(tally, packet, facts, i);
+                taken(tally, group, packet, facts, i);
                 if facts == own {
-                    assert_eq!(raw::fetch(packet, i), fetched);
+                    assert_eq!(raw::fetch(group, packet, i), fetched);
                     tally.own[usize::from(fetched.number)] += 1;
                 } else {
                     tally.foreign[Told::of(bytes, facts, i) as usize] += 1;
@@ -87,10 +95,11 @@ fn look(tally: &mut Tally, rng: &mut Rng, page: &mut Fenced, bytes: &[u8], whole
 }
 
 /// The message is delivered to a laptop that takes it, if it can be taken.
-fn taken(tally: &mut Tally, packet: &[u8], facts: Accepted, i: usize) {
+fn taken(tally: &mut Tally, group: Group, packet: &[u8], facts: Accepted, i: usize) {
     let fetched = raw::fetch_accepted(packet, facts, i);
     let me = Replica {
         number: if fetched.sender == 2 { 3 } else { 2 },
+        settings: group,
         view: u16::MAX,
         epoch: fetched.epoch,
     };
@@ -131,19 +140,24 @@ fn pages_that_may_not_be_read() {
     let mut page = Fenced::new();
     let mut tally = Tally::default();
     for _ in 0..20_000 * settings.times {
-        let whole = some_packet(&mut rng);
+        let group = single::some_settings(&mut rng);
+        let rule = some_rule_for(&mut rng, group, 1, 6);
+        let whole = some_packet(&mut rng, rule);
         let mut packet = whole.clone();
         for _ in 0..rng.below(3) {
             damage(&mut rng, &mut packet);
         }
-        look(&mut tally, &mut rng, &mut page, &packet, &whole);
+        look(&mut tally, &mut rng, &mut page, group, (&packet, &whole));
     }
     // Every length, to the last byte of each.
-    let full = fetch::full();
-    for len in 0..full.len() {
-        look(&mut tally, &mut rng, &mut page, &full[..len], &full);
+    for rule in Rule::ALL {
+        let (group, full) = (settings_of(rule), fetch::full(rule));
+        for len in 0..full.len() {
+            let packet = (&full[..len], &full[..]);
+            look(&mut tally, &mut rng, &mut page, group, packet);
+        }
     }
-    for answer in [0, 20, 21, 22, 23] {
+    for answer in [0, 20, 21, 22, 23, 27] {
         let times = tally.own[answer];
         println!("{times:8} answers {answer}");
         assert!(times >= 100, "{answer}: only {times} times");

@@ -1,9 +1,10 @@
 //! The rows of document 01, "From the ringing table", and of document 02's Wishes
-//! 1, 2 and 5, the last acknowledgement, the record hung after two saves and the
-//! record that is asked for and saved, one by one, in the engine and in the model. The rows of packets stand in `fetch` and
-//! `pack`.
+//! 1, 2, 5 and 6, the last acknowledgement, the record hung after two saves, the
+//! record that is asked for and saved, and ties that go to the lower number, one by
+//! one, in the engine and in the model. Document 01's keep the old rule of ties. The
+//! rows of packets stand in `fetch` and `pack`.
 
-use cetskobi::raw::{Message, Replica};
+use cetskobi::raw::{Message, Replica, Settings};
 use compare::bytes::Bytes;
 use compare::crossing::Fields;
 use compare::memory::Memory;
@@ -68,14 +69,25 @@ struct Laptop {
     model: Memory,
 }
 
+/// The byte of a rule: the old one, by which ties go to the higher number, and the
+/// new, by which they go to the lower.
+const HIGHER: u8 = 1;
+const LOWER: u8 = 2;
+
 impl Laptop {
     /// Laptop 2, view {1,2,5}, in memory that was not clean before.
     fn lent(count: usize) -> Laptop {
+        Laptop::lent_by(HIGHER, count)
+    }
+
+    /// The same in a group with this rule.
+    fn lent_by(rule: u8, count: usize) -> Laptop {
         let mut engine = Memory::default();
         engine.lay(&vec![OLD; 16 * count], &vec![0xee; 192 * count]);
         Laptop {
             me: Replica {
                 number: 2,
+                settings: Settings { rule },
                 view: set(&[1, 2, 5]),
                 epoch: 0,
             },
@@ -85,13 +97,21 @@ impl Laptop {
     }
 
     fn fresh() -> Laptop {
-        let mut laptop = Laptop::lent(1);
+        Laptop::fresh_by(HIGHER)
+    }
+
+    fn fresh_by(rule: u8) -> Laptop {
+        let mut laptop = Laptop::lent_by(rule, 1);
         assert_eq!(laptop.play(0, Event::Start), DONE);
         laptop
     }
 
     fn written() -> Laptop {
-        let mut laptop = Laptop::fresh();
+        Laptop::written_by(HIGHER)
+    }
+
+    fn written_by(rule: u8) -> Laptop {
+        let mut laptop = Laptop::fresh_by(rule);
         assert_eq!(laptop.write(0, b"A1"), sent(INV, 1, 2));
         laptop
     }
@@ -613,4 +633,181 @@ fn records_4095_and_4096() {
     assert_eq!(laptop.play(0, Event::Start), DONE);
     let fresh = record(VALID, (0, 1), 1, (0, 1), 0, 0);
     assert_eq!(laptop.engine.record(4095), Some(fresh));
+}
+
+/// Document 02, Wish 6: under both rules a fresh record has the lowest number in the
+/// view. The start names the rule, whatever byte is passed; also a refused one.
+#[test]
+fn a_start_by_each_rule() {
+    for (byte, named) in [(1, 1), (2, 2), (0, 1), (3, 1), (128, 1), (255, 1)] {
+        let laptop = Laptop::fresh_by(byte);
+        assert_eq!(laptop.record(), record(VALID, (0, 1), 1, (0, 1), 0, 0));
+        assert_eq!(laptop.me.settings, Settings { rule: named });
+
+        for (number, count, answer) in [(16, 1, 1), (2, 0, 2), (0, 1, 3)] {
+            let mut laptop = Laptop::lent_by(byte, count);
+            laptop.me.number = number;
+            laptop.me.epoch = 7;
+            let asked_for = Replica {
+                settings: Settings { rule: named },
+                epoch: 0,
+                ..laptop.me
+            };
+            let refused = laptop.outcome(0, Event::Start);
+            assert_eq!((refused.number, refused.me), (answer, asked_for));
+        }
+    }
+}
+
+/// A view keeps the rule, and names it; a refused one gives the byte back.
+#[test]
+fn a_view_by_each_rule() {
+    for (byte, named) in [(1, 1), (2, 2), (0, 1), (3, 1), (128, 1), (255, 1)] {
+        let mut laptop = Laptop::fresh_by(byte);
+        laptop.me.settings.rule = byte;
+        for (epoch, numbers, answer) in [(0, &[1, 2][..], 18), (1, &[1], 19), (1, &[1, 3], 19)] {
+            assert_eq!(laptop.view(epoch, numbers), refused(answer));
+            assert_eq!(laptop.me.settings, Settings { rule: byte });
+        }
+        assert_eq!(laptop.view(1, &[1, 2]), DONE);
+        assert_eq!(laptop.me.settings, Settings { rule: named });
+        // And from then on.
+        assert_eq!(laptop.view(3, &[1, 2]), DONE);
+        assert_eq!(laptop.view(3, &[1, 2]), refused(18));
+        assert_eq!(laptop.me.settings, Settings { rule: named });
+    }
+}
+
+/// The same INVs find 2's own save (1,2), and the valid record that it becomes.
+#[test]
+fn ties_by_each_rule() {
+    const TAKEN: bool = true;
+    const LEFT: bool = false;
+    // Byte of the rule, tie-breaker of the INV.
+    let ties = [
+        (HIGHER, 5, TAKEN),
+        (HIGHER, 1, LEFT),
+        (LOWER, 5, LEFT),
+        (LOWER, 1, TAKEN),
+        (LOWER, 0, TAKEN),
+        (LOWER, 15, LEFT),
+        (HIGHER, 0, LEFT),
+        (HIGHER, 15, TAKEN),
+        // Every byte is a rule, but for 2 the old one.
+        (0, 5, TAKEN),
+        (0, 1, LEFT),
+        (3, 5, TAKEN),
+        (3, 1, LEFT),
+        (255, 5, TAKEN),
+        (255, 1, LEFT),
+        // An equal stamp is not greater.
+        (HIGHER, 2, LEFT),
+        (LOWER, 2, LEFT),
+    ];
+    for (rule, tie, taken) in ties {
+        let what = format!("rule {rule}, tie-breaker {tie}");
+        // 5 sends them, its own or another's that it replays.
+        let mut laptop = Laptop::written_by(rule);
+        laptop.me.settings.rule = rule;
+        assert_eq!(laptop.deliver(5, (INV, 1, tie), b"B"), sent(ACK, 1, tie));
+        let overtaken = record(INVALID_WRITE, (1, tie), 5, (1, 2), 0, 1);
+        let after = if taken { overtaken } else { WRITTEN };
+        assert_eq!(laptop.record(), after, "{what}");
+        let text: &[u8] = if taken { b"B\0" } else { b"A1" };
+        assert_eq!(laptop.engine.store()[..2], *text, "{what}");
+
+        let mut laptop = Laptop::written_by(rule);
+        laptop.me.settings.rule = rule;
+        assert_eq!(laptop.deliver(5, (ACK, 1, 2), b""), DONE);
+        assert_eq!(laptop.deliver(1, (ACK, 1, 2), b""), sent(VAL, 1, 2));
+        let settled = laptop.record();
+        assert_eq!(laptop.deliver(5, (INV, 1, tie), b"B"), sent(ACK, 1, tie));
+        let invalid = record(INVALID, (1, tie), 5, (1, 2), set(&[1, 5]), 1);
+        let after = if taken { invalid } else { settled };
+        assert_eq!(laptop.record(), after, "{what}");
+    }
+}
+
+/// Versions that differ are compared alike under both rules.
+#[test]
+fn versions_by_each_rule() {
+    for rule in [HIGHER, LOWER] {
+        for (stamp, taken) in [
+            ((2, 0), true),
+            ((2, 5), true),
+            ((2, 15), true),
+            ((4_294_967_295, 15), true),
+            ((257, 5), true),
+            ((0, 0), false),
+            ((0, 1), false),
+            ((0, 15), false),
+        ] {
+            let mut laptop = Laptop::written_by(rule);
+            let (version, tie) = stamp;
+            let inv = (INV, version, tie);
+            assert_eq!(laptop.deliver(5, inv, b"B"), sent(ACK, version, tie));
+            let overtaken = record(INVALID_WRITE, stamp, 5, (1, 2), 0, 1);
+            let after = if taken { overtaken } else { WRITTEN };
+            assert_eq!(laptop.record(), after, "rule {rule}, {stamp:?}");
+        }
+    }
+}
+
+/// By the new rule 1's save overtakes 2's, and 1 dies: 2 gives its own up, as it does
+/// by the old rule after 5's.
+#[test]
+fn a_dead_winner_by_the_new_rule() {
+    let mut laptop = Laptop::written_by(LOWER);
+    assert_eq!(laptop.deliver(5, (ACK, 1, 2), b""), DONE);
+    // 5 has saved too, and loses.
+    assert_eq!(laptop.deliver(5, (INV, 1, 5), b"C"), sent(ACK, 1, 5));
+    assert_eq!(laptop.record().state, WRITE);
+    assert_eq!(laptop.deliver(1, (INV, 1, 1), b"B"), sent(ACK, 1, 1));
+    let overtaken = record(INVALID_WRITE, (1, 1), 1, (1, 2), 1 << 5, 1);
+    assert_eq!(laptop.record(), overtaken);
+    assert_eq!(laptop.play(0, Event::Replay), refused(16));
+    assert_eq!(laptop.view(1, &[2, 5]), DONE);
+    assert_eq!(laptop.play(0, Event::Replay), sent(INV, 1, 1));
+    assert_eq!(laptop.record(), record(REPLAY, (1, 1), 2, (1, 1), 0, 1));
+    // Still by that rule: 5's save is the lesser.
+    assert_eq!(laptop.deliver(5, (INV, 1, 5), b"C"), sent(ACK, 1, 5));
+    assert_eq!(laptop.record().state, REPLAY);
+    assert_eq!(laptop.deliver(5, (ACK, 1, 1), b""), sent(VAL, 1, 1));
+    assert_eq!(laptop.read(0), Some(b"B".to_vec()));
+}
+
+/// A commit on the stamp that was overtaken by a tie: 26. On one that a tie did not
+/// overtake it is taken.
+#[test]
+fn commits_and_ties_by_each_rule() {
+    for (rule, winner, loser) in [(HIGHER, 5, 1), (LOWER, 1, 5)] {
+        let mut laptop = Laptop::written_by(rule);
+        assert_eq!(laptop.deliver(5, (ACK, 1, 2), b""), DONE);
+        assert_eq!(laptop.deliver(1, (ACK, 1, 2), b""), sent(VAL, 1, 2));
+        let lost = (INV, 1, loser);
+        assert_eq!(laptop.deliver(loser, lost, b"C"), sent(ACK, 1, loser));
+        assert_eq!(laptop.ask(0), Ok(((1, 2), b"A1".to_vec())));
+        let won = (INV, 1, winner);
+        assert_eq!(laptop.deliver(winner, won, b"B"), sent(ACK, 1, winner));
+        assert_eq!(laptop.commit(0, (1, 2), b"D"), refused(26));
+        assert_eq!(laptop.deliver(winner, (VAL, 1, winner), b""), DONE);
+        assert_eq!(laptop.commit(0, (1, 2), b"D"), refused(26));
+        assert_eq!(laptop.ask(0), Ok(((1, winner), b"B".to_vec())));
+        // A save goes on from there, under either rule by the version.
+        assert_eq!(laptop.commit(0, (1, winner), b"D"), sent(INV, 2, 2));
+    }
+}
+
+/// An acknowledgement and a validation are looked for by the whole stamp, not by its
+/// order.
+#[test]
+fn equal_stamps_by_each_rule() {
+    for rule in [HIGHER, LOWER] {
+        for tie in [0, 1, 3, 5, 15] {
+            let mut laptop = Laptop::written_by(rule);
+            assert_eq!(laptop.deliver(5, (ACK, 1, tie), b""), refused(13));
+            assert_eq!(laptop.deliver(5, (VAL, 1, tie), b""), refused(14));
+            assert_eq!(laptop.record(), WRITTEN);
+        }
+    }
 }

@@ -93,6 +93,17 @@ fn a_record_hung_after_two_saves() {
     assert_eq!(played(script.as_bytes()), printed);
 }
 
+/// Document 02, Wish 6: the program keeps the old rule. 0 and 1 save together, and the
+/// tie goes to the higher number on both.
+#[test]
+fn a_tie_by_the_old_rule() {
+    let script = "group 2\nwrite 0 A\nwrite 1 B\ndeliver 1 0\ndeliver 0 1\n\
+                  deliver 0 2\ndeliver 1 3\ndeliver 0 4\nread 0\nread 1";
+    let printed = "0 W 1 0 0\n0 W 1 1 1\n0 W 1 1 2\n0 X 1 1 3\n0 X 1 1 -\n0 V 1 1 4\n0 V 1 1 -\n\
+                   0 V 1 1 -\n0 V 1 1 -\n";
+    assert_eq!(played(script.as_bytes()), printed);
+}
+
 /// Document 02, Wish 5, gives the program no new line.
 #[test]
 fn no_line_asks_or_commits() {

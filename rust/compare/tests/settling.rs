@@ -3,10 +3,10 @@
 
 use std::collections::HashSet;
 
-use cetskobi::{Laptop, Leaving, State, Timestamp};
+use cetskobi::{Laptop, Leaving, Rule, Settings as Group, State, Timestamp};
 use compare::settings::Settings;
 use compare::settling::{compare, Kind, Rules, Tally};
-use settle::{by_hand, by_packet, driver, drivers, follow, held, recipe, steps};
+use settle::{by_hand, by_packet, driver, drivers, follow, held, latest, recipe, steps};
 use settle::{Event, Held, Step};
 
 /// How the list begins, the views of how many laptops that can be so at, and how
@@ -69,6 +69,9 @@ fn often(tally: &Tally) {
         );
     }
     assert!(tally.outside > 0 && tally.late > 0);
+    // 02, Wish 6: 15,351 and 17,000 ties were counted.
+    assert!(tally.rules.iter().all(|&times| times >= 150_000));
+    assert!(tally.ties.iter().all(|&times| times >= 8000));
 
     let mut beside = tally.beside();
     for (recipe, other, floor) in OTHERS {
@@ -100,14 +103,16 @@ fn random_situations() {
     }
 }
 
-/// So many laptops with one record; this one has saved, and all that it sent is
-/// lost.
-fn unheard(laptops: u8, saver: u8) -> Vec<Laptop> {
+/// So many laptops with one record; these have saved at once, each a text of its own,
+/// and all that they sent is lost.
+fn unheard(rule: Rule, laptops: u8, savers: &[u8]) -> Vec<Laptop> {
     let view = (1u32 << laptops) - 1;
-    let start = |n| Laptop::start(n, view as u16, 1).expect("a fresh start");
+    let start = |n| Laptop::start(n, view as u16, rule, 1).expect("a fresh start");
     let mut group: Vec<Laptop> = (0..laptops).map(start).collect();
-    let inv = group[usize::from(saver)].write(0, b"Wren");
-    let _lost = inv.expect("a save");
+    for &saver in savers {
+        let inv = group[usize::from(saver)].write(0, &[saver]);
+        let _lost = inv.expect("a save");
+    }
     group
 }
 
@@ -118,18 +123,41 @@ fn settled(group: &[Laptop], saver: u8) -> bool {
         tie: saver,
     };
     let shows = |l: &Laptop| l.record(0).is_some_and(|r| r.timestamp == saved);
-    group.iter().all(|l| l.shows_valid(0) && shows(l))
+    let text = |l: &Laptop| l.read(0).is_ok_and(|text| text == [saver]);
+    group.iter().all(|l| text(l) && shows(l))
 }
 
 #[test]
 fn a_save_that_nobody_heard_of_takes_3k_less_2() {
-    for k in 2..=16 {
+    for (k, &rule) in (2..=16).flat_map(|k| Rule::ALL.iter().map(move |rule| (k, rule))) {
         for saver in 0..k {
-            let mut group = unheard(k, saver);
-            let steps = recipe(&held(&group, 0)).expect("the saver begins");
+            let mut group = unheard(rule, k, &[saver]);
+            let steps = recipe(rule, &held(&group, 0)).expect("the saver begins");
             assert_eq!(steps.len(), 3 * usize::from(k) - 2);
             assert_eq!(follow(&steps, &mut group, 0, by_packet), Ok(()));
             assert!(settled(&group, saver));
+        }
+    }
+}
+
+/// Document 02, Wish 6: several save at once, and nobody hears of it. Who wins by the
+/// group's rule drives, and its text is left on all, by as many events.
+#[test]
+fn saves_at_once_settle_by_the_rule() {
+    for (k, &rule) in (2..=16).flat_map(|k| Rule::ALL.iter().map(move |rule| (k, rule))) {
+        let pairs = (0..k).flat_map(|a| (a + 1..k).map(move |b| vec![a, b]));
+        for savers in pairs.chain([(0..k).collect()]) {
+            let winner = match rule {
+                Rule::Higher => savers.iter().max(),
+                Rule::Lower => savers.iter().min(),
+            };
+            let winner = *winner.expect("two or more");
+            let mut group = unheard(rule, k, &savers);
+            let steps = recipe(rule, &held(&group, 0)).expect("the winner begins");
+            assert_eq!(steps.len(), 3 * usize::from(k) - 2);
+            assert_eq!(steps[0].at, winner);
+            assert_eq!(follow(&steps, &mut group, 0, by_packet), Ok(()));
+            assert!(settled(&group, winner), "{rule}: {savers:?}");
         }
     }
 }
@@ -204,15 +232,24 @@ fn fewest(group: Vec<Laptop>, saver: u8) -> Option<usize> {
 /// The bound cannot be bettered, whoever has saved.
 #[test]
 fn no_shorter_list_settles() {
-    for k in 2..=7 {
-        for saver in 0..k {
+    // With no other save the rule is never asked: of many laptops by the old one alone.
+    for (rule, most) in [(Rule::Higher, 7), (Rule::Lower, 5)] {
+        for (k, saver) in (2..=most).flat_map(|k| (0..k).map(move |n| (k, n))) {
             let bound = 3 * usize::from(k) - 2;
-            assert_eq!(
-                fewest(unheard(k, saver), saver),
-                Some(bound),
-                "{k}, {saver}"
-            );
+            let group = unheard(rule, k, &[saver]);
+            assert_eq!(fewest(group, saver), Some(bound), "{rule}: {k}, {saver}");
         }
+    }
+}
+
+/// Nor of two saves at once.
+#[test]
+fn no_shorter_list_settles_a_tie() {
+    for (&rule, k) in Rule::ALL.iter().flat_map(|rule| [(rule, 2), (rule, 3)]) {
+        let winner = if rule == Rule::Higher { k - 1 } else { 0 };
+        let bound = 3 * usize::from(k) - 2;
+        let group = unheard(rule, k, &[0, k - 1]);
+        assert_eq!(fewest(group, winner), Some(bound), "{rule}: {k}");
     }
 }
 
@@ -225,13 +262,13 @@ fn caught(wrong: Rules, says: &str, entries: usize) {
 }
 
 /// The recipe is wrong.
-fn lists(recipe: fn(&[Held]) -> Option<Vec<Step>>) -> Rules {
+fn lists(recipe: fn(Group, &[Held]) -> Option<Vec<Step>>) -> Rules {
     let drivers = Rules::RIGHT.drivers;
     Rules { recipe, drivers }
 }
 
 /// The other drivers are wrong.
-fn driven(drivers: fn(&[Held]) -> Vec<Step>) -> Rules {
+fn driven(drivers: fn(Group, &[Held]) -> Vec<Step>) -> Rules {
     let recipe = Rules::RIGHT.recipe;
     Rules { recipe, drivers }
 }
@@ -241,8 +278,8 @@ fn all_valid(held: &[Held]) -> bool {
 }
 
 /// All that hold the latest timestamp in such a state, by this event.
-fn holders(held: &[Held], event: Event, fits: fn(State) -> bool) -> Vec<Step> {
-    let latest = held.iter().map(|(_, r)| r.timestamp).max();
+fn holders(group: Group, held: &[Held], event: Event, fits: fn(State) -> bool) -> Vec<Step> {
+    let latest = latest(group, held);
     let holders = held.iter().filter(|(_, r)| Some(r.timestamp) == latest);
     let fit = holders.filter(|(_, r)| fits(r.state));
     fit.map(|(at, _)| Step { at: *at, event }).collect()
@@ -254,15 +291,15 @@ fn waits(state: State) -> bool {
 
 #[test]
 fn the_lowest_holder_in_any_state_is_no_driver() {
-    fn wrong(held: &[Held]) -> Option<Vec<Step>> {
-        let replay = holders(held, Event::Replay, waits);
-        let resend = holders(held, Event::Resend, |state| !waits(state));
+    fn wrong(group: Group, held: &[Held]) -> Option<Vec<Step>> {
+        let replay = holders(group, held, Event::Replay, waits);
+        let resend = holders(group, held, Event::Resend, |state| !waits(state));
         let any = replay.into_iter().chain(resend);
         let lowest = any.min_by_key(|step| step.at)?;
-        let first = driver(held)?;
+        let first = driver(group, held)?;
         match all_valid(held) || first.at == lowest.at {
-            true => recipe(held),
-            false => Some(steps(held, lowest)),
+            true => recipe(group, held),
+            false => Some(steps(group, held, lowest)),
         }
     }
     caught(lists(wrong), "refused (16)", 2);
@@ -271,10 +308,10 @@ fn the_lowest_holder_in_any_state_is_no_driver() {
 /// Whoever waits, though the last writer is in the view.
 #[test]
 fn the_living_are_not_taken_over() {
-    fn wrong(held: &[Held]) -> Vec<Step> {
-        let mut drivers = drivers(held);
+    fn wrong(group: Group, held: &[Held]) -> Vec<Step> {
+        let mut drivers = drivers(group, held);
         drivers.retain(|step| step.event != Event::Replay);
-        drivers.extend(holders(held, Event::Replay, waits));
+        drivers.extend(holders(group, held, Event::Replay, waits));
         drivers
     }
     caught(driven(wrong), "refused (16)", 2);
@@ -283,11 +320,11 @@ fn the_living_are_not_taken_over() {
 /// Whoever shows it, though another was the last writer.
 #[test]
 fn the_last_writer_alone_says_it_again() {
-    fn wrong(held: &[Held]) -> Vec<Step> {
-        let mut drivers = drivers(held);
+    fn wrong(group: Group, held: &[Held]) -> Vec<Step> {
+        let mut drivers = drivers(group, held);
         if !all_valid(held) {
             let valid = |state| state == State::Valid;
-            drivers.extend(holders(held, Event::Resend, valid));
+            drivers.extend(holders(group, held, Event::Resend, valid));
         }
         drivers
     }
@@ -297,8 +334,8 @@ fn the_last_writer_alone_says_it_again() {
 /// A save or a replay that was overtaken elsewhere.
 #[test]
 fn a_lesser_save_does_not_go_on() {
-    fn wrong(held: &[Held]) -> Vec<Step> {
-        let mut drivers = drivers(held);
+    fn wrong(group: Group, held: &[Held]) -> Vec<Step> {
+        let mut drivers = drivers(group, held);
         let under_way = |(_, r): &&Held| matches!(r.state, State::Write | State::Replay);
         let lesser = held.iter().filter(under_way).map(|(at, _)| *at);
         let lesser = lesser.filter(|at| drivers.iter().all(|step| step.at != *at));
@@ -312,9 +349,9 @@ fn a_lesser_save_does_not_go_on() {
 
 #[test]
 fn the_recipes_driver_is_one_of_them() {
-    fn wrong(held: &[Held]) -> Vec<Step> {
+    fn wrong(group: Group, held: &[Held]) -> Vec<Step> {
         let skipped = usize::from(!all_valid(held));
-        drivers(held).into_iter().skip(skipped).collect()
+        drivers(group, held).into_iter().skip(skipped).collect()
     }
     caught(driven(wrong), "is none of []", 1);
 }
@@ -322,30 +359,30 @@ fn the_recipes_driver_is_one_of_them() {
 /// The recipe's driver alone.
 #[test]
 fn no_driver_is_left_out() {
-    fn wrong(held: &[Held]) -> Vec<Step> {
-        drivers(held).into_iter().take(1).collect()
+    fn wrong(group: Group, held: &[Held]) -> Vec<Step> {
+        drivers(group, held).into_iter().take(1).collect()
     }
     caught(driven(wrong), "can drive too", 4);
 }
 
 #[test]
 fn the_earliest_timestamp_is_not_driven() {
-    fn wrong(held: &[Held]) -> Option<Vec<Step>> {
+    fn wrong(group: Group, held: &[Held]) -> Option<Vec<Step>> {
         let mut reversed = held.to_vec();
         for (_, r) in &mut reversed {
             let Timestamp { version, tie } = r.timestamp;
             r.timestamp.version = u32::MAX - version;
             r.timestamp.tie = u8::MAX - tie;
         }
-        recipe(&reversed)
+        recipe(group, &reversed)
     }
-    caught(lists(wrong), "nobody begins", 1);
+    caught(lists(wrong), "refused (14)", 1);
 }
 
 #[test]
 fn every_val_is_needed() {
-    fn wrong(held: &[Held]) -> Option<Vec<Step>> {
-        let mut steps = recipe(held)?;
+    fn wrong(group: Group, held: &[Held]) -> Option<Vec<Step>> {
+        let mut steps = recipe(group, held)?;
         if steps.len() > 1 {
             steps.pop();
         }
@@ -357,12 +394,12 @@ fn every_val_is_needed() {
 /// An INV to those that have acknowledged: their second ACK is refused.
 #[test]
 fn acknowledgements_are_not_asked_for_again() {
-    fn wrong(held: &[Held]) -> Option<Vec<Step>> {
+    fn wrong(group: Group, held: &[Held]) -> Option<Vec<Step>> {
         let mut forgotten = held.to_vec();
         forgotten
             .iter_mut()
             .for_each(|(_, r)| r.acks = Default::default());
-        recipe(&forgotten)
+        recipe(group, &forgotten)
     }
     caught(lists(wrong), "refused (13)", 4);
 }
@@ -370,8 +407,8 @@ fn acknowledgements_are_not_asked_for_again() {
 /// All that are left have acknowledged: no ACK comes that would settle the record.
 #[test]
 fn a_validation_is_needed() {
-    fn wrong(held: &[Held]) -> Option<Vec<Step>> {
-        let mut steps = recipe(held)?;
+    fn wrong(group: Group, held: &[Held]) -> Option<Vec<Step>> {
+        let mut steps = recipe(group, held)?;
         if let Some(first) = steps.first_mut().filter(|s| s.event == Event::Validate) {
             first.event = Event::Resend;
         }
@@ -383,8 +420,8 @@ fn a_validation_is_needed() {
 /// One more event than the bound, all accepted.
 #[test]
 fn a_resend_too_many_is_found() {
-    fn wrong(held: &[Held]) -> Option<Vec<Step>> {
-        let mut steps = recipe(held)?;
+    fn wrong(group: Group, held: &[Held]) -> Option<Vec<Step>> {
+        let mut steps = recipe(group, held)?;
         let first = steps.first().copied().filter(|s| s.event == Event::Resend);
         steps.extend(first.filter(|_| steps.len() == 3 * held.len() - 2));
         Some(steps)
@@ -395,14 +432,33 @@ fn a_resend_too_many_is_found() {
 /// What all show valid needs no event.
 #[test]
 fn a_valid_record_is_left_alone() {
-    fn wrong(held: &[Held]) -> Option<Vec<Step>> {
+    fn wrong(group: Group, held: &[Held]) -> Option<Vec<Step>> {
         let resend = |at| Step {
             at,
             event: Event::Resend,
         };
         let last = held.iter().find(|(n, r)| all_valid(held) && r.writer == *n);
         last.map(|(at, _)| vec![resend(*at)])
-            .or_else(|| recipe(held))
+            .or_else(|| recipe(group, held))
     }
     caught(lists(wrong), "1 steps", 0);
+}
+
+/// Document 02, Wish 6: the recipe goes by one rule, whichever the group has; and the
+/// drivers do.
+#[test]
+fn the_other_rules_latest_is_not_driven() {
+    fn old(_: Group, held: &[Held]) -> Option<Vec<Step>> {
+        recipe(Rule::Higher, held)
+    }
+    fn new(_: Group, held: &[Held]) -> Option<Vec<Step>> {
+        recipe(Rule::Lower, held)
+    }
+    // Two saves: the lesser one's VAL is refused.
+    caught(lists(old), "refused (14)", 2);
+    caught(lists(new), "refused (14)", 2);
+    fn drivers_old(_: Group, held: &[Held]) -> Vec<Step> {
+        drivers(Rule::Higher, held)
+    }
+    caught(driven(drivers_old), "is none of", 2);
 }

@@ -40,13 +40,34 @@ static inline bool two_or_more(uint16_t set)
     return (set & (set - 1)) != 0;
 }
 
-/* A timestamp as one number, in the order of timestamps. */
+/* A timestamp as one number. */
 static inline uint64_t stamp(uint32_t version, uint8_t tie)
 {
     return (uint64_t)version << 8 | tie;
 }
 
+/* ---- the rule of ties (02, Wish 6); every byte is one */
+
+static inline uint8_t rule_of(struct cetskobi_settings settings)
+{
+    return settings.rule == CETSKOBI_LOWER ? CETSKOBI_LOWER : CETSKOBI_HIGHER;
+}
+
+/* Is this timestamp greater than the record's by the group's rule? */
+static inline bool later(uint32_t version, uint8_t tie, const record *r, struct cetskobi_settings settings)
+{
+    if (version != r->version)
+        return version > r->version;
+    return settings.rule == CETSKOBI_LOWER ? tie < r->tie : tie > r->tie;
+}
+
 /* ---- answers */
+
+/* A refusal is the rarer case: its number is then set on the way to it alone. */
+static inline bool rarely(bool refused)
+{
+    return __builtin_expect(refused, 0);
+}
 
 static inline struct cetskobi_answer refused(uint8_t number)
 {

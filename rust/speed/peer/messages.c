@@ -1,15 +1,15 @@
 /* What comes from others: deliveries, and packets. See peer.h. */
 #include "inside.h"
 
-enum { HEAD_BYTES = 4, CONTENTS_BYTES = 16, RULE = 1 };
+enum { HEAD_BYTES = 4, CONTENTS_BYTES = 16 };
 
 /* ---- delivery */
 
 /* An ACK leaves, whether the timestamp is greater or not. */
-static inline struct cetskobi_answer take_inv(record *r, uint8_t *store, size_t i, struct cetskobi_message m, const uint8_t *value,
-                                              size_t value_len)
+static inline struct cetskobi_answer take_inv(record *r, struct cetskobi_replica me, uint8_t *store, size_t i, struct cetskobi_message m,
+                                              const uint8_t *value, size_t value_len)
 {
-    if (stamp(m.version, m.tie) > stamp(r->version, r->tie)) {
+    if (later(m.version, m.tie, r, me.settings)) {
         bool writing = r->state == CETSKOBI_WRITE || r->state == CETSKOBI_INVALID_WRITE;
         r->state = writing ? CETSKOBI_INVALID_WRITE : CETSKOBI_INVALID;
         r->tie = m.tie;
@@ -60,7 +60,7 @@ static inline struct cetskobi_answer deliver(struct cetskobi_replica me, uint8_t
     record *r = record_at(table, i);
     switch (m.kind) {
     case CETSKOBI_INV:
-        return take_inv(r, store, i, m, value, value_len);
+        return take_inv(r, me, store, i, m, value, value_len);
     case CETSKOBI_ACK:
         return take_ack(r, me, m);
     case CETSKOBI_VAL:
@@ -109,14 +109,17 @@ static inline bool good_entry(const uint8_t *e, size_t at)
            len <= (kind == CETSKOBI_INV ? CETSKOBI_VALUE_MAX : 0);
 }
 
-/* Questions 20 to 23: 0 or the number that says no. Every message is looked at. */
-static inline uint8_t ask_packet(const uint8_t *packet, size_t packet_len, size_t i)
+/* Questions 20, 27 and 21 to 23: 0 or the number that says no. Every message is looked at. */
+static inline uint8_t ask_packet(struct cetskobi_settings settings, const uint8_t *packet, size_t packet_len, size_t i)
 {
     if (packet_len < HEAD_BYTES || packet_len > CETSKOBI_PACKET_MAX)
         return CETSKOBI_REFUSED_PACKET_HEAD;
+    uint8_t rule = packet[0];
     size_t count = packet[1];
-    if (packet[0] != RULE || count < 1 || count > CETSKOBI_MESSAGES_MAX || load2(packet + 2) != packet_len)
+    if (count < 1 || count > CETSKOBI_MESSAGES_MAX || load2(packet + 2) != packet_len)
         return CETSKOBI_REFUSED_PACKET_HEAD;
+    if (rule != rule_of(settings))
+        return rule == CETSKOBI_HIGHER || rule == CETSKOBI_LOWER ? CETSKOBI_REFUSED_OTHER_RULE : CETSKOBI_REFUSED_PACKET_HEAD;
     size_t at = HEAD_BYTES + CONTENTS_BYTES * count;
     if (at > packet_len)
         return CETSKOBI_REFUSED_PACKET_CONTENTS;
@@ -156,9 +159,9 @@ static inline struct cetskobi_message message_of(const uint8_t *e)
     return (struct cetskobi_message){.kind = e[0], .sender = e[1], .tie = e[12], .epoch = load4(e + 2), .version = load4(e + 8)};
 }
 
-struct cetskobi_fetched peer_fetch(const uint8_t *packet, size_t packet_len, size_t i)
+struct cetskobi_fetched peer_fetch(struct cetskobi_settings settings, const uint8_t *packet, size_t packet_len, size_t i)
 {
-    uint8_t no = ask_packet(packet, packet_len, i);
+    uint8_t no = ask_packet(settings, packet, packet_len, i);
     if (no)
         return (struct cetskobi_fetched){.number = no};
     return fetched(entry_at(packet, i));
@@ -167,7 +170,7 @@ struct cetskobi_fetched peer_fetch(const uint8_t *packet, size_t packet_len, siz
 struct cetskobi_answer peer_deliver_packet(struct cetskobi_replica me, uint8_t *table, size_t table_len, uint8_t *store, size_t store_len,
                                            const uint8_t *packet, size_t packet_len, size_t i)
 {
-    uint8_t no = ask_packet(packet, packet_len, i);
+    uint8_t no = ask_packet(me.settings, packet, packet_len, i);
     if (no)
         return refused(no);
     const uint8_t *e = entry_at(packet, i);
@@ -177,10 +180,10 @@ struct cetskobi_answer peer_deliver_packet(struct cetskobi_replica me, uint8_t *
 
 /* ---- packets in one pass */
 
-struct cetskobi_accepted peer_accept(const uint8_t *packet, size_t packet_len)
+struct cetskobi_accepted peer_accept(struct cetskobi_settings settings, const uint8_t *packet, size_t packet_len)
 {
     /* Every packet has a message 0: 23 is not answered. */
-    uint8_t no = ask_packet(packet, packet_len, 0);
+    uint8_t no = ask_packet(settings, packet, packet_len, 0);
     if (no)
         return (struct cetskobi_accepted){.number = no};
     return (struct cetskobi_accepted){.count = packet[1]};
@@ -233,8 +236,8 @@ static inline bool good_message(const struct cetskobi_entry *e)
            e->len <= (e->kind == CETSKOBI_INV ? CETSKOBI_VALUE_MAX : 0);
 }
 
-struct cetskobi_written peer_pack(const uint32_t *messages, size_t messages_len, const uint8_t *bodies, size_t bodies_len, uint8_t *out,
-                                  size_t out_len)
+struct cetskobi_written peer_pack(struct cetskobi_settings settings, const uint32_t *messages, size_t messages_len, const uint8_t *bodies,
+                                  size_t bodies_len, uint8_t *out, size_t out_len)
 {
     struct cetskobi_written no = {.number = CETSKOBI_REFUSED_PACKET_MESSAGES};
     size_t count = messages_len / CETSKOBI_ENTRY_WORDS;
@@ -253,7 +256,7 @@ struct cetskobi_written peer_pack(const uint32_t *messages, size_t messages_len,
     size_t at = HEAD_BYTES + CONTENTS_BYTES * count, total = at + sum;
     if (total > CETSKOBI_PACKET_MAX || total > out_len)
         return no;
-    out[0] = RULE;
+    out[0] = rule_of(settings);
     out[1] = (uint8_t)count;
     store2(out + 2, total);
     if (sum)

@@ -129,16 +129,17 @@ struct cetskobi_answer peer_resend(struct cetskobi_replica me, uint8_t *table, s
 /* ---- membership, and what leaves */
 
 /* By words: stored field by field it would be read back at once to be returned, which stalls. */
-static inline struct cetskobi_admission admission(uint8_t number, uint16_t view, uint32_t epoch, uint8_t no)
+static inline struct cetskobi_admission admission(uint8_t number, uint8_t rule, uint16_t view, uint32_t epoch, uint8_t no)
 {
     struct cetskobi_admission a;
-    uint64_t identity = (uint64_t)epoch << 32 | (uint32_t)view << 16 | number;
+    uint64_t identity = (uint64_t)epoch << 32 | (uint32_t)view << 16 | (uint32_t)rule << 8 | number;
     uint32_t last = no;
     memcpy(&a, &identity, sizeof identity);
     memcpy((uint8_t *)&a + sizeof identity, &last, sizeof last);
     return a;
 }
 
+/* A refused one gives the identity back as it was passed, the rule's byte too. */
 struct cetskobi_admission peer_view(struct cetskobi_replica me, uint32_t epoch, uint16_t set)
 {
     uint8_t no = ask_group(me.number, me.view);
@@ -148,26 +149,31 @@ struct cetskobi_admission peer_view(struct cetskobi_replica me, uint32_t epoch, 
         no = CETSKOBI_REFUSED_OLD_EPOCH;
     if (!no && ((set & ~me.view) != 0 || !two_or_more(set)))
         no = CETSKOBI_REFUSED_VIEW_NOT_WITHIN;
-    return no ? admission(me.number, me.view, me.epoch, no) : admission(me.number, set, epoch, 0);
+    if (rarely(no))
+        return admission(me.number, me.settings.rule, me.view, me.epoch, no);
+    return admission(me.number, rule_of(me.settings), set, epoch, 0);
 }
 
-struct cetskobi_admission peer_start(uint8_t number, uint16_t view, uint8_t *table, size_t table_len, uint8_t *store, size_t store_len)
+struct cetskobi_admission peer_start(uint8_t number, uint16_t view, struct cetskobi_settings settings, uint8_t *table, size_t table_len,
+                                     uint8_t *store, size_t store_len)
 {
+    uint8_t rule = rule_of(settings);
     uint8_t no = ask_group(number, view);
     if (!no)
         no = ask_memory(table_len, store_len);
     if (!no)
         no = ask_member(number, view);
     if (no)
-        return admission(number, view, 0, no);
-    /* Bytes 0 to 7 as one number: the lowest of the view is tie-breaker, last writer and last-write tie-breaker. Byte 15 stays. */
+        return admission(number, rule, view, 0, no);
+    /* Bytes 0 to 7 as one number: the lowest of the view, by both rules, is tie-breaker, last writer and last-write tie-breaker. Byte 15
+     * stays. */
     uint64_t fresh = (uint64_t)__builtin_ctz(view) * 0x01010100;
     for (uint8_t *r = table; r != table + table_len; r += CETSKOBI_RECORD_BYTES) {
         memcpy(r, &fresh, sizeof fresh);
         memset(r + sizeof fresh, 0, offsetof(struct cetskobi_record, unused) - sizeof fresh);
     }
     memset(store, 0, store_len);
-    return admission(number, view, 0, 0);
+    return admission(number, rule, view, 0, 0);
 }
 
 size_t peer_body(const uint8_t *table, size_t table_len, const uint8_t *store, size_t store_len, size_t i, struct cetskobi_answer left)

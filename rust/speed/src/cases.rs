@@ -1,6 +1,6 @@
 //! What is measured: each case with its sides, on equal inputs.
 
-use cetskobi::sys::{Answer, Message, Replica};
+use cetskobi::sys::{Answer, Message, Replica, Settings};
 use cetskobi::{Members, Record, State, Timestamp};
 
 use crate::lent::{both, Lent};
@@ -21,11 +21,18 @@ pub trait Visit {
     );
 }
 
-/// Laptop 2 with view {1,2,5} at epoch 9.
+/// Laptop 2 with view {1,2,5} at epoch 9, in a group with the old rule of ties.
 pub const ME: Replica = Replica {
     number: 2,
+    settings: Settings { rule: 1 },
     view: 0b10_0110,
     epoch: 9,
+};
+
+/// The same in a group with the new rule (02, Wish 6).
+const ME_LOWER: Replica = Replica {
+    settings: Settings { rule: 2 },
+    ..ME
 };
 
 /// A value of 32 bytes.
@@ -114,9 +121,10 @@ const fn refused(question: u8) -> Told {
     (question, [0; 3])
 }
 
-/// Accepted: this identity.
-const fn admitted(number: usize, view: usize, epoch: usize) -> Told {
-    (0, [number, view, epoch])
+/// Accepted: this identity, in a group with the old rule.
+const fn admitted(number: u8, view: usize, epoch: usize) -> Told {
+    let named = u16::from_be_bytes([ME.settings.rule, number]);
+    (0, [named as usize, view, epoch])
 }
 
 /// Every case, with a table of this many records.
@@ -299,6 +307,22 @@ fn replay(about: About, record: Record, visit: &mut impl Visit) {
 fn deliveries(n: usize, visit: &mut impl Visit) {
     let inv = event("inv", "deliver INV, 32 bytes", n, sent(2, 8, 5));
     deliver(inv, VALID, message(1, 8, 5), TEXT.to_vec(), visit);
+    // Two saves at once: the INV that comes overtakes this laptop's own.
+    let higher = event(
+        "inv-tie",
+        "deliver INV that wins a tie, 32 bytes",
+        n,
+        sent(2, 8, 5),
+    );
+    deliver(higher, WRITING, message(1, 8, 5), TEXT.to_vec(), visit);
+    let lower = event(
+        "inv-tie-lower",
+        "deliver INV that wins a tie by the new rule, 32 bytes",
+        n,
+        sent(2, 8, 1),
+    );
+    let inv = (message(1, 8, 1), TEXT.to_vec());
+    deliver_to(ME_LOWER, lower, WRITING, inv, visit);
     let older = event(
         "inv-older",
         "deliver INV of an older stamp",
@@ -320,11 +344,21 @@ fn deliveries(n: usize, visit: &mut impl Visit) {
 }
 
 fn deliver(about: About, record: Record, m: Message, body: Vec<u8>, visit: &mut impl Visit) {
+    deliver_to(ME, about, record, (m, body), visit);
+}
+
+fn deliver_to(
+    me: Replica,
+    about: About,
+    record: Record,
+    (m, body): (Message, Vec<u8>),
+    visit: &mut impl Visit,
+) {
     let n = about.records;
     visit.case(
         about,
         both!(by => On {
-            lent: Lent::new(ME, n, VALID, (m, body.clone())),
+            lent: Lent::new(me, n, VALID, (m, body.clone())),
             prepare: move |e: &mut Lent<(Message, Vec<u8>)>, i| e.set(i, record),
             call: |e: &mut Lent<(Message, Vec<u8>)>, i| {
                 let (message, body) = &e.input;
@@ -332,7 +366,7 @@ fn deliver(about: About, record: Record, m: Message, body: Vec<u8>, visit: &mut 
             },
         }),
         || On {
-            lent: Plain::new(ME, n, VALID, (plain::envelope(m, 0), body.clone())),
+            lent: Plain::new(me, n, VALID, (plain::envelope(m, 0), body.clone())),
             prepare: move |m: &mut Plain<_>, i| m.table[i] = plain::record(record),
             call: |m: &mut Plain<(model::engine::Envelope, Vec<u8>)>, i| {
                 let (envelope, body) = &mut m.input;
@@ -414,7 +448,7 @@ fn membership(n: usize, visit: &mut impl Visit) {
     view(changed, 10, visit);
     let known = other("view-18", "view, refused by question 18", n, refused(18));
     view(known, 9, visit);
-    let started = admitted(2, ME.view as usize, 0);
+    let started = admitted(ME.number, ME.view as usize, 0);
     let one = other("start", "fresh start, 1 record", n, started);
     start(one, 1, visit);
     let most = other("start-4096", "fresh start, 4,096 records", n, started);
@@ -428,15 +462,17 @@ fn start(about: About, n: usize, visit: &mut impl Visit) {
             lent: Lent::new(ME, n, VALID, ()),
             prepare: |_: &mut _, _| (),
             call: |e: &mut Lent<()>, _| {
-                by::start(e.me.number, e.me.view, &mut e.table, &mut e.store)
+                let Replica { number, view, settings, .. } = e.me;
+                by::start(number, view, settings, &mut e.table, &mut e.store)
             },
         }),
         || On {
             lent: Plain::new(ME, n, VALID, ()),
             prepare: |_: &mut _, _| (),
             call: |m: &mut Plain<()>, _| {
-                let (number, view) = (m.replica.number, m.replica.view);
-                model::engine::Replica::start(number, view, &mut m.table, &mut m.store)
+                let me = m.replica;
+                let (number, view, settings) = (me.number, me.view, me.settings);
+                model::engine::Replica::start(number, view, settings, &mut m.table, &mut m.store)
             },
         },
     );

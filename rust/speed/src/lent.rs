@@ -91,7 +91,10 @@ impl Answers for Admission {
         let me = self.replica;
         // A refused one tells its number alone, as the model's does.
         let identity = match self.number {
-            0 => [me.number.into(), me.view.into(), me.epoch as usize],
+            0 => {
+                let named = u16::from_be_bytes([me.settings.rule, me.number]);
+                [named.into(), me.view.into(), me.epoch as usize]
+            }
             _ => [0; 3],
         };
         (self.number, identity)

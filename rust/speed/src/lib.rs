@@ -9,15 +9,21 @@ macro_rules! over_slices {
     ($side:ident) => {
         use crate::pointers::$side as side;
         use cetskobi::sys::{Accepted, Admission, Answer, Arrival, Asked, Fetched, Message};
-        use cetskobi::sys::{Reading, Replica, Written};
+        use cetskobi::sys::{Reading, Replica, Settings, Written};
 
         // SAFETY, for each call: every pointer and length come from one slice, and what
         // is written is borrowed mutably, so it overlaps nothing else that is passed.
 
         #[inline(always)]
-        pub fn start(number: u8, view: u16, table: &mut [u8], store: &mut [u8]) -> Admission {
+        pub fn start(
+            number: u8,
+            view: u16,
+            settings: Settings,
+            table: &mut [u8],
+            store: &mut [u8],
+        ) -> Admission {
             let (t, s) = (table.as_mut_ptr(), store.as_mut_ptr());
-            unsafe { side::start(number, view, t, table.len(), s, store.len()) }
+            unsafe { side::start(number, view, settings, t, table.len(), s, store.len()) }
         }
 
         #[inline(always)]
@@ -106,14 +112,20 @@ macro_rules! over_slices {
         }
 
         #[inline(always)]
-        pub fn fetch(packet: &[u8], i: usize) -> Fetched {
-            unsafe { side::fetch(packet.as_ptr(), packet.len(), i) }
+        pub fn fetch(settings: Settings, packet: &[u8], i: usize) -> Fetched {
+            unsafe { side::fetch(settings, packet.as_ptr(), packet.len(), i) }
         }
 
         #[inline(always)]
-        pub fn pack(messages: &[u32], bodies: &[u8], out: &mut [u8]) -> Written {
+        pub fn pack(
+            settings: Settings,
+            messages: &[u32],
+            bodies: &[u8],
+            out: &mut [u8],
+        ) -> Written {
             let (m, b, o) = (messages.as_ptr(), bodies.as_ptr(), out.as_mut_ptr());
-            unsafe { side::pack(m, messages.len(), b, bodies.len(), o, out.len()) }
+            let (m_len, b_len, o_len) = (messages.len(), bodies.len(), out.len());
+            unsafe { side::pack(settings, m, m_len, b, b_len, o, o_len) }
         }
 
         #[inline(always)]
@@ -129,8 +141,8 @@ macro_rules! over_slices {
         }
 
         #[inline(always)]
-        pub fn accept(packet: &[u8]) -> Accepted {
-            unsafe { side::accept(packet.as_ptr(), packet.len()) }
+        pub fn accept(settings: Settings, packet: &[u8]) -> Accepted {
+            unsafe { side::accept(settings, packet.as_ptr(), packet.len()) }
         }
 
         #[inline(always)]

@@ -2,7 +2,8 @@
 
 use std::hint::black_box;
 
-use cetskobi::sys::{Accepted, Message};
+use cetskobi::sys::{Accepted, Message, Settings};
+use model::engine::Rule;
 use model::packet::Entry;
 
 use crate::cases::{event, number, other, sent, Visit, ME, TEXT, VALID};
@@ -12,6 +13,12 @@ use crate::side::{About, On};
 
 /// The bytes of a packet.
 type Packet = Vec<u8>;
+
+/// The rule of ties that all packets here are of (02, Wish 6). A call is given it by what
+/// is lent, so that the compiler does not know it.
+fn rule() -> Rule {
+    plain::settings(ME.settings).rule
+}
 
 /// Messages that go into a packet, for both sides.
 #[derive(Clone)]
@@ -49,7 +56,7 @@ impl Parcel {
 
     fn packet(&self) -> Packet {
         let mut out = vec![0; 1400];
-        let total = model::packet::write(&self.entries, &self.bodies, &mut out);
+        let total = model::packet::write(rule(), &self.entries, &self.bodies, &mut out);
         out.truncate(total.expect("a packet"));
         out
     }
@@ -115,20 +122,20 @@ fn fetch(n: usize, visit: &mut impl Visit) {
             number(MOST),
         ),
         both!(by => On {
-            lent: packet.clone(),
+            lent: (ME.settings, packet.clone()),
             prepare: |_: &mut _, _| (),
-            call: |packet: &mut Packet, _| {
+            call: |(group, packet): &mut (Settings, Packet), _| {
                 (0..MOST)
-                    .filter(|&k| black_box(by::fetch(packet, k)).number == 0)
+                    .filter(|&k| black_box(by::fetch(*group, packet, k)).number == 0)
                     .count()
             },
         }),
         || On {
-            lent: packet.clone(),
+            lent: (rule(), packet.clone()),
             prepare: |_: &mut _, _| (),
-            call: |packet: &mut Packet, _| {
+            call: |(rule, packet): &mut (Rule, Packet), _| {
                 (0..MOST)
-                    .filter(|&k| black_box(model::packet::fetch(packet, k)).is_ok())
+                    .filter(|&k| black_box(model::packet::fetch(*rule, packet, k)).is_ok())
                     .count()
             },
         },
@@ -141,20 +148,20 @@ fn fetch(n: usize, visit: &mut impl Visit) {
             number(MOST),
         ),
         both!(by => On {
-            lent: packet.clone(),
+            lent: (ME.settings, packet.clone()),
             prepare: |_: &mut _, _| (),
-            call: |packet: &mut Packet, _| {
-                let all = by::accept(packet);
+            call: |(group, packet): &mut (Settings, Packet), _| {
+                let all = by::accept(*group, packet);
                 (0..usize::from(all.count))
                     .filter(|&k| black_box(by::fetch_accepted(packet, all, k)).number == 0)
                     .count()
             },
         }),
         || On {
-            lent: packet.clone(),
+            lent: (rule(), packet.clone()),
             prepare: |_: &mut _, _| (),
-            call: |packet: &mut Packet, _| {
-                let all = model::packet::accept(packet)?;
+            call: |(rule, packet): &mut (Rule, Packet), _| {
+                let all = model::packet::accept(*rule, packet)?;
                 let taken = |&k: &usize| black_box(all.message(k)).is_ok();
                 Ok((0..all.count()).filter(taken).count())
             },
@@ -166,17 +173,17 @@ fn pack(about: About, parcel: Parcel, visit: &mut impl Visit) {
     visit.case(
         about,
         both!(by => On {
-            lent: (parcel.clone(), vec![0; 1400]),
+            lent: (ME.settings, parcel.clone(), vec![0; 1400]),
             prepare: |_: &mut _, _| (),
-            call: |(parcel, out): &mut (Parcel, Vec<u8>), _| {
-                by::pack(&parcel.words, &parcel.bodies, out)
+            call: |(group, parcel, out): &mut (Settings, Parcel, Vec<u8>), _| {
+                by::pack(*group, &parcel.words, &parcel.bodies, out)
             },
         }),
         || On {
-            lent: (parcel.clone(), vec![0; 1400]),
+            lent: (rule(), parcel.clone(), vec![0; 1400]),
             prepare: |_: &mut _, _| (),
-            call: |(parcel, out): &mut (Parcel, Vec<u8>), _| {
-                model::packet::write(&parcel.entries, &parcel.bodies, out)
+            call: |(rule, parcel, out): &mut (Rule, Parcel, Vec<u8>), _| {
+                model::packet::write(*rule, &parcel.entries, &parcel.bodies, out)
             },
         },
     );
@@ -225,7 +232,7 @@ fn deliver_single(about: About, parcels: &[Parcel], visit: &mut impl Visit) {
             prepare: |e: &mut Lent<Vec<Packet>>, i| e.set(i, VALID),
             call: move |e: &mut Lent<Vec<Packet>>, i: usize| {
                 let packet = e.input[i + 64 - n].as_slice();
-                let all = by::accept(packet);
+                let all = by::accept(e.me.settings, packet);
                 by::deliver_accepted(e.me, &mut e.table, &mut e.store, packet, all, 0)
             },
         }),
@@ -234,7 +241,7 @@ fn deliver_single(about: About, parcels: &[Parcel], visit: &mut impl Visit) {
             prepare: |m: &mut Plain<_>, i| m.table[i] = plain::record(VALID),
             call: move |m: &mut Plain<Vec<Packet>>, i: usize| {
                 let packet = m.input[i + 64 - n].as_slice();
-                let all = model::packet::accept(packet)?;
+                let all = model::packet::accept(m.replica.settings.rule, packet)?;
                 all.deliver(&m.replica, &mut m.table, &mut m.store, 0)
             },
         },
@@ -298,7 +305,7 @@ fn deliver_full(n: usize, visit: &mut impl Visit) {
             call: move |e: &mut Lent<Vec<Packet>>, i: usize| {
                 let Lent { me, table, store, input } = e;
                 let packet = input[i - from].as_slice();
-                let all = by::accept(packet);
+                let all = by::accept(me.settings, packet);
                 let mut deliver = |k| by::deliver_accepted(*me, table, store, packet, all, k);
                 (0..usize::from(all.count))
                     .filter(|&k| black_box(deliver(k)).answer.number == 0)
@@ -309,7 +316,8 @@ fn deliver_full(n: usize, visit: &mut impl Visit) {
             lent: Plain::new(ME, records, VALID, packets.clone()),
             prepare: prepare_plain,
             call: move |m: &mut Plain<Vec<Packet>>, i: usize| {
-                let all = model::packet::accept(&m.input[i - from])?;
+                let rule = m.replica.settings.rule;
+                let all = model::packet::accept(rule, &m.input[i - from])?;
                 let mut deliver = |k| all.deliver(&m.replica, &mut m.table, &mut m.store, k);
                 let taken = |&k: &usize| matches!(black_box(deliver(k)), Ok((_, Ok(_))));
                 Ok((0..all.count()).filter(taken).count())
@@ -348,12 +356,12 @@ fn fetch_taken(about: About, parcel: &Parcel, k: usize, visit: &mut impl Visit) 
     visit.case(
         about,
         both!(by => On {
-            lent: (packet.clone(), by::accept(&packet), k),
+            lent: (packet.clone(), by::accept(ME.settings, &packet), k),
             prepare: |_: &mut _, _| (),
             call: |(packet, all, k): &mut Taken, _| by::fetch_accepted(packet, *all, *k),
         }),
         || On {
-            lent: (model::packet::accept(&packet).expect("a packet"), k),
+            lent: (model::packet::accept(rule(), &packet).expect("a packet"), k),
             prepare: |_: &mut _, _| (),
             call: |(all, k): &mut (_, usize), _| model::packet::Accepted::message(all, *k),
         },
@@ -366,7 +374,7 @@ fn deliver_taken(about: About, parcel: &Parcel, k: usize, visit: &mut impl Visit
     visit.case(
         about,
         both!(by => On {
-            lent: Lent::new(ME, n, VALID, (packet.clone(), by::accept(&packet), k)),
+            lent: Lent::new(ME, n, VALID, (packet.clone(), by::accept(ME.settings, &packet), k)),
             prepare: |e: &mut Lent<Taken>, i| e.set(i, VALID),
             call: |e: &mut Lent<Taken>, _| {
                 let (packet, all, k) = &e.input;
@@ -374,7 +382,7 @@ fn deliver_taken(about: About, parcel: &Parcel, k: usize, visit: &mut impl Visit
             },
         }),
         || {
-            let all = model::packet::accept(&packet).expect("a packet");
+            let all = model::packet::accept(rule(), &packet).expect("a packet");
             On {
                 lent: Plain::new(ME, n, VALID, (all, k)),
                 prepare: |m: &mut Plain<_>, i| m.table[i] = plain::record(VALID),

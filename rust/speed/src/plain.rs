@@ -1,6 +1,7 @@
 //! The model's side.
 
 use model::engine::{self, Envelope, Message, Record, Refusal, Replica, State, Timestamp};
+use model::engine::{Rule, Settings};
 
 use crate::side::{Answers, Told};
 
@@ -33,7 +34,17 @@ pub fn replica(me: cetskobi::Replica) -> Replica {
         number: me.number,
         epoch: me.epoch,
         view: me.view,
+        settings: settings(me.settings),
     }
+}
+
+/// As the header reads their byte.
+pub fn settings(settings: cetskobi::sys::Settings) -> Settings {
+    let rule = match settings.rule {
+        2 => Rule::Lower,
+        _ => Rule::Higher,
+    };
+    Settings { rule }
 }
 
 pub fn record(r: cetskobi::Record) -> Record {
@@ -118,7 +129,10 @@ impl Answers for Result<(usize, Timestamp), Refusal> {
 impl Answers for Result<Replica, Refusal> {
     fn told(&self) -> Told {
         let identity = match self {
-            Ok(me) => [me.number.into(), me.view.into(), me.epoch as usize],
+            Ok(me) => {
+                let named = u16::from_be_bytes([me.settings.rule.byte(), me.number]);
+                [named.into(), me.view.into(), me.epoch as usize]
+            }
             Err(_) => [0; 3],
         };
         (engine::number(self), identity)

@@ -21,11 +21,11 @@ pub mod engine {
 /// peer/peer.h, compiled by build.rs.
 #[rustfmt::skip]
 pub mod peer {
-    use cetskobi::sys::{Accepted, Admission, Answer, Arrival, Asked, Fetched, Message, Reading, Replica, Written};
+    use cetskobi::sys::{Accepted, Admission, Answer, Arrival, Asked, Fetched, Message, Reading, Replica, Settings, Written};
 
     unsafe extern "C" {
         #[link_name = "peer_start"]
-        pub fn start(number: u8, view: u16, table: *mut u8, table_len: usize, store: *mut u8, store_len: usize) -> Admission;
+        pub fn start(number: u8, view: u16, settings: Settings, table: *mut u8, table_len: usize, store: *mut u8, store_len: usize) -> Admission;
         #[link_name = "peer_view"]
         pub fn view(me: Replica, epoch: u32, set: u16) -> Admission;
         #[link_name = "peer_read"]
@@ -49,13 +49,13 @@ pub mod peer {
         #[link_name = "peer_recipients"]
         pub fn recipients(me: Replica, kind: u8, sender: u8) -> u16;
         #[link_name = "peer_fetch"]
-        pub fn fetch(packet: *const u8, packet_len: usize, i: usize) -> Fetched;
+        pub fn fetch(settings: Settings, packet: *const u8, packet_len: usize, i: usize) -> Fetched;
         #[link_name = "peer_pack"]
-        pub fn pack(messages: *const u32, messages_len: usize, bodies: *const u8, bodies_len: usize, out: *mut u8, out_len: usize) -> Written;
+        pub fn pack(settings: Settings, messages: *const u32, messages_len: usize, bodies: *const u8, bodies_len: usize, out: *mut u8, out_len: usize) -> Written;
         #[link_name = "peer_deliver_packet"]
         pub fn deliver_packet(me: Replica, table: *mut u8, table_len: usize, store: *mut u8, store_len: usize, packet: *const u8, packet_len: usize, i: usize) -> Answer;
         #[link_name = "peer_accept"]
-        pub fn accept(packet: *const u8, packet_len: usize) -> Accepted;
+        pub fn accept(settings: Settings, packet: *const u8, packet_len: usize) -> Accepted;
         #[link_name = "peer_fetch_accepted"]
         pub fn fetch_accepted(packet: *const u8, packet_len: usize, accepted: Accepted, i: usize) -> Fetched;
         #[link_name = "peer_deliver_accepted"]

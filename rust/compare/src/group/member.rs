@@ -3,7 +3,7 @@ use model::engine::{Record, Timestamp};
 use model::opened::Opened;
 
 use super::Run;
-use crate::crossing::{Fields, RecordBytes};
+use crate::crossing::{settings_of, Fields, RecordBytes};
 use crate::memory::Memory;
 use crate::single::{by_engine, on_table, Case, Event, Outcome};
 
@@ -14,7 +14,7 @@ const SMALL: usize = 100;
 /// record keeps it.
 const OLD: u8 = 77;
 
-/// A stamp as it is ordered.
+/// Version and tie-breaker of a stamp.
 pub(super) type Stamp = (u32, u8);
 
 /// A laptop, in the engine's memory and in the model's.
@@ -27,7 +27,7 @@ pub struct Member {
     /// those it is as the model has them.
     copy: Memory,
     /// By record: the greatest validated stamp with this laptop in the
-    /// finisher's view.
+    /// finisher's view; at first that of the fresh start.
     pub(super) floor: Vec<Stamp>,
     /// By record in replay: the stamp of this laptop's own save that the replay
     /// gave up, if the record was in invalid-write.
@@ -46,6 +46,7 @@ impl Member {
         );
         let me = Replica {
             number,
+            settings: settings_of(run.rule),
             view: run.view,
             epoch: 0,
         };
@@ -65,9 +66,9 @@ impl Member {
             memory,
             table,
             store,
-            floor: vec![(0, 0); run.records],
+            floor: vec![(0, run.view.trailing_zeros() as u8); run.records],
             given_up: vec![None; run.records],
-            opened: vec![Opened::default(); run.records],
+            opened: vec![Opened::new(run.rule); run.records],
         })
     }
 

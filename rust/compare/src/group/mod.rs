@@ -16,8 +16,9 @@ use std::collections::BTreeMap;
 use crate::settings::Settings;
 use crate::shrink::{shrink, Found};
 
-/// How often each thing came about.
-pub type Tally = BTreeMap<String, u64>;
+/// How often each thing came about, in groups with the old rule of ties and with the
+/// new.
+pub type Tally = BTreeMap<String, [u64; 2]>;
 
 /// Records, entries and runs of each size.
 const SIZES: [(usize, usize, usize); 4] = [
@@ -70,7 +71,7 @@ fn compare_runs(
                 let again = |run: &Run| run.play(carry, other).err();
                 return Err(Box::new(shrink(run, what, again)));
             }
-            *tally.entry("runs".to_owned()).or_default() += 1;
+            tally.entry("runs".to_owned()).or_default()[run.rule as usize] += 1;
         }
     }
     Ok(tally)

@@ -1,13 +1,14 @@
 use std::collections::BTreeMap;
 
 use cetskobi::raw::{self, Accepted, Answer, Message, Replica};
-use model::engine::{bit, has, Record, State, Timestamp};
+use model::engine::{bit, has, Record, Rule, State, Timestamp};
 
 use super::member::{Member, Stamp};
 use super::{Entry, Run, Tally, What};
 use crate::bytes::Bytes;
+use crate::crossing::{is_after, other_rule, settings_of, Fields};
 use crate::packet::EntryWords;
-use crate::single::{by_engine, Case, Event, Kind, Outcome};
+use crate::single::{by_engine, replica_of, tie, Case, Event, Kind, Outcome};
 
 /// A message that left, with the bytes it left with, and whom it is for.
 #[derive(Clone, Debug)]
@@ -31,7 +32,8 @@ pub fn by_packet(post: &Post, me: Replica, table: &mut [u8], store: &mut [u8]) -
     let ack = [2, 0, 0, 0, 0, 0, 0];
     let mut packet = [0; 1400];
     // Were it refused, no packet would be delivered: the answers would differ.
-    let written = raw::pack(&[ack, post.entry()].concat(), &post.value, &mut packet);
+    let words = [ack, post.entry()].concat();
+    let written = raw::pack(me.settings, &words, &post.value, &mut packet);
     raw::deliver_packet(me, table, store, &packet[..written.len], 1)
 }
 
@@ -65,12 +67,13 @@ impl Post {
     }
 }
 
-/// The packet of these, by the engine.
-fn packet_of(posts: &[&Post]) -> Result<Vec<u8>, String> {
+/// The packet of these in a group with this rule, by the engine.
+fn packet_of(rule: Rule, posts: &[&Post]) -> Result<Vec<u8>, String> {
     let words: Vec<EntryWords> = posts.iter().map(|post| post.entry()).collect();
     let bodies: Vec<&[u8]> = posts.iter().map(|post| &post.value[..]).collect();
     let mut packet = vec![0; 1400];
-    let written = raw::pack(words.as_flattened(), &bodies.concat(), &mut packet);
+    let (words, bodies) = (words.as_flattened(), bodies.concat());
+    let written = raw::pack(settings_of(rule), words, &bodies, &mut packet);
     if written.number != 0 {
         return Err(format!("no packet: {written:?}"));
     }
@@ -91,6 +94,7 @@ struct Arrived {
 pub type OnTable = fn(&Case, &mut [Record], &mut [u8]) -> Outcome;
 
 pub struct Group {
+    pub rule: Rule,
     pub members: Vec<Member>,
     /// By the id of the entry that the message left.
     pub posts: BTreeMap<usize, Post>,
@@ -108,6 +112,7 @@ impl Group {
     pub fn start(run: &Run, carry: Carry, other: OnTable) -> Result<Group, String> {
         let member = |&number: &u8| Member::start(number, run);
         Ok(Group {
+            rule: run.rule,
             members: run.numbers.iter().map(member).collect::<Result<_, _>>()?,
             posts: BTreeMap::new(),
             carry,
@@ -135,7 +140,10 @@ impl Group {
         }
         member.look(case.i);
         let before = member.table.get(case.i).copied();
-        let expected = (self.other)(&case, &mut member.table, &mut member.store);
+        let expected = match entry.what {
+            What::OtherRule { .. } => refused(&case),
+            _ => (self.other)(&case, &mut member.table, &mut member.store),
+        };
         if outcome != expected {
             return Err(at(format!("engine {outcome:?}, other {expected:?}")));
         }
@@ -145,6 +153,7 @@ impl Group {
         let label = label(member, &case, before, &outcome);
         let mut labels = Vec::from_iter(more);
         labels.extend(self.committed(entry.at, &case, before, &outcome));
+        labels.extend(before.and_then(|before| tied(&case, &before, &outcome)));
         if let What::Packet { of, k } = &entry.what {
             labels.push(format!("one pass: {label}"));
             if *k == 0 {
@@ -153,14 +162,15 @@ impl Group {
             }
         }
         labels.push(label);
+        let rule = self.rule as usize;
         for label in labels {
-            *tally.entry(label).or_default() += 1;
+            tally.entry(label).or_default()[rule] += 1;
         }
 
         if outcome.number == 0 {
             self.leave(entry.id, entry.at, &case, &outcome);
             let pairs = self.agreement(case.i)?;
-            *tally.entry("valid pairs".to_owned()).or_default() += pairs;
+            tally.entry("valid pairs".to_owned()).or_default()[rule] += pairs;
         }
         self.since += 1;
         if self.since >= 64.max(self.records() / 2) {
@@ -200,8 +210,9 @@ impl Group {
             }
             26 => {
                 let alike = (stamp.version == held.version, stamp.tie == held.tie);
-                is("a newer save is under way", !valid && asked && stamp < held);
-                is("a newer save came between", valid && asked && stamp < held);
+                let older = asked && held.is_after(stamp, self.rule);
+                is("a newer save is under way", !valid && older);
+                is("a newer save came between", valid && older);
                 is("its stamp, not valid", !valid && stamp == held);
                 is("another version", valid && alike == (false, true));
                 let tie = valid && alike == (true, false);
@@ -229,6 +240,9 @@ impl Group {
             }
             What::Deliver { of } => of,
             What::Packet { of, k } => return self.in_one_pass(entry.at, of, *k),
+            What::OtherRule { of, accepted } => {
+                return self.by_other_rule(entry.at, *of, *accepted)
+            }
         };
         let Some(post) = self.posts.get(of) else {
             return Ok(None);
@@ -237,6 +251,36 @@ impl Group {
         let (table, store) = member.memory.lend();
         let answer = (self.carry)(post, member.me, table, store);
         Ok(Some((case, Outcome::of(member.me, answer))))
+    }
+
+    /// A post comes to the laptop at this place, in a packet of a group with the other
+    /// rule.
+    fn by_other_rule(
+        &mut self,
+        at: usize,
+        of: usize,
+        accepted: bool,
+    ) -> Result<Option<(Case, Outcome)>, String> {
+        let Some(post) = self.posts.get(&of) else {
+            return Ok(None);
+        };
+        let packet = packet_of(other_rule(self.rule), &[post])?;
+        let member = &mut self.members[at];
+        let (me, case) = (member.me, post.delivery(member.me));
+        let (table, store) = member.memory.lend();
+        let answer = match accepted {
+            true => {
+                let facts = raw::accept(me.settings, &packet);
+                raw::deliver_accepted(me, table, store, &packet, facts, 0).answer
+            }
+            false => raw::deliver_packet(me, table, store, &packet, 0),
+        };
+        // The model says the same: nothing moves.
+        let model = model::packet::accept(replica_of(me).settings.rule, &packet);
+        if model.err().map(|refusal| refusal.number()) != Some(answer.number) {
+            return Err(format!("of the other rule: {answer:?}, {:?}", model.err()));
+        }
+        Ok(Some((case, Outcome::of(me, answer))))
     }
 
     /// The post that is the `k`th of these comes to the laptop at this place, in a
@@ -256,11 +300,12 @@ impl Group {
             Some(arrived) if (arrived.at, &arrived.of[..]) == (at, of) => arrived,
             _ => {
                 let posts: Vec<&Post> = of.iter().filter_map(there).collect();
-                let packet = packet_of(&posts)?;
+                let packet = packet_of(self.rule, &posts)?;
+                let settings = self.members[at].me.settings;
                 Arrived {
                     at,
                     of: of.to_vec(),
-                    accepted: raw::accept(&packet),
+                    accepted: raw::accept(settings, &packet),
                     packet,
                 }
             }
@@ -316,8 +361,10 @@ impl Group {
         self.posts.insert(id, post);
         if kind == 3 && case.event != Event::Resend {
             for other in &mut self.members {
-                if has(me.view, other.me.number) {
-                    other.floor[i] = other.floor[i].max((version, tie));
+                let stamp = (version, tie);
+                let validated = is_after(stamp, other.floor[i], self.rule);
+                if has(me.view, other.me.number) && validated {
+                    other.floor[i] = stamp;
                 }
             }
         }
@@ -331,7 +378,7 @@ impl Group {
             let Some(x) = a.shown(i) else {
                 continue;
             };
-            if x.stamp() < a.floor[i] {
+            if is_after(a.floor[i], x.stamp(), self.rule) {
                 let (me, floor) = (a.me, a.floor[i]);
                 return Err(format!("{me:?} shows {x:?} of {i}, {floor:?} is validated"));
             }
@@ -387,6 +434,28 @@ fn label(member: &Member, case: &Case, before: Option<Record>, outcome: &Outcome
         (26, Some(state)) => format!("{kind:?} at {state:?} answers 26"),
         (number, _) => format!("{kind:?} answers {number}"),
     }
+}
+
+/// What a delivery from a packet of the other rule comes to.
+fn refused(case: &Case) -> Outcome {
+    let answer = Answer {
+        number: 27,
+        kind: 0,
+        tie: 0,
+        version: 0,
+    };
+    Outcome::of(case.me, answer)
+}
+
+/// 02, Wish 6: an INV that ties with its record, taken or not by the group's rule.
+fn tied(case: &Case, before: &Record, outcome: &Outcome) -> Option<String> {
+    let (Kind::Inv, Event::Deliver { message, .. }) = (case.kind(), &case.event) else {
+        return None;
+    };
+    let stamp = (message.version, message.tie);
+    let taken = tie(case.me, &Fields::of_record(before, 0), stamp, outcome)?;
+    let what = ["not taken", "taken"][usize::from(taken)];
+    Some(format!("a tie, {what}, at {:?}", before.state))
 }
 
 /// 02, Wish 2: a replay gives up this laptop's own save, which was overtaken. What

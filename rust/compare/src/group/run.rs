@@ -1,3 +1,5 @@
+use model::engine::Rule;
+
 use super::{Carry, Group, OnTable, Tally};
 use crate::shrink::{drops, Smaller};
 use crate::single::Event;
@@ -20,11 +22,16 @@ pub enum What {
     /// The same for one of these, which come in one packet: entries of the same
     /// packet, one behind the other, take it in one pass.
     Packet { of: Vec<usize>, k: usize },
+    /// The same message in a packet of a group with the other rule of ties, which
+    /// question 27 refuses (02, Wish 6): by a delivery, or accepted at once.
+    OtherRule { of: usize, accepted: bool },
 }
 
 /// A group that has just started fresh, and the list of its entries.
 #[derive(Clone, Debug, PartialEq)]
 pub struct Run {
+    /// The rule of ties of all its laptops.
+    pub rule: Rule,
     pub numbers: Vec<u8>,
     pub view: u16,
     pub records: usize,

@@ -3,7 +3,7 @@
 
 use std::collections::VecDeque;
 
-use model::engine::{bit, has, Timestamp};
+use model::engine::{bit, has, Rule, Timestamp};
 use model::packet::{COUNT_LIMIT, PACKET_LIMIT};
 use model::rng::Rng;
 
@@ -44,6 +44,8 @@ impl Schedule {
 
     /// The same with so many laptops, 2 to 16.
     pub fn start_of(rng: &mut Rng, size: usize, records: usize) -> (Run, Schedule) {
+        // Half of the groups have each rule (02, Wish 6).
+        let rule = Rule::ALL[rng.below(2)];
         let numbers = some_numbers(rng, size);
         let mut view = numbers.iter().fold(0, |set, &number| set | bit(number));
         if rng.chance(1, 10) {
@@ -65,6 +67,7 @@ impl Schedule {
             packets: false,
         };
         let run = Run {
+            rule,
             numbers,
             view,
             records,
@@ -329,6 +332,10 @@ impl Schedule {
         let (of, at) = self.under_way[chosen];
         if self.packets && rng.chance(1, 4) {
             return self.packet(rng, group, at);
+        }
+        if self.packets && rng.chance(1, 40) {
+            let accepted = rng.chance(1, 2);
+            return (at, What::OtherRule { of, accepted });
         }
         if rng.chance(9, 10) {
             self.under_way.remove(chosen);

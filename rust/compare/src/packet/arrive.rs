@@ -2,14 +2,15 @@
 //! kind: with the packet's own facts, and with any others.
 
 use cetskobi::raw::{self, Accepted, Answer, Arrival};
+use model::engine::Rule;
 use model::packet;
 use model::rng::Rng;
 
 use super::deliver::{self, some_delivery, some_letters_with};
 use super::facts::{self, entry_of, lesser, message_of, some_facts, some_index, Told};
-use super::{damage, set_total, Letter};
+use super::{damage, set_total, some_rule_for, Heads, Letter};
 use crate::bytes::Bytes;
-use crate::crossing::sent_of;
+use crate::crossing::{rule_of, sent_of, settings_of};
 use crate::memory::Memory;
 use crate::settings::Settings;
 use crate::shrink::{shrink, Found, Smaller};
@@ -28,7 +29,8 @@ pub type Arrive = fn(&Case, &mut Memory) -> Arrival;
 
 pub fn by_engine(case: &Case, memory: &mut Memory) -> Arrival {
     let deliver::Case { lent, packet, i } = &case.delivery;
-    let facts = case.facts.unwrap_or_else(|| raw::accept(packet));
+    let facts = case.facts;
+    let facts = facts.unwrap_or_else(|| raw::accept(lent.me.settings, packet));
     let (table, store) = memory.lend();
     raw::deliver_accepted(lent.me, table, store, packet, facts, *i)
 }
@@ -37,7 +39,7 @@ pub fn by_engine(case: &Case, memory: &mut Memory) -> Arrival {
 /// and then the model's delivery.
 pub fn by_model(case: &Case, memory: &mut Memory) -> Arrival {
     let deliver::Case { lent, packet, i } = &case.delivery;
-    let own = facts::by_model(packet);
+    let own = facts::by_model(lent.me.settings, packet);
     match case.facts.filter(|&facts| facts != own) {
         None => by_own(lent, packet, *i, memory),
         Some(facts) => by_text(lent, packet, facts, *i, memory),
@@ -45,8 +47,9 @@ pub fn by_model(case: &Case, memory: &mut Memory) -> Arrival {
 }
 
 fn by_own(lent: &single::Case, packet: &[u8], i: usize, memory: &mut Memory) -> Arrival {
+    let replica = replica_of(lent.me);
     let arrived = on_memory(memory, |table, store| {
-        packet::accept(packet)?.deliver(&replica_of(lent.me), table, store, i)
+        packet::accept(replica.settings.rule, packet)?.deliver(&replica, table, store, i)
     });
     match arrived {
         Ok((envelope, answer)) => {
@@ -115,13 +118,18 @@ fn nothing(number: u8) -> Arrival {
 #[derive(Clone, Debug, Default)]
 pub struct Tally {
     /// With the packet's own facts, by the answer.
-    pub own: [u64; 26],
+    pub own: [u64; 28],
+    /// The same by byte 0 of the packet.
+    pub heads: Heads,
+    /// Ties, as `single::tie` has them: by the rule, not taken and taken.
+    pub ties: [[u64; 2]; 2],
     /// With other facts, by what the header says, in the order of `Told::ALL`.
     pub foreign: [u64; 5],
     /// Of these the entries, by the answer of their delivery.
-    pub entries: [u64; 26],
-    /// Of these, entries of packets that question 22 refuses.
+    pub entries: [u64; 28],
+    /// Of these, entries of packets that question 22 refuses, and that 27 does.
     pub unasked: u64,
+    pub unruled: u64,
     /// Refused by question 10, with the packet's own facts, for a later epoch.
     pub later: u64,
 }
@@ -129,11 +137,18 @@ pub struct Tally {
 impl Tally {
     fn count(&mut self, case: &Case, arrival: &Arrival) {
         let deliver::Case { lent, packet, i } = &case.delivery;
-        let own = facts::by_model(packet);
+        let own = facts::by_model(lent.me.settings, packet);
         let answer = usize::from(arrival.answer.number);
         let facts = case.facts.unwrap_or(own);
         if facts == own {
             self.own[answer] += 1;
+            let number = arrival.answer.number;
+            self.heads.count(lent.me.settings, packet, *i, number);
+            let outcome = single::Outcome::of(lent.me, arrival.answer);
+            if let Some(taken) = case.delivery.tie(&outcome) {
+                let rule = rule_of(lent.me.settings) as usize;
+                self.ties[rule][usize::from(taken)] += 1;
+            }
             let later = answer == 10 && arrival.epoch > lent.me.epoch;
             self.later += u64::from(later);
             return;
@@ -143,6 +158,7 @@ impl Tally {
         if told == Told::Entry {
             self.entries[answer] += 1;
             self.unasked += u64::from(own.number == 22);
+            self.unruled += u64::from(own.number == 27);
         }
     }
 }
@@ -199,7 +215,8 @@ fn some_foreign(rng: &mut Rng) -> Case {
         let Some((letters, mut i)) = some_letters_with(rng, &lent) else {
             continue;
         };
-        let whole = unasked_packet(&letters);
+        let rule = some_rule_for(rng, lent.me.settings, 1, 6);
+        let whole = unasked_packet(rule, &letters);
         let mut packet = whole.clone();
         match rng.below(8) {
             0 => damage(rng, &mut packet),
@@ -214,7 +231,7 @@ fn some_foreign(rng: &mut Rng) -> Case {
             count: letters.len() as u8,
         };
         if rng.chance(1, 3) {
-            facts = some_facts(rng, &packet, &whole);
+            facts = some_facts(rng, lent.me.settings, &packet, &whole);
         }
         if rng.chance(1, 6) {
             i = some_index(rng, &packet, facts);
@@ -229,8 +246,8 @@ fn some_foreign(rng: &mut Rng) -> Case {
 
 /// The packet of these messages, each number cut to its width: of good ones a
 /// whole packet.
-fn unasked_packet(letters: &[Letter]) -> Vec<u8> {
-    let mut packet = vec![1, letters.len() as u8, 0, 0];
+fn unasked_packet(rule: Rule, letters: &[Letter]) -> Vec<u8> {
+    let mut packet = vec![settings_of(rule).rule, letters.len() as u8, 0, 0];
     let mut at = 4 + 16 * letters.len();
     for letter in letters {
         let [kind, sender, epoch, record, version, tie, len] = letter.words;

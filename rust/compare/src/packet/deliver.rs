@@ -5,14 +5,15 @@ use model::engine::{number, Message};
 use model::packet;
 use model::rng::Rng;
 
-use super::some::some_letter;
-use super::{damage, packet_of, Letter};
+use super::some::{some_letter, some_rule_for};
+use super::{damage, packet_of, Heads, Letter};
 use crate::bytes::Bytes;
-use crate::crossing::sent_of;
+use crate::crossing::{rule_of, sent_of};
 use crate::memory::Memory;
 use crate::settings::Settings;
 use crate::shrink::{drops, less, shrink, Found, Smaller};
-use crate::single::{self, last_ack, on_memory, replica_of, some_case, Event, Kind, Outcome};
+use crate::single::{self, last_ack, on_memory, replica_of, some_case, tie};
+use crate::single::{Event, Kind, Outcome};
 
 /// A packet, the message that is delivered from it, and what is lent. The
 /// case's own event tells which message was meant.
@@ -50,18 +51,27 @@ pub fn by_model(case: &Case, memory: &mut Memory) -> Outcome {
 /// How often each answer came.
 #[derive(Clone, Debug, Default)]
 pub struct Tally {
-    pub answers: [u64; 26],
+    pub answers: [u64; 28],
+    pub heads: Heads,
+    /// Ties, as `tie` has them: by the rule, not taken and taken.
+    pub ties: [[u64; 2]; 2],
     /// Accepted ACKs that were the last, as `last_ack` has them.
     pub last: [u64; 3],
 }
 
 impl Tally {
     fn count(&mut self, case: &Case, outcome: &Outcome) {
+        let Case { lent, packet, i } = case;
         self.answers[usize::from(outcome.number)] += 1;
-        let Ok((envelope, _)) = packet::fetch(&case.packet, case.i) else {
+        self.heads
+            .count(lent.me.settings, packet, *i, outcome.number);
+        let rule = rule_of(lent.me.settings);
+        if let Some(taken) = case.tie(outcome) {
+            self.ties[rule as usize][usize::from(taken)] += 1;
+        }
+        let Ok((envelope, _)) = packet::fetch(rule, packet, *i) else {
             return;
         };
-        let lent = &case.lent;
         if matches!(envelope.message, Message::Ack(_)) && envelope.record == lent.i {
             let at = last_ack(lent.me, &lent.record, envelope.sender, outcome);
             at.into_iter().for_each(|at| self.last[at] += 1);
@@ -98,8 +108,9 @@ pub(super) fn some_delivery(rng: &mut Rng) -> Case {
         let Some((letters, mut i)) = some_letters_with(rng, &lent) else {
             continue;
         };
+        let rule = some_rule_for(rng, lent.me.settings, 1, 12);
         // What no writer makes stands for itself in a damaged packet.
-        let Some(mut packet) = packet_of(&letters) else {
+        let Some(mut packet) = packet_of(rule, &letters) else {
             continue;
         };
         if rng.chance(1, 6) {
@@ -141,6 +152,19 @@ pub(super) fn some_letters_with(
 }
 
 impl Case {
+    /// A tie of the record that is meant, as `single::tie` has it.
+    pub(super) fn tie(&self, outcome: &Outcome) -> Option<bool> {
+        let lent = &self.lent;
+        let fetched = packet::fetch(rule_of(lent.me.settings), &self.packet, self.i);
+        let envelope = fetched.ok()?.0;
+        match envelope.message {
+            Message::Inv(stamp) if envelope.record == lent.i => {
+                tie(lent.me, &lent.record, (stamp.version, stamp.tie), outcome)
+            }
+            _ => None,
+        }
+    }
+
     /// The answers that a delivery from a packet can give. 12 is none of them:
     /// question 22 has seen to what it asks.
     pub fn answers() -> Vec<usize> {
@@ -151,7 +175,7 @@ impl Case {
             .into_iter()
             .filter(|&answer| answer != 12)
             .collect();
-        all.extend(20..=23);
+        all.extend([20, 21, 22, 23, 27]);
         all.sort_unstable();
         all.dedup();
         all

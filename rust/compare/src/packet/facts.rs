@@ -3,12 +3,13 @@
 
 use std::ops::Range;
 
-use cetskobi::raw::{Accepted, Fetched, Message};
-use model::engine::{number, Refusal};
+use cetskobi::raw::{Accepted, Fetched, Message, Settings};
+use model::engine::{number, Refusal, Rule};
 use model::packet::{self, COUNT_LIMIT};
 use model::rng::Rng;
 
 use super::fetch::refused;
+use crate::crossing::{other_rule, rule_of};
 use crate::shrink::less;
 
 /// What the header says of message i, where the facts are not the packet's own.
@@ -100,9 +101,13 @@ pub fn fetched_of(packet: &[u8], facts: Accepted, i: usize) -> Fetched {
     }
 }
 
-/// The packet's own facts, by the model.
-pub fn by_model(packet: &[u8]) -> Accepted {
-    numbers_of(&packet::accept(packet))
+/// The packet's own facts in a group with these settings, by the model.
+pub fn by_model(settings: Settings, packet: &[u8]) -> Accepted {
+    by_rule(rule_of(settings), packet)
+}
+
+fn by_rule(rule: Rule, packet: &[u8]) -> Accepted {
+    numbers_of(&packet::accept(rule, packet))
 }
 
 /// What the model knows of a packet, as numbers.
@@ -114,14 +119,16 @@ pub fn numbers_of(accepted: &Result<packet::Accepted, Refusal>) -> Accepted {
 }
 
 /// Facts that are mostly not the packet's own: of the packet that it was before it
-/// was damaged, such as another packet has, or such as none has.
-pub fn some_facts(rng: &mut Rng, packet: &[u8], whole: &[u8]) -> Accepted {
+/// was damaged, those that a group with the other rule has of it, such as another
+/// packet has, or such as none has.
+pub fn some_facts(rng: &mut Rng, settings: Settings, packet: &[u8], whole: &[u8]) -> Accepted {
     let byte = |rng: &mut Rng| rng.next_u64() as u8;
-    let (number, count) = match rng.below(8) {
-        0 | 1 => return by_model(whole),
+    let (number, count) = match rng.below(9) {
+        0 | 1 => return by_model(settings, whole),
+        8 => return by_rule(other_rule(rule_of(settings)), packet),
         // Of another that was accepted, and of one that was refused.
         2 | 3 => (0, 1 + rng.below(COUNT_LIMIT) as u8),
-        4 => (20 + rng.below(3) as u8, 0),
+        4 => ([20, 21, 22, 27][rng.below(4)], 0),
         // As the packet says itself, and about that.
         5 => {
             let count = packet.get(1).copied().unwrap_or(1);

@@ -5,12 +5,14 @@ pub mod arrive;
 pub mod deliver;
 pub mod facts;
 pub mod fetch;
+mod heads;
 pub mod pack;
 mod some;
 
-pub use some::{damage, set_total, some_packet};
+pub use heads::Heads;
+pub use some::{damage, set_total, some_packet, some_rule_for};
 
-use model::engine::Envelope;
+use model::engine::{Envelope, Rule};
 use model::packet::Entry;
 
 use crate::crossing::message_of;
@@ -44,15 +46,15 @@ pub struct Letter {
     pub body: Vec<u8>,
 }
 
-/// The packet of these messages, by the model.
-pub fn packet_of(letters: &[Letter]) -> Option<Vec<u8>> {
+/// The packet of these messages in a group with this rule of ties, by the model.
+pub fn packet_of(rule: Rule, letters: &[Letter]) -> Option<Vec<u8>> {
     let entries: Option<Vec<Entry>> = letters
         .iter()
         .map(|letter| entry_of(&letter.words))
         .collect();
     let bodies: Vec<&[u8]> = letters.iter().map(|letter| &letter.body[..]).collect();
     let mut out = vec![0; model::packet::PACKET_LIMIT];
-    let total = model::packet::write(&entries?, &bodies.concat(), &mut out).ok()?;
+    let total = model::packet::write(rule, &entries?, &bodies.concat(), &mut out).ok()?;
     out.truncate(total);
     Some(out)
 }

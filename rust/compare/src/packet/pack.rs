@@ -5,18 +5,22 @@ use model::engine::Refusal;
 use model::packet::{self, Entry, PACKET_LIMIT};
 use model::rng::Rng;
 
+use super::fetch::lesser_rule;
 use super::some::{some_letter, some_letters};
 use super::{entry_of, EntryWords};
 use crate::bytes::Bytes;
+use crate::crossing::{other_rule, rule_of, settings_of};
 use crate::settings::Settings;
 use crate::shrink::{drops, less, plainer, shrink, Found, Smaller};
-use crate::single::{some_bytes, some_word};
+use crate::single::{some_bytes, some_settings, some_word};
 
 /// What lay in the output before.
 const OLD: u8 = 0xa5;
 
 #[derive(Clone, Debug, PartialEq)]
 pub struct Case {
+    /// Those of the group.
+    pub settings: raw::Settings,
     pub words: Vec<u32>,
     pub bodies: Bytes,
     /// The bytes of the output.
@@ -24,20 +28,20 @@ pub struct Case {
 }
 
 /// Packs the messages of these words.
-pub type Pack = fn(&[u32], &[u8], &mut [u8]) -> Written;
+pub type Pack = fn(raw::Settings, &[u32], &[u8], &mut [u8]) -> Written;
 
-pub fn by_engine(words: &[u32], bodies: &[u8], out: &mut [u8]) -> Written {
-    raw::pack(words, bodies, out)
+pub fn by_engine(settings: raw::Settings, words: &[u32], bodies: &[u8], out: &mut [u8]) -> Written {
+    raw::pack(settings, words, bodies, out)
 }
 
 /// Words that are no messages are refused by question 24.
-pub fn by_model(words: &[u32], bodies: &[u8], out: &mut [u8]) -> Written {
+pub fn by_model(settings: raw::Settings, words: &[u32], bodies: &[u8], out: &mut [u8]) -> Written {
     let entries: Option<Vec<Entry>> = match words.as_chunks() {
         (entries, []) => entries.iter().map(entry_of).collect(),
         _ => None,
     };
     let written = match entries {
-        Some(entries) => packet::write(&entries, bodies, out),
+        Some(entries) => packet::write(rule_of(settings), &entries, bodies, out),
         None => Err(Refusal::PacketMessages),
     };
     match written {
@@ -58,8 +62,9 @@ fn difference(case: &Case, other: Pack) -> Result<Written, String> {
     ];
     let [x, y] = &mut buffers;
     let lent = GUARD..GUARD + case.out;
-    let a = by_engine(&case.words, &case.bodies, &mut x[lent.clone()]);
-    let b = other(&case.words, &case.bodies, &mut y[lent.clone()]);
+    let (settings, words, bodies) = (case.settings, &case.words, &case.bodies);
+    let a = by_engine(settings, words, bodies, &mut x[lent.clone()]);
+    let b = other(settings, words, bodies, &mut y[lent.clone()]);
     if a != b {
         return Err(format!("engine {a:?}, other {b:?}"));
     }
@@ -76,11 +81,17 @@ fn difference(case: &Case, other: Pack) -> Result<Written, String> {
     Ok(a)
 }
 
+/// In a group with the other rule it is refused by 27.
 fn round_trip(case: &Case, packet: &[u8]) -> Result<(), String> {
+    let other = settings_of(other_rule(rule_of(case.settings)));
+    let f = raw::fetch(other, packet, 0);
+    if (f.number, f.len) != (27, 0) {
+        return Err(format!("by the other rule it reads back as {f:?}"));
+    }
     let mut at = 0;
     for (i, words) in case.words.as_chunks().0.iter().enumerate() {
         let [kind, sender, epoch, record, version, tie, len]: EntryWords = *words;
-        let f = raw::fetch(packet, i);
+        let f = raw::fetch(case.settings, packet, i);
         let fetched = [
             f.kind.into(),
             f.sender.into(),
@@ -104,7 +115,9 @@ fn round_trip(case: &Case, packet: &[u8]) -> Result<(), String> {
 /// How often each answer came: 0, 24 and 25.
 #[derive(Clone, Debug, Default)]
 pub struct Tally {
-    pub answers: [u64; 26],
+    pub answers: [u64; 28],
+    /// Accepted under the old rule, and under the new.
+    pub rules: [u64; 2],
     /// Accepted packets of 1,400 bytes, and ones refused for one byte more.
     pub full: u64,
     pub over: u64,
@@ -121,6 +134,8 @@ pub fn compare(settings: &Settings, other: Pack) -> Result<Tally, Box<Found<Case
         match difference(&case, other) {
             Ok(written) => {
                 tally.answers[usize::from(written.number)] += 1;
+                let accepted = u64::from(written.number == 0);
+                tally.rules[rule_of(case.settings) as usize] += accepted;
                 let total = 4 + 16 * (case.words.len() / 7) + case.bodies.len();
                 let full = written.number == 0 && total == PACKET_LIMIT;
                 let over = written.number == 25 && total == PACKET_LIMIT + 1;
@@ -150,6 +165,7 @@ fn some_case(rng: &mut Rng) -> Case {
     let words: Vec<EntryWords> = letters.iter().map(|letter| letter.words).collect();
     let bodies: Vec<&[u8]> = letters.iter().map(|letter| &letter.body[..]).collect();
     let mut case = Case {
+        settings: some_settings(rng),
         words: words.as_flattened().to_vec(),
         bodies: Bytes(bodies.concat()),
         out: 0,
@@ -243,6 +259,7 @@ impl Smaller for Case {
             let fewer = fewer.into_iter().filter(move |fewer| *fewer != entries);
             fewer.filter_map(move |fewer| {
                 Some(Case {
+                    settings: self.settings,
                     words: [fewer.as_flattened(), rest].concat(),
                     bodies: bodies.clone()?,
                     out: self.out,
@@ -271,7 +288,11 @@ impl Smaller for Case {
                 case
             })
         });
-        let rest = bodies.chain(cut).chain(numbers).chain(out);
+        let rules = lesser_rule(self.settings).map(|settings| Case {
+            settings,
+            ..self.clone()
+        });
+        let rest = bodies.chain(cut).chain(numbers).chain(out).chain(rules);
         Box::new(letters.chain(fewer).chain(rest))
     }
 }

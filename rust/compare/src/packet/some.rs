@@ -1,7 +1,10 @@
+use cetskobi::raw::Settings;
+use model::engine::Rule;
 use model::packet::PACKET_LIMIT;
 use model::rng::Rng;
 
 use super::{packet_of, Letter};
+use crate::crossing::{other_rule, rule_of};
 use crate::single::{some_bytes, some_word};
 
 const HEAD: usize = 4;
@@ -43,9 +46,19 @@ pub fn some_letters(rng: &mut Rng, room: usize) -> Vec<Letter> {
     letters
 }
 
-/// A packet that is whole.
-pub fn some_packet(rng: &mut Rng) -> Vec<u8> {
-    packet_of(&some_letters(rng, PACKET_LIMIT)).expect("good messages")
+/// A packet of groups with this rule of ties that is whole.
+pub fn some_packet(rng: &mut Rng, rule: Rule) -> Vec<u8> {
+    packet_of(rule, &some_letters(rng, PACKET_LIMIT)).expect("good messages")
+}
+
+/// The rule of a packet that comes to a group with these settings: `times` out of `of`
+/// the rule that the group does not have (02, Wish 6).
+pub fn some_rule_for(rng: &mut Rng, settings: Settings, times: usize, of: usize) -> Rule {
+    let own = rule_of(settings);
+    match rng.chance(times, of) {
+        true => other_rule(own),
+        false => own,
+    }
 }
 
 /// The total length is made that of the bytes.
@@ -89,12 +102,12 @@ pub fn damage(rng: &mut Rng, packet: &mut Vec<u8>) {
             // Any bytes, with a good head.
             let len = [1400, 1401, 1399, 4 + rng.below(1500)][rng.below(4)];
             *packet = some_bytes(rng, len).0;
-            packet[..2].copy_from_slice(&[1, rng.below(70) as u8]);
+            packet[..2].copy_from_slice(&[1 + rng.below(2) as u8, rng.below(70) as u8]);
             set_total(packet);
         }
         7 if !packet.is_empty() => {
-            let at = rng.below(packet.len().min(4));
-            packet[at] = [0, 1, 2, 64, 65, rng.next_u64() as u8][rng.below(6)];
+            let at = [0, rng.below(packet.len().min(4))][rng.below(2)];
+            packet[at] = [0, 1, 2, 3, 64, 65, 255, rng.next_u64() as u8][rng.below(8)];
         }
         8..14 if contents > HEAD => {
             let at = HEAD + rng.below(contents - HEAD);

@@ -1,7 +1,7 @@
 //! A part of the recipe, in the group itself: so large groups too finish saves, or
 //! nearly do.
 
-use cetskobi::Record;
+use cetskobi::{Record, Settings};
 use model::engine::has;
 use model::rng::Rng;
 use settle::{recipe, Held, Step};
@@ -34,7 +34,8 @@ pub fn settle(rng: &mut Rng, group: &Group, schedule: &mut Schedule) {
         .filter_map(|(_, m)| Some((m.me.number, record(m)?)));
     let mut held: Vec<Held> = held.collect();
     held.sort_by_key(|h| h.0);
-    let steps = recipe(&held).unwrap_or_default();
+    let settings = Settings::from(members[0].1.me.settings);
+    let steps = recipe(settings, &held).unwrap_or_default();
     let part = steps.len() - [0, rng.below(steps.len() + 1)][rng.below(2)];
     // Of these some are left out.
     let lost = [0, 8][rng.below(2)];

@@ -1,5 +1,5 @@
 use cetskobi::raw::{self, Replica};
-use cetskobi::{Laptop, Lent, Record, State, Timestamp};
+use cetskobi::{Laptop, Lent, Record, Rule, Settings, State, Timestamp};
 use model::engine::{has, Slot};
 use settle::{by_hand, by_packet, follow, held, steps, Carry, Event, Held, Step};
 
@@ -7,13 +7,13 @@ use super::Kind;
 use crate::group::Group;
 use crate::memory::Memory;
 
-/// Which lists are followed.
+/// Which lists are followed, in groups with these settings.
 #[derive(Clone, Copy)]
 pub struct Rules {
     /// The recipe's.
-    pub recipe: fn(&[Held]) -> Option<Vec<Step>>,
+    pub recipe: fn(Settings, &[Held]) -> Option<Vec<Step>>,
     /// The first events of all that can drive.
-    pub drivers: fn(&[Held]) -> Vec<Step>,
+    pub drivers: fn(Settings, &[Held]) -> Vec<Step>,
 }
 
 impl Rules {
@@ -149,11 +149,13 @@ fn same_text(one: &Text, other: &Text) -> bool {
     (one.0.len, one.1) == (other.0.len, other.1)
 }
 
-/// The record with the latest timestamp. All that hold that have one text.
-fn latest(laptops: &[Lent], i: usize) -> Result<Text, String> {
+/// The record with the latest timestamp, by the group's rule. All that hold that have
+/// one text.
+fn latest(laptops: &[Lent], rule: Rule, i: usize) -> Result<Text, String> {
     let texts: Result<Vec<Text>, String> = laptops.iter().map(|l| text(l, i)).collect();
     let texts = texts?;
-    let latest = texts.iter().max_by_key(|t| t.0.timestamp);
+    let order = |a: &&Text, b: &&Text| a.0.timestamp.compare(b.0.timestamp, rule);
+    let latest = texts.iter().max_by(order);
     let latest = *latest.ok_or("no laptop has it")?;
     let mut holders = texts.iter().filter(|t| t.0.timestamp == latest.0.timestamp);
     match holders.all(|t| same_text(t, &latest)) {
@@ -165,29 +167,42 @@ fn latest(laptops: &[Lent], i: usize) -> Result<Text, String> {
 /// How a list begins, and how many events it takes.
 pub type List = (Kind, usize);
 
+/// What settled a record.
+pub struct Settled {
+    pub rule: Rule,
+    /// At the outset some laptop held the latest timestamp's version with another
+    /// tie-breaker.
+    pub tied: bool,
+    /// The recipe's list, and those of the other drivers.
+    pub recipe: List,
+    pub others: Vec<List>,
+}
+
 /// Follows the recipe for record `i`, and then the list of every other driver, each
-/// on the same memory; no other can drive. Gives the recipe's, and theirs.
-pub fn settles(copies: &mut Copies, i: usize, rules: Rules) -> Result<(List, Vec<List>), String> {
+/// on the same memory; no other can drive.
+pub fn settles(copies: &mut Copies, i: usize, rules: Rules) -> Result<Settled, String> {
     let laptops = copies.lent();
+    let settings = laptops.first().ok_or("no laptops")?.settings();
     let held = held(&laptops, i);
-    let latest = latest(&laptops, i)?;
+    let latest = latest(&laptops, settings.rule, i)?;
     let list = |steps: &[Step]| (Kind::of(&held, steps), steps.len());
 
-    let recipe = (rules.recipe)(&held).ok_or_else(|| format!("nobody begins: {held:?}"))?;
+    let recipe = (rules.recipe)(settings, &held);
+    let recipe = recipe.ok_or_else(|| format!("nobody begins: {held:?}"))?;
     let all_valid = held.iter().all(|(_, r)| r.state == State::Valid);
     if all_valid != recipe.is_empty() {
         return Err(format!("{} steps from {held:?}", recipe.len()));
     }
     copies.follow(i, &recipe, &latest)?;
 
-    let drivers = (rules.drivers)(&held);
+    let drivers = (rules.drivers)(settings, &held);
     let first = recipe.first();
     if first.is_some_and(|first| !drivers.contains(first)) {
         return Err(format!("{first:?} is none of {drivers:?}"));
     }
     let mut others = Vec::new();
     for other in drivers.iter().filter(|other| Some(*other) != first) {
-        let steps = steps(&held, *other);
+        let steps = steps(settings, &held, *other);
         copies.follow(i, &steps, &latest)?;
         others.push(list(&steps));
     }
@@ -196,5 +211,12 @@ pub fn settles(copies: &mut Copies, i: usize, rules: Rules) -> Result<(List, Vec
     if !able.is_empty() {
         return Err(format!("{able:?} can drive too, beside {drivers:?}"));
     }
-    Ok((list(&recipe), others))
+    let Timestamp { version, tie } = latest.0.timestamp;
+    let ties = |r: &Record| r.timestamp.version == version && r.timestamp.tie != tie;
+    Ok(Settled {
+        rule: settings.rule,
+        tied: held.iter().any(|(_, r)| ties(r)),
+        recipe: list(&recipe),
+        others,
+    })
 }

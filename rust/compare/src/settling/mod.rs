@@ -96,9 +96,9 @@ impl Situation {
         };
         tally.group(&copies);
         for i in 0..group.records() {
-            let (recipe, others) = settles(&mut copies, i, rules)
+            let settled = settles(&mut copies, i, rules)
                 .map_err(|what| format!("record {i} at epoch {}: {what}", self.epoch))?;
-            tally.record(self.view, recipe, &others);
+            tally.record(self.view, &settled);
         }
         Ok(())
     }

@@ -1,10 +1,10 @@
 use std::collections::BTreeMap;
 use std::fmt;
 
-use cetskobi::State;
+use cetskobi::{Rule, State};
 use settle::{Event, Held, Step};
 
-use super::look::{Copies, List};
+use super::look::{Copies, Settled};
 
 /// How a list begins: by the driver's event and its state before.
 #[derive(Clone, Copy, Debug, PartialEq, Eq, PartialOrd, Ord)]
@@ -74,6 +74,10 @@ pub struct Tally {
     pub late: u64,
     /// Views that lack a laptop.
     pub absent: u64,
+    /// By the rule of ties, as `Rule::ALL` has them: situations; and those in which
+    /// laptops held stamps of the latest version with different tie-breakers.
+    pub rules: [u64; 2],
+    pub ties: [u64; 2],
 }
 
 impl Tally {
@@ -83,12 +87,16 @@ impl Tally {
         self.late += u64::from(copies.told > 0);
     }
 
-    pub(super) fn record(&mut self, view: u16, (kind, events): List, others: &[List]) {
+    pub(super) fn record(&mut self, view: u16, settled: &Settled) {
+        let (kind, events) = settled.recipe;
         let k = view.count_ones() as usize;
+        let rule = usize::from(settled.rule == Rule::Lower);
+        self.rules[rule] += 1;
+        self.ties[rule] += u64::from(settled.tied);
         *self.kinds.entry((k, kind)).or_default() += 1;
         *self.at_bound.entry(k).or_default() += u64::from(events == 3 * k - 2);
         self.events += events as u64;
-        for (other, events) in others {
+        for (other, events) in &settled.others {
             *self.others.entry((k, kind, *other)).or_default() += 1;
             self.other_events += *events as u64;
         }
@@ -137,6 +145,12 @@ impl fmt::Display for Tally {
         }
         let (situations, events) = (self.situations(), self.events);
         writeln!(f, "{situations} situations, {events} events")?;
+        for (rule, (times, ties)) in Rule::ALL.iter().zip(self.rules.iter().zip(self.ties)) {
+            writeln!(
+                f,
+                "{times} under the {rule} number's rule, {ties} with a tie"
+            )?;
+        }
         let (others, events) = (self.others.values().sum::<u64>(), self.other_events);
         writeln!(f, "{others} lists of other drivers, {events} events")?;
         for ((recipe, other), times) in self.beside() {

@@ -8,8 +8,8 @@ mod tally;
 
 pub use case::{Case, Event, Kind};
 pub use play::{by_engine, by_model, on_memory, on_table, replica_of, Bench, Outcome, Play};
-pub use some::{some_bytes, some_case, some_number, some_set, some_word};
-pub use tally::{last_ack, Tally};
+pub use some::{some_bytes, some_case, some_number, some_set, some_settings, some_word};
+pub use tally::{last_ack, tie, Tally};
 
 use crate::settings::Settings;
 use crate::shrink::{shrink, Found};

@@ -5,7 +5,7 @@ use model::engine::{number, Envelope, Record, Timestamp};
 use model::rng::Rng;
 
 use super::{Case, Event};
-use crate::crossing::{message_of, sent_of, table_of};
+use crate::crossing::{message_of, model_of, sent_of, settings_of, table_of};
 use crate::memory::{Memory, Pool};
 
 /// What an event answers. The moved memory goes with it.
@@ -30,7 +30,10 @@ pub fn by_engine(case: &Case, memory: &mut Memory) -> Outcome {
     let (me, i) = (case.me, case.i);
     let (table, store) = memory.lend();
     match &case.event {
-        Event::Start => Outcome::admitted(raw::start(me.number, me.view, table, store)),
+        Event::Start => {
+            let started = raw::start(me.number, me.view, me.settings, table, store);
+            Outcome::admitted(started)
+        }
         Event::View { epoch, set } => Outcome::admitted(raw::view(me, *epoch, *set)),
         Event::Read => Outcome::of_read(me, i, raw::read(me, table, store, i)),
         Event::Write { value } => Outcome::of(me, raw::write(me, table, store, i, value)),
@@ -122,9 +125,6 @@ pub fn on_memory<O>(memory: &mut Memory, event: impl FnOnce(&mut [Record], &mut 
 
 /// The model's event on its own table.
 pub fn on_table(case: &Case, table: &mut [Record], store: &mut [u8]) -> Outcome {
-    let Replica {
-        number: own, view, ..
-    } = case.me;
     let mut replica = replica_of(case.me);
     let mut part = (0, 0);
     let mut handed_out = (0, 0);
@@ -133,7 +133,8 @@ pub fn on_table(case: &Case, table: &mut [Record], store: &mut [u8]) -> Outcome 
     let i = case.i;
     let answer = match &case.event {
         Event::Start => {
-            let started = model::engine::Replica::start(own, view, table, store);
+            let (own, view, settings) = (replica.number, replica.view, replica.settings);
+            let started = model::engine::Replica::start(own, view, settings, table, store);
             // A refused start names the identity that was asked for.
             replica = started.unwrap_or(model::engine::Replica {
                 epoch: 0,
@@ -173,12 +174,18 @@ pub fn on_table(case: &Case, table: &mut [Record], store: &mut [u8]) -> Outcome 
         Event::Validate => replica.validate(table, store, i),
         Event::Resend => replica.resend(table, store, i),
     };
+    // A start and an accepted view name the rule by its number. All else leaves the
+    // identity byte for byte as it was passed.
+    let me = match (&case.event, &answer) {
+        (Event::Start, _) | (Event::View { .. }, Ok(_)) => identity(&replica),
+        _ => case.me,
+    };
     Outcome {
         number: number(&answer),
         sent: sent_of(answer.unwrap_or_default()),
         part,
         opened: handed_out,
-        me: identity(&replica),
+        me,
     }
 }
 
@@ -187,12 +194,14 @@ pub fn replica_of(me: Replica) -> model::engine::Replica {
         number: me.number,
         epoch: me.epoch,
         view: me.view,
+        settings: model_of(me.settings),
     }
 }
 
 fn identity(replica: &model::engine::Replica) -> Replica {
     Replica {
         number: replica.number,
+        settings: settings_of(replica.settings.rule),
         view: replica.view,
         epoch: replica.epoch,
     }

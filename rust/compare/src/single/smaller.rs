@@ -105,6 +105,7 @@ impl Case {
             Number::Size(&mut self.table),
             Number::Size(&mut self.store),
             Number::Byte(&mut self.me.number),
+            Number::Byte(&mut self.me.settings.rule),
             Number::Short(&mut self.me.view),
             Number::Word(&mut self.me.epoch),
         ];

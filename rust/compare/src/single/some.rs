@@ -1,7 +1,7 @@
 //! Random cases: mostly an event that is accepted, with a few things made
 //! wrong, so that every answer comes often; now and then anything at all.
 
-use cetskobi::raw::{Message, Replica, RECORD_BYTES};
+use cetskobi::raw::{Message, Replica, Settings, RECORD_BYTES};
 use model::engine::{bit, has, Record};
 use model::rng::Rng;
 
@@ -52,6 +52,18 @@ pub fn some_number(rng: &mut Rng) -> u8 {
     }
 }
 
+/// Half with each rule of ties (02, Wish 6), of the old one half with any byte but 2.
+pub fn some_settings(rng: &mut Rng) -> Settings {
+    let any = rng.next_u64() as u8;
+    let rule = match rng.below(4) {
+        0 | 1 => 2,
+        2 => 1,
+        _ if any == 2 => 0,
+        _ => any,
+    };
+    Settings { rule }
+}
+
 pub fn some_set(rng: &mut Rng) -> u16 {
     let any = rng.next_u64() as u16;
     match rng.below(6) {
@@ -88,6 +100,7 @@ fn good(rng: &mut Rng, kind: Kind) -> Case {
     let view = some_set(rng) | bit(number) | bit((number + 1 + rng.below(15) as u8) % 16);
     let me = Replica {
         number,
+        settings: some_settings(rng),
         view,
         epoch: some_word(rng),
     };
@@ -199,11 +212,11 @@ fn delivery(rng: &mut Rng, kind: Kind, me: &Replica, record: &mut Fields) -> Eve
     match kind {
         Kind::Inv => {
             len = some_len(rng);
-            match rng.below(6) {
+            match rng.below(8) {
                 0 => {}
-                1 => tie = rng.below(16) as u8,
-                2 => version = version.wrapping_add(1),
-                3 => version = version.wrapping_sub(1),
+                1..4 => tie = rng.below(16) as u8,
+                4 => version = version.wrapping_add(1),
+                5 => version = version.wrapping_sub(1),
                 _ => (version, tie) = (some_word(rng), rng.below(16) as u8),
             }
         }

@@ -1,15 +1,17 @@
+use std::collections::BTreeMap;
 use std::fmt;
 
 use cetskobi::raw::{Replica, RECORD_BYTES};
-use model::engine::{bit, has};
+use model::engine::{bit, has, Rule};
 
 use super::{Case, Event, Kind, Outcome};
-use crate::crossing::Fields;
+use crate::crossing::{is_after, rule_of, settings_of, Fields};
 
 /// How often each kind of event gave each answer.
 #[derive(Clone, Debug, Default)]
 pub struct Tally {
-    answers: [[u64; 27]; Kind::ALL.len()],
+    /// In groups with the old rule of ties, and with the new.
+    answers: [[[u64; 28]; Kind::ALL.len()]; 2],
     /// Accepted, by the state before: also what was not a move of each state.
     accepted: [[u64; 5]; Kind::ALL.len()],
     /// Accepted INVs that were not greater, by the state.
@@ -28,6 +30,15 @@ pub struct Tally {
     sizes: [u64; SIZES.len()],
     /// Refused by question 5, by what alone is wrong with the record.
     unsound: [u64; UNSOUND.len()],
+    /// Ties, as `tie` has them: by the rule, not taken and taken, and by the state.
+    ties: [[[u64; 5]; 2]; 2],
+    /// Starts and views: accepted and refused, of a rule passed as 1, as 2 and as any
+    /// other byte. The identity has the rule as it should.
+    admitted: [[[u64; 3]; 2]; 2],
+    /// Of these, where it has not.
+    misruled: u64,
+    /// Accepted, by the byte of the rule that was passed.
+    bytes: BTreeMap<u8, u64>,
 }
 
 type Test = fn(&Case) -> bool;
@@ -81,10 +92,12 @@ const NOT_AS_OPENED: [(&str, Test); 12] = [
         differs(case, |(version, tie), held| version == held.0 && tie > 15)
     }),
     ("an older timestamp, at V", |case| {
-        differs(case, |opened, held| opened < held)
+        let rule = rule_of(case.me.settings);
+        differs(case, |opened, held| is_after(held, opened, rule))
     }),
     ("a newer timestamp, at V", |case| {
-        differs(case, |opened, held| opened > held)
+        let rule = rule_of(case.me.settings);
+        differs(case, |opened, held| is_after(opened, held, rule))
     }),
     ("the last-write timestamp, at V", |case| {
         differs(case, |opened, _| opened == case.record.written())
@@ -114,7 +127,12 @@ fn differs(case: &Case, so: impl Fn((u32, u8), (u32, u8)) -> bool) -> bool {
 impl Tally {
     pub fn count(&mut self, case: &Case, outcome: &Outcome) {
         let kind = case.kind();
-        self.answers[kind as usize][usize::from(outcome.number)] += 1;
+        let rule = rule_of(case.me.settings);
+        self.answers[rule as usize][kind as usize][usize::from(outcome.number)] += 1;
+        if outcome.number == 0 {
+            *self.bytes.entry(case.me.settings.rule).or_default() += 1;
+        }
+        self.admit(case, outcome);
         match outcome.number {
             2 => {
                 for (count, (_, wrong)) in self.sizes.iter_mut().zip(SIZES) {
@@ -156,9 +174,16 @@ impl Tally {
                 None => {}
             }
         }
+        if let (Kind::Inv, Event::Deliver { message, .. }) = (kind, &case.event) {
+            let stamp = (message.version, message.tie);
+            if let Some(taken) = tie(case.me, &case.record, stamp, outcome) {
+                self.ties[rule as usize][usize::from(taken)][state] += 1;
+            }
+        }
         match &case.event {
             Event::Deliver { message, .. }
-                if kind == Kind::Inv && (message.version, message.tie) <= case.record.stamp() =>
+                if kind == Kind::Inv
+                    && !is_after((message.version, message.tie), case.record.stamp(), rule) =>
             {
                 self.older[state] += 1;
             }
@@ -167,12 +192,37 @@ impl Tally {
         }
     }
 
-    /// The least of all counts that can be: every answer of every kind, every
-    /// acceptance at every state that allows it, everything that can be wrong.
+    /// A start or a view: the identity has the rule as 1 or 2, whatever byte was passed;
+    /// that of a refused view has the byte.
+    fn admit(&mut self, case: &Case, outcome: &Outcome) {
+        let kinds = [Kind::Start, Kind::View];
+        let Some(event) = kinds.iter().position(|&kind| kind == case.kind()) else {
+            return;
+        };
+        let refused = outcome.number != 0;
+        let passed = case.me.settings;
+        let named = match refused && case.kind() == Kind::View {
+            true => passed,
+            false => settings_of(rule_of(passed)),
+        };
+        if outcome.me.settings != named {
+            self.misruled += 1;
+            return;
+        }
+        let byte = [1, 2].iter().position(|&byte| byte == passed.rule);
+        self.admitted[event][usize::from(refused)][byte.unwrap_or(2)] += 1;
+    }
+
+    /// The least of all counts that can be: every answer of every kind under each rule,
+    /// every acceptance at every state that allows it, everything that can be wrong,
+    /// every tie under each rule at every state, every start and view, and every byte
+    /// of a rule.
     pub fn least(&self) -> u64 {
-        let answers = Kind::ALL.iter().flat_map(|&kind| {
-            let counts = &self.answers[kind as usize];
-            kind.answers().iter().map(|&answer| counts[answer])
+        let answers = self.answers.iter().flat_map(|by_kind| {
+            Kind::ALL.iter().flat_map(|&kind| {
+                let counts = &by_kind[kind as usize];
+                kind.answers().iter().map(|&answer| counts[answer])
+            })
         });
         let accepted = Kind::ALL.iter().flat_map(|&kind| {
             let counts = &self.accepted[kind as usize];
@@ -186,7 +236,31 @@ impl Tally {
         let unreplayed = unreplayed.chain(*present);
         let all = answers.chain(accepted).chain(self.older);
         let all = all.chain(acks).chain(unreplayed).chain(wrong);
-        all.min().unwrap_or(0)
+        let ties = self.ties.as_flattened().as_flattened();
+        let admitted = self.admitted.as_flattened().as_flattened();
+        let rules = ties.iter().chain(admitted).copied();
+        all.chain(rules).chain([self.rarest()]).min().unwrap_or(0)
+    }
+
+    /// 02, Wish 6: half of the events are under each rule; ties came often, taken and
+    /// not taken under each; and so did starts and views, whose identities all have the
+    /// rule as they should.
+    pub fn tied_often(&self) {
+        let [old, new] = Rule::ALL.map(|rule| self.under(rule));
+        assert!(
+            old.abs_diff(new) <= (old + new) / 50,
+            "{old}, {new}\n{self}"
+        );
+        for by_taken in self.ties {
+            for by_state in by_taken {
+                assert!(by_state.iter().sum::<u64>() >= 4000, "{self}");
+            }
+        }
+        for [accepted, refused] in self.admitted {
+            assert!(accepted.iter().all(|&times| times >= 8000), "{self}");
+            assert!(refused.iter().all(|&times| times >= 3000), "{self}");
+        }
+        assert_eq!(self.misruled, 0, "{self}");
     }
 
     /// Replays at invalid and at invalid-write: accepted, and refused by question
@@ -199,8 +273,10 @@ impl Tally {
     /// 02, Wish 5: asks and commits came often, with every answer of their own; and 26
     /// in each of its cases.
     pub fn opened_often(&self) {
-        let [ask, commit] = [Kind::Ask, Kind::Commit].map(|kind| &self.answers[kind as usize]);
-        let counts = [ask[0], ask[6], commit[0], commit[26], commit[8], commit[9]];
+        let of = |kind, answer| self.times(kind, answer);
+        let ask = [0, 6].map(|answer| of(Kind::Ask, answer));
+        let commit = [0, 26, 8, 9].map(|answer| of(Kind::Commit, answer));
+        let counts = [&ask[..], &commit].concat();
         let floors = [45_000, 9_000, 35_000, 15_000, 3_000, 2_800];
         let often = counts
             .iter()
@@ -213,15 +289,40 @@ impl Tally {
     /// Answers that no event of this kind can give.
     pub fn stray(&self) -> u64 {
         let strays = Kind::ALL.iter().flat_map(|&kind| {
-            let counts = self.answers[kind as usize].iter().enumerate();
-            counts.filter(move |(answer, _)| !kind.answers().contains(answer))
+            let answers = (0..28).filter(move |answer| !kind.answers().contains(answer));
+            answers.map(move |answer| self.times(kind, answer))
         });
-        strays.map(|(_, count)| count).sum()
+        strays.sum()
+    }
+
+    /// How often this kind gave this answer.
+    fn times(&self, kind: Kind, answer: usize) -> u64 {
+        let rules = self.answers.iter();
+        rules.map(|by_kind| by_kind[kind as usize][answer]).sum()
+    }
+
+    /// How often the rarest byte of a rule came.
+    fn rarest(&self) -> u64 {
+        let times = |byte: u8| self.bytes.get(&byte).copied().unwrap_or(0);
+        (0..=u8::MAX).map(times).min().unwrap_or(0)
+    }
+
+    /// How many events there were in groups with this rule.
+    fn under(&self, rule: Rule) -> u64 {
+        self.answers[rule as usize].as_flattened().iter().sum()
     }
 
     pub fn total(&self) -> u64 {
-        self.answers.as_flattened().iter().sum()
+        self.under(Rule::Higher) + self.under(Rule::Lower)
     }
+}
+
+/// A tie (02, Wish 6): an accepted INV of the record's version and of another
+/// tie-breaker. Gives whether it is taken by the identity's rule.
+pub fn tie(me: Replica, before: &Fields, inv: (u32, u8), outcome: &Outcome) -> Option<bool> {
+    let tied = inv.0 == before.version && inv.1 != before.tie;
+    let wins = is_after(inv, before.stamp(), rule_of(me.settings));
+    (outcome.number == 0 && tied).then_some(wins)
 }
 
 /// The last ACK: an accepted one after which every other laptop in the view is
@@ -263,7 +364,7 @@ impl fmt::Display for Tally {
         for kind in Kind::ALL {
             write!(f, "{:9}", format!("{kind:?}").to_lowercase())?;
             for &answer in kind.answers() {
-                write!(f, " {answer}:{}", self.answers[kind as usize][answer])?;
+                write!(f, " {answer}:{}", self.times(kind, answer))?;
             }
             writeln!(f)?;
             for &state in states(kind) {
@@ -295,6 +396,28 @@ impl fmt::Display for Tally {
             let [x, w, r] = counts;
             writeln!(f, "          {what} at X:{x} W:{w} R:{r}")?;
         }
+        for (rule, by_taken) in Rule::ALL.iter().zip(self.ties) {
+            for (what, by_state) in ["not taken", "taken"].iter().zip(by_taken) {
+                write!(f, "          a tie, {rule:?}, {what}, at")?;
+                for (state, count) in by_state.iter().enumerate() {
+                    write!(f, " {}:{count}", letter(state))?;
+                }
+                writeln!(f)?;
+            }
+        }
+        for (event, by_answer) in ["start", "view"].iter().zip(self.admitted) {
+            for (answer, [old, new, any]) in ["accepted", "refused"].iter().zip(by_answer) {
+                write!(f, "          {event} {answer}, with the rule as ")?;
+                writeln!(f, "1:{old} 2:{new} another byte:{any}")?;
+            }
+        }
+        let [old, new] = Rule::ALL.map(|rule| self.under(rule));
+        let (rarest, misruled) = (self.rarest(), self.misruled);
+        write!(
+            f,
+            "          {old} under the old rule, {new} under the new; "
+        )?;
+        writeln!(f, "the rarest byte of a rule {rarest}, {misruled} misruled")?;
         let [gone, present] = &self.unreplayed;
         write!(f, "          no replay, the last writer gone, at")?;
         for state in UNREPLAYED {

@@ -10,7 +10,10 @@ pub fn by_peer(case: &Case, memory: &mut Memory) -> Outcome {
     let (me, i) = (case.me, case.i);
     let (table, store) = memory.lend();
     let answer = match &case.event {
-        Event::Start => return Outcome::admitted(peer::start(me.number, me.view, table, store)),
+        Event::Start => {
+            let started = peer::start(me.number, me.view, me.settings, table, store);
+            return Outcome::admitted(started);
+        }
         Event::View { epoch, set } => return Outcome::admitted(peer::view(me, *epoch, *set)),
         Event::Read => return Outcome::of_read(me, i, peer::read(me, table, store, i)),
         Event::Write { value } => peer::write(me, table, store, i, value),
@@ -39,8 +42,9 @@ fn random_events() {
             for [accepted, refused] in tally.replays() {
                 assert!(accepted >= 20_000 && refused >= 3_000, "{tally}");
             }
-            // 02, Wish 5: as in compare's own test.
+            // 02, Wishes 5 and 6: as in compare's own test.
             tally.opened_often();
+            tally.tied_often();
         }
         Err(found) => panic!("{settings}\n{found}"),
     }
@@ -122,6 +126,37 @@ fn a_peer_that_saves_over_what_was_not_seen_is_found() {
     let shrunk = found.expect_err("a difference").shrunk;
     assert_eq!(shrunk.event, Event::Ask);
     assert_ne!(shrunk.record.stamp(), shrunk.record.written());
+}
+
+/// 02, Wish 6: a peer that ignores the rule, and one whose view sets it back to the old,
+/// are found.
+#[test]
+fn a_peer_with_another_rule_is_found() {
+    fn ignores(case: &Case, memory: &mut Memory) -> Outcome {
+        let mut other = case.clone();
+        if let Event::Deliver { .. } = case.event {
+            other.me.settings.rule = 1;
+        }
+        let mut outcome = by_peer(&other, memory);
+        if let Event::Deliver { .. } = case.event {
+            outcome.me = case.me;
+        }
+        outcome
+    }
+    let found = compare(&Settings::USUAL, ignores).expect_err("a difference");
+    println!("{found}");
+    assert_eq!(found.shrunk.me.settings.rule, 2);
+
+    fn resets(case: &Case, memory: &mut Memory) -> Outcome {
+        let mut outcome = by_peer(case, memory);
+        if matches!(case.event, Event::View { .. }) && outcome.number == 0 {
+            outcome.me.settings.rule = 1;
+        }
+        outcome
+    }
+    let found = compare(&Settings::USUAL, resets).expect_err("a difference");
+    println!("{found}");
+    assert_eq!(found.shrunk.me.settings.rule, 2);
 }
 
 /// A wrong peer is found.

@@ -4,12 +4,13 @@
 
 use std::collections::BTreeMap;
 
-use cetskobi::sys::{Answer, Arrival, Message, Replica};
+use cetskobi::sys::{Answer, Arrival, Message, Replica, Settings as GroupSettings};
 use compare::bytes::Bytes;
-use compare::crossing::Fields;
+use compare::crossing::{other_rule, rule_of, settings_of, Fields};
 use compare::memory::Memory;
 use compare::settings::Settings;
-use compare::single::{by_engine, last_ack, some_bytes, Case, Event, Kind, Outcome};
+use compare::single::{by_engine, last_ack, some_bytes, tie, Case, Event, Kind, Outcome};
+use model::engine::Rule;
 use model::rng::Rng;
 use speed::{engine, peer};
 
@@ -20,14 +21,29 @@ const RUNS: usize = 1000;
 const STEPS: usize = 1000;
 const RECORDS: usize = 2;
 
-/// How often each kind of event gave each answer.
-type Tally = BTreeMap<Kind, [u64; 27]>;
+/// What came about in all groups.
+#[derive(Default)]
+struct Tally {
+    /// How often each kind of event gave each answer.
+    answers: BTreeMap<Kind, [u64; 28]>,
+    /// The last ACKs, as `last_ack` has them: at invalid-write, write and replay.
+    last: [u64; 3],
+    /// Replays at invalid and at invalid-write: accepted, and refused by question 16.
+    replays: [[u64; 2]; 2],
+    /// Messages that came with others in one pass.
+    passed: u64,
+    /// By the rule of ties (02, Wish 6): starts, accepted views, ties that were not
+    /// taken and that were, and packets of the other rule.
+    rules: [Ruled; 2],
+}
 
-/// The last ACKs, as `last_ack` has them: at invalid-write, write and replay.
-type Last = [u64; 3];
-
-/// Replays at invalid and at invalid-write: accepted, and refused by question 16.
-type Replays = [[u64; 2]; 2];
+#[derive(Clone, Copy, Debug, Default)]
+struct Ruled {
+    starts: u64,
+    views: u64,
+    ties: [u64; 2],
+    others: u64,
+}
 
 /// A replica with the memory of both sides.
 struct Member {
@@ -68,14 +84,14 @@ impl Post {
     }
 }
 
-/// The packet of these, alike by both sides.
-fn packed(posts: &[Post]) -> Vec<u8> {
+/// The packet of these in a group with these settings, alike by both sides.
+fn packed(settings: GroupSettings, posts: &[Post]) -> Vec<u8> {
     let entries: Vec<[u32; 7]> = posts.iter().map(Post::entry).collect();
     let bodies: Vec<&[u8]> = posts.iter().map(|post| &post.body[..]).collect();
     let (entries, bodies) = (entries.as_flattened(), bodies.concat());
     let (mut x, mut y) = ([0; 1400], [0; 1400]);
-    let written = engine::pack(entries, &bodies, &mut x);
-    assert_eq!(written, peer::pack(entries, &bodies, &mut y));
+    let written = engine::pack(settings, entries, &bodies, &mut x);
+    assert_eq!(written, peer::pack(settings, entries, &bodies, &mut y));
     assert_eq!((written.number, x), (0, y));
     x[..written.len].to_vec()
 }
@@ -87,32 +103,30 @@ fn some_value(rng: &mut Rng) -> Bytes {
 }
 
 struct Group {
+    /// Of all its members.
+    settings: GroupSettings,
     members: Vec<Member>,
     posts: Vec<Post>,
     /// The views, by epoch.
     views: Vec<u16>,
     tally: Tally,
-    last: Last,
-    replays: Replays,
-    /// Messages that came with others in one pass.
-    passed: u64,
 }
 
 impl Group {
-    fn start(rng: &mut Rng, tally: Tally, last: Last, replays: Replays) -> Group {
+    /// Half of the groups have each rule.
+    fn start(rng: &mut Rng, tally: Tally) -> Group {
+        let settings = settings_of(Rule::ALL[rng.below(2)]);
         let mut numbers: Vec<u8> = (0..16).collect();
         while numbers.len() > 2 + rng.below(3) {
             numbers.remove(rng.below(numbers.len()));
         }
         let view = numbers.iter().map(|n| 1 << n).sum();
         let mut group = Group {
+            settings,
             members: vec![],
             posts: vec![],
             views: vec![view],
             tally,
-            last,
-            replays,
-            passed: 0,
         };
         for (at, &number) in numbers.iter().enumerate() {
             let (mut table, mut store) = ([0; 16 * RECORDS], [0; 192 * RECORDS]);
@@ -121,9 +135,10 @@ impl Group {
             let mut memory = Memory::default();
             memory.lay(&table, &store);
             let (engine, peer) = (memory.clone(), memory);
-            // The start names the view, and gives epoch 0.
+            // The start names the view and the settings, and gives epoch 0.
             let me = Replica {
                 number,
+                settings,
                 view,
                 epoch: 0,
             };
@@ -209,19 +224,21 @@ impl Group {
         let Some(post) = self.some_post(rng) else {
             return;
         };
-        match rng.below(8) {
+        let one = std::slice::from_ref(&post);
+        match rng.below(9) {
             0..4 => {
                 let Case { i, event, .. } = post.delivery(self.members[at].me);
                 self.play(at, i, event);
             }
             4..7 => {
-                let packet = packed(std::slice::from_ref(&post));
+                let packet = packed(self.settings, one);
                 self.both(at, &post, |me, memory, by_engine| {
                     let (table, store) = memory.lend();
                     let deliver = [peer::deliver_packet, engine::deliver_packet];
                     deliver[usize::from(by_engine)](me, table, store, &packet, 0)
                 });
             }
+            7 => self.stray(at, one),
             _ => {
                 let mut posts = vec![post];
                 for _ in 0..rng.below(6) {
@@ -232,6 +249,28 @@ impl Group {
         }
     }
 
+    /// A packet of a group with the other rule: refused by 27, and nothing moves.
+    fn stray(&mut self, at: usize, posts: &[Post]) {
+        let rule = rule_of(self.settings);
+        let packet = packed(settings_of(other_rule(rule)), posts);
+        let Member {
+            me, engine, peer, ..
+        } = &mut self.members[at];
+        let before = engine.clone();
+        let (table, store) = engine.lend();
+        let a = engine::deliver_packet(*me, table, store, &packet, 0);
+        let all = engine::accept(me.settings, &packet);
+        let b = engine::deliver_accepted(*me, table, store, &packet, all, 0);
+        assert_eq!(all, peer::accept(me.settings, &packet));
+        let (table, store) = peer.lend();
+        let c = peer::deliver_packet(*me, table, store, &packet, 0);
+        let d = peer::deliver_accepted(*me, table, store, &packet, all, 0);
+        assert_eq!((all.number, all.count, a.number), (27, 0, 27));
+        assert_eq!((a, a, b), (c, b.answer, d));
+        assert_eq!((&*engine, &*peer), (&before, &before));
+        self.tally.rules[rule as usize].others += 1;
+    }
+
     fn some_post(&self, rng: &mut Rng) -> Option<Post> {
         let few = self.posts.len().min([10, 10, 10, 1000][rng.below(4)]);
         let k = self.posts.len().checked_sub(1 + rng.below(few))?;
@@ -240,9 +279,10 @@ impl Group {
 
     /// A packet of these is accepted once, and each of its messages delivered.
     fn pass(&mut self, at: usize, posts: &[Post]) {
-        let packet = packed(posts);
-        let all = engine::accept(&packet);
-        assert_eq!(all, peer::accept(&packet));
+        let settings = self.members[at].me.settings;
+        let packet = packed(settings, posts);
+        let all = engine::accept(settings, &packet);
+        assert_eq!(all, peer::accept(settings, &packet));
         assert_eq!((all.number, usize::from(all.count)), (0, posts.len()));
         for (k, post) in posts.iter().enumerate() {
             self.both(at, post, |me, memory, by_engine| {
@@ -260,7 +300,7 @@ impl Group {
                 assert_eq!((epoch, sender, index), (m.epoch, m.sender, post.i));
                 answer
             });
-            self.passed += 1;
+            self.tally.passed += 1;
         }
     }
 
@@ -296,15 +336,27 @@ impl Group {
         let member = &mut self.members[at];
         let difference = member.engine.difference(&member.peer);
         assert_eq!(difference, None, "{:?} of {:?}", case.event, case.me);
-        let counts = self.tally.entry(case.kind()).or_default();
+        // Every member keeps the settings of the group.
+        assert_eq!(a.me.settings, self.settings, "{:?}", case.event);
+        let tally = &mut self.tally;
+        let counts = tally.answers.entry(case.kind()).or_default();
         counts[usize::from(a.number)] += 1;
         if let (Kind::Ack, Event::Deliver { message, .. }) = (case.kind(), &case.event) {
             let last = before.and_then(|before| last_ack(case.me, &before, message.sender, a));
-            last.into_iter().for_each(|state| self.last[state] += 1);
+            last.into_iter().for_each(|state| tally.last[state] += 1);
+        }
+        let ruled = &mut tally.rules[rule_of(self.settings) as usize];
+        ruled.starts += u64::from(case.kind() == Kind::Start);
+        ruled.views += u64::from(case.kind() == Kind::View && a.number == 0);
+        if let (Kind::Inv, Event::Deliver { message, .. }) = (case.kind(), &case.event) {
+            let stamp = (message.version, message.tie);
+            let tied = before.and_then(|before| tie(case.me, &before, stamp, a));
+            tied.into_iter()
+                .for_each(|taken| ruled.ties[usize::from(taken)] += 1);
         }
         let state = before.map(|before| before.state);
         if let (Event::Replay, Some(state @ (1 | 2))) = (&case.event, state) {
-            let replays = &mut self.replays[usize::from(state) - 1];
+            let replays = &mut tally.replays[usize::from(state) - 1];
             match a.number {
                 0 => replays[0] += 1,
                 16 => replays[1] += 1,
@@ -347,16 +399,21 @@ fn random_groups() {
     // Shown if it fails.
     println!("{settings}");
     let mut rng = settings.rng("group of peers");
-    let (mut tally, mut last, mut replays) = (Tally::new(), [0; 3], [[0; 2]; 2]);
-    let mut passed = 0;
+    let mut tally = Tally::default();
     for _ in 0..RUNS * settings.times {
-        let mut group = Group::start(&mut rng, tally, last, replays);
+        let mut group = Group::start(&mut rng, tally);
         for _ in 0..STEPS {
             group.step(&mut rng);
         }
-        (tally, last, replays) = (group.tally, group.last, group.replays);
-        passed += group.passed;
+        tally = group.tally;
     }
+    let Tally {
+        answers: tally,
+        last,
+        replays,
+        passed,
+        rules,
+    } = tally;
     println!("{passed} messages in one pass");
     assert!(passed >= 100_000);
     let reached: [(Kind, &[usize]); 12] = [
@@ -379,8 +436,16 @@ fn random_groups() {
     println!("the last ACK at X, W, R: {last:?}");
     assert!(last.iter().all(|&times| times >= 20));
     println!("replays at I, X, accepted and refused by 16: {replays:?}");
-    // 160 and 5,130, 343 and 6,179 were counted.
+    // 162 and 4,524, 401 and 6,998 were counted.
     for ([accepted, refused], floor) in replays.into_iter().zip([[100, 3000], [200, 4000]]) {
         assert!(accepted >= floor[0] && refused >= floor[1], "{replays:?}");
+    }
+    // 02, Wish 6: 3,003 and 1,516 ties were counted under the old rule, 3,395 and 1,708
+    // under the new.
+    println!("under each rule: {rules:?}");
+    for ruled in rules {
+        assert!(ruled.starts >= 1000 && ruled.views >= 1500);
+        assert!(ruled.ties[0] >= 1500 && ruled.ties[1] >= 800);
+        assert!(ruled.others >= 15_000);
     }
 }

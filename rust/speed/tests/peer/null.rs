@@ -2,11 +2,15 @@
 
 use std::ptr::{null, null_mut};
 
-use cetskobi::sys::{Accepted, Answer, Message, Replica};
+use cetskobi::sys::{Accepted, Answer, Message, Replica, Settings};
 use speed::pointers::{engine, peer, GONE};
+
+/// Of a group with the new rule of ties (02, Wish 6).
+const GROUP: Settings = Settings { rule: 2 };
 
 const ME: Replica = Replica {
     number: 0,
+    settings: GROUP,
     view: 3,
     epoch: 0,
 };
@@ -40,9 +44,10 @@ macro_rules! same {
 #[test]
 fn no_memory() {
     let (t, s) = (null_mut(), null_mut());
-    let packet = [1, 1, 0, 20, 1, 1, 0, 0, 0, 0, 0, 0, 0, 0, 0, 1, 1, 0, 20, 0];
+    let packet = [2, 1, 0, 20, 1, 1, 0, 0, 0, 0, 0, 0, 0, 0, 0, 1, 1, 0, 20, 0];
     same! {
-        start(0, 3, t, 0, s, 0);
+        start(0, 3, GROUP, t, 0, s, 0);
+        start(0, 3, Settings { rule: 0 }, t, 0, s, 0);
         read(ME, t, 0, s, 0, 0);
         write(ME, t, 0, s, 0, 0, null(), 0);
         ask(ME, t, 0, s, 0, 0);
@@ -53,9 +58,9 @@ fn no_memory() {
         deliver(ME, t, 0, s, 0, 0, INV, null(), 0);
         deliver_packet(ME, t, 0, s, 0, packet.as_ptr(), 20, 0);
         deliver_packet(ME, t, 0, s, 0, null(), 0, 0);
-        fetch(null(), 0, 0);
-        pack(null(), 0, null(), 0, null_mut(), 0);
-        accept(null(), 0);
+        fetch(GROUP, null(), 0, 0);
+        pack(GROUP, null(), 0, null(), 0, null_mut(), 0);
+        accept(GROUP, null(), 0);
     }
     // The packet's own facts, and others.
     for (number, count) in [(0, 1), (20, 0), (0, 0), (0, 255), (7, 1), (7, 0)] {
@@ -87,15 +92,16 @@ fn no_bytes() {
             by_engine,
             peer::deliver(ME, u, 16, v, 192, 0, INV, null(), 0)
         );
-        let by_engine = engine::pack(ack.as_ptr(), 7, null(), 0, x.as_mut_ptr(), 20);
+        let by_engine = engine::pack(GROUP, ack.as_ptr(), 7, null(), 0, x.as_mut_ptr(), 20);
         assert_eq!(
             by_engine,
-            peer::pack(ack.as_ptr(), 7, null(), 0, y.as_mut_ptr(), 20)
+            peer::pack(GROUP, ack.as_ptr(), 7, null(), 0, y.as_mut_ptr(), 20)
         );
         assert_eq!((by_engine.number, by_engine.len), (0, 20));
     }
     assert_eq!((a, x), (b, y));
-    assert_eq!(b.0, [2, 1, 1, 0, 1, 0, 0, 0, 1, 0, 0, 0, 0, 0, 0, 0]);
+    // 0's own save wins the tie with 1's INV.
+    assert_eq!(b.0, [3, 0, 0, 0, 1, 0, 0, 0, 1, 0, 0, 0, 0, 0, 0, 0]);
 }
 
 /// A commit of no bytes.

@@ -1,6 +1,6 @@
 //! Packets, whole and damaged, and lists of messages, good and bad.
 
-use cetskobi::sys::{Accepted, Arrival, Fetched};
+use cetskobi::sys::{Accepted, Arrival, Fetched, Settings as Group, Written};
 use compare::memory::Memory;
 use compare::packet::accept::{self, Side};
 use compare::packet::facts::Told;
@@ -15,7 +15,11 @@ use crate::often;
 fn fetched() {
     let settings = Settings::from_env();
     match fetch::compare(&settings, peer::fetch) {
-        Ok(tally) => often("fetch", &tally.answers, &[0, 20, 21, 22, 23], 1000),
+        Ok(tally) => {
+            let answers = [0, 20, 21, 22, 23, 27];
+            often("fetch", &tally.answers, &answers, 1000);
+            tally.heads.often(&[0, 21, 22, 23], 5000);
+        }
         Err(found) => panic!("{settings}\n{found}"),
     }
 }
@@ -24,7 +28,10 @@ fn fetched() {
 fn packed() {
     let settings = Settings::from_env();
     match pack::compare(&settings, peer::pack) {
-        Ok(tally) => often("pack", &tally.answers, &[0, 24, 25], 1000),
+        Ok(tally) => {
+            often("pack", &tally.answers, &[0, 24, 25], 1000);
+            assert!(tally.rules.iter().all(|&times| times >= 50_000));
+        }
         Err(found) => panic!("{settings}\n{found}"),
     }
 }
@@ -44,6 +51,9 @@ fn delivered() {
             often("delivery from a packet", &tally.answers, &answers, 100);
             println!("the last ACK at X, W, R: {:?}", tally.last);
             assert!(tally.last.iter().all(|&times| times >= 100));
+            tally.heads.often(&[0, 21, 22, 23], 100);
+            println!("ties by each rule, not taken and taken: {:?}", tally.ties);
+            assert!(tally.ties.as_flattened().iter().all(|&times| times >= 3000));
         }
         Err(found) => panic!("{settings}\n{found}"),
     }
@@ -51,7 +61,7 @@ fn delivered() {
 
 const PEER: Side = Side {
     accept: peer::accept,
-    fetch: peer::fetch_accepted,
+    fetch: |_, packet, facts, i| peer::fetch_accepted(packet, facts, i),
 };
 
 /// With facts of another packet, or made-up ones, each case of the header.
@@ -67,10 +77,12 @@ fn accepted() {
     let settings = Settings::from_env();
     match accept::compare(&settings, PEER) {
         Ok(tally) => {
-            often("accept", &tally.packets, &[0, 20, 21, 22], 1000);
-            often("accepted fetch", &tally.own, &[0, 20, 21, 22, 23], 1000);
+            often("accept", &tally.packets, &[0, 20, 21, 22, 27], 1000);
+            let answers = [0, 20, 21, 22, 23, 27];
+            often("accepted fetch", &tally.own, &answers, 1000);
             each_case("accepted fetch", &tally.foreign);
-            assert!(tally.unasked >= 1000);
+            assert!(tally.unasked >= 1000 && tally.unruled >= 1000);
+            tally.heads.often(&[0, 21, 22], 1000);
         }
         Err(found) => panic!("{settings}\n{found}"),
     }
@@ -78,7 +90,8 @@ fn accepted() {
 
 fn arrives(case: &arrive::Case, memory: &mut Memory) -> Arrival {
     let deliver::Case { lent, packet, i } = &case.delivery;
-    let facts = case.facts.unwrap_or_else(|| peer::accept(packet));
+    let facts = case.facts;
+    let facts = facts.unwrap_or_else(|| peer::accept(lent.me.settings, packet));
     let (table, store) = memory.lend();
     peer::deliver_accepted(lent.me, table, store, packet, facts, *i)
 }
@@ -94,7 +107,10 @@ fn arrived() {
             each_case("accepted delivery", &tally.foreign);
             let answers = [0, 1, 2, 3, 4, 5, 10, 11, 12, 13, 14];
             often("delivery of an entry", &tally.entries, &answers, 100);
-            assert!(tally.unasked >= 1000);
+            assert!(tally.unasked >= 1000 && tally.unruled >= 1000);
+            tally.heads.often(&[0, 21, 22, 23], 50);
+            println!("ties by each rule, not taken and taken: {:?}", tally.ties);
+            assert!(tally.ties.as_flattened().iter().all(|&times| times >= 1500));
         }
         Err(found) => panic!("{settings}\n{found}"),
     }
@@ -104,7 +120,7 @@ fn arrived() {
 #[test]
 fn wrong_peers_are_found() {
     // It trusts the facts: 22 is not answered.
-    fn trusts(packet: &[u8], facts: Accepted, i: usize) -> Fetched {
+    fn trusts(_: Group, packet: &[u8], facts: Accepted, i: usize) -> Fetched {
         let right = peer::fetch_accepted(packet, facts, i);
         if Told::of(packet, facts, i) == Told::NoBytes {
             return Fetched { number: 0, ..right };
@@ -127,5 +143,21 @@ fn wrong_peers_are_found() {
         }
     }
     let found = arrive::compare(&Settings::USUAL, silent).expect_err("a difference");
+    println!("{found}");
+
+    // 02, Wish 6: it always writes 1.
+    fn writes_1(_: Group, words: &[u32], bodies: &[u8], out: &mut [u8]) -> Written {
+        peer::pack(Group { rule: 1 }, words, bodies, out)
+    }
+    let found = pack::compare(&Settings::USUAL, writes_1).expect_err("a difference");
+    println!("{found}");
+    assert_eq!(found.shrunk.settings.rule, 2);
+
+    // It takes the packet's rule for the group's.
+    fn any_rule(_: Group, packet: &[u8], i: usize) -> Fetched {
+        let rule = packet.first().copied().unwrap_or(0);
+        peer::fetch(Group { rule }, packet, i)
+    }
+    let found = fetch::compare(&Settings::USUAL, any_rule).expect_err("a difference");
     println!("{found}");
 }
