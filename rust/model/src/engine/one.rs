@@ -3,7 +3,7 @@
 //! the whole memory do, since an event looks at no other record (01, after the
 //! questions).
 
-use super::{Answer, Envelope, Record, Refusal, Replica, Slot, Timestamp};
+use super::{Answer, Envelope, Record, Refusal, Replica, Settings, Slot, Timestamp};
 
 /// How much memory is lent: the count of records, and the store's bytes.
 #[derive(Clone, Copy, Debug, PartialEq, Eq)]
@@ -25,11 +25,12 @@ impl Replica {
     pub fn start_one(
         number: u8,
         view: u16,
+        settings: Settings,
         sizes: Sizes,
         record: &mut Record,
         slot: &mut Slot,
     ) -> Result<Replica, Refusal> {
-        let (replica, fresh) = Replica::fresh(number, view, sizes)?;
+        let (replica, fresh) = Replica::fresh(number, view, settings, sizes)?;
         *record = fresh;
         slot.fill(0);
         Ok(replica)

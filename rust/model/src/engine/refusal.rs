@@ -63,6 +63,9 @@ pub enum Refusal {
     /// Commit on a record that is not valid, or not with the stamp that it was
     /// opened with (02, Wish 5).
     NotAsOpened = 26,
+    /// The packet is of the rule of ties that the group does not have (02, Wish
+    /// 6).
+    OtherRule = 27,
 }
 
 impl Refusal {

@@ -1,4 +1,4 @@
-use super::{ask, bit, has, Answer, Envelope, Message, Record, Refusal, Sizes};
+use super::{ask, bit, has, Answer, Envelope, Message, Record, Refusal, Settings, Sizes};
 
 /// A replica: one laptop of the group. Its records lie in lent memory.
 #[derive(Clone, Copy, Debug, PartialEq, Eq, Hash)]
@@ -6,6 +6,8 @@ pub struct Replica {
     pub number: u8,
     pub epoch: u32,
     pub view: u16,
+    /// The group's, fixed at its start.
+    pub settings: Settings,
 }
 
 impl Replica {
@@ -13,18 +15,26 @@ impl Replica {
     pub const NUMBER_LIMIT: u8 = 15;
 
     /// A replica before any event, and each of its records (01, "A fresh
-    /// start"). It asks questions 1, 2 and 3.
-    pub(super) fn fresh(number: u8, view: u16, sizes: Sizes) -> Result<(Replica, Record), Refusal> {
+    /// start"). It asks questions 1, 2 and 3. The stamps have the lowest number
+    /// in the view by either rule of ties (02, Wish 6, leaves that as it is).
+    pub(super) fn fresh(
+        number: u8,
+        view: u16,
+        settings: Settings,
+        sizes: Sizes,
+    ) -> Result<(Replica, Record), Refusal> {
         let replica = Replica {
             number,
             epoch: 0,
             view,
+            settings,
         };
         replica.ask_memory(sizes)?;
         Ok((replica, Record::fresh(view.trailing_zeros() as u8)))
     }
 
     /// A view event (01, "View"). It asks only 1 and 3 of the common questions.
+    /// The settings stay (02, Wish 6).
     pub fn change_view(&mut self, epoch: u32, view: u16) -> Answer {
         self.ask_group()?;
         self.ask_member()?;

@@ -92,7 +92,8 @@ impl Replica {
 
         match message {
             Message::Inv(timestamp) => {
-                if timestamp > record.timestamp {
+                // By the group's rule of ties (02, Wish 6).
+                if timestamp.is_after(record.timestamp, self.settings.rule) {
                     let len = put(slot, body);
                     *record = record.invalidated(sender, timestamp, len);
                 }

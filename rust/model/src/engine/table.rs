@@ -1,17 +1,22 @@
 //! The events over lent memory: a table of records and a store of 192 bytes
 //! for each.
 
-use super::{Answer, Envelope, Message, Record, Refusal, Replica, Sizes, Slot, Timestamp};
+use super::{
+    Answer, Envelope, Message, Record, Refusal, Replica, Settings, Sizes, Slot, Timestamp,
+};
 
 impl Replica {
-    /// A fresh start (01, "Laptop and record").
+    /// A fresh start (01, "Laptop and record"), in a group with these settings
+    /// (02, Wish 6).
     pub fn start(
         number: u8,
         view: u16,
+        settings: Settings,
         table: &mut [Record],
         store: &mut [u8],
     ) -> Result<Replica, Refusal> {
-        let (replica, fresh) = Replica::fresh(number, view, Sizes::of(table, store))?;
+        let sizes = Sizes::of(table, store);
+        let (replica, fresh) = Replica::fresh(number, view, settings, sizes)?;
         table.fill(fresh);
         store.fill(0);
         Ok(replica)

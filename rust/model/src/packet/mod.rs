@@ -1,5 +1,6 @@
 //! Packets (01, "Packets"): several messages with their bodies in at most
-//! 1,400 bytes, big-endian, contents first.
+//! 1,400 bytes, big-endian, contents first. Byte 0 names the group's rule of
+//! ties (02, Wish 6), so reading and writing take that rule.
 
 mod read;
 mod write;
@@ -18,8 +19,6 @@ pub const COUNT_LIMIT: usize = 64;
 const HEAD: usize = 4;
 /// Bytes of one message in the contents.
 const ENTRY: usize = 16;
-/// Byte 0 of every packet.
-const FORMAT: u8 = 1;
 
 /// One line of the contents: a message and the length of its body.
 #[derive(Clone, Copy, Debug, PartialEq, Eq, Hash)]

@@ -1,12 +1,13 @@
-use super::{Entry, COUNT_LIMIT, ENTRY, FORMAT, HEAD, PACKET_LIMIT};
-use crate::engine::{ask, Answer, Envelope, Message, Record, Refusal, Replica, Timestamp};
+use super::{Entry, COUNT_LIMIT, ENTRY, HEAD, PACKET_LIMIT};
+use crate::engine::{ask, Answer, Envelope, Message, Record, Refusal, Replica, Rule, Timestamp};
 
-/// Message `index` of the packet, with its body as that part of the packet.
+/// Message `index` of the packet, with its body as that part of the packet, in a
+/// group with this rule of ties: questions 20, 27, 21, 22 and 23 (02, Wish 6).
 ///
 /// The whole packet is judged first, the entries behind `index` included. A
 /// refused fetch gives no part; the paper's empty part stands for it.
-pub fn fetch(packet: &[u8], index: usize) -> Result<(Envelope, &[u8]), Refusal> {
-    let (entries, mut offset) = ask_contents(packet)?;
+pub fn fetch(rule: Rule, packet: &[u8], index: usize) -> Result<(Envelope, &[u8]), Refusal> {
+    let (entries, mut offset) = ask_contents(rule, packet)?;
     let mut found = None;
     for (i, bytes) in entries.iter().enumerate() {
         let entry = decode(bytes, offset).ok_or(Refusal::PacketEntry)?;
@@ -22,8 +23,8 @@ pub fn fetch(packet: &[u8], index: usize) -> Result<(Envelope, &[u8]), Refusal> 
     Ok((envelope, &packet[place]))
 }
 
-/// Delivers message `index` of the packet: questions 20 to 23, then those of
-/// the delivery.
+/// Delivers message `index` of the packet: the questions of [`fetch`], with the
+/// replica's rule of ties, then those of the delivery.
 pub fn deliver(
     replica: &Replica,
     table: &mut [Record],
@@ -31,12 +32,12 @@ pub fn deliver(
     packet: &[u8],
     index: usize,
 ) -> Answer {
-    let (envelope, body) = fetch(packet, index)?;
+    let (envelope, body) = fetch(replica.settings.rule, packet, index)?;
     replica.deliver(table, store, &envelope, body)
 }
 
-/// A packet that questions 20 to 22 let pass. The whole of it was judged once;
-/// each of its messages is then taken in constant time (02, Wish 4).
+/// A packet that questions 20, 27, 21 and 22 let pass. The whole of it was judged
+/// once; each of its messages is then taken in constant time (02, Wish 4).
 #[derive(Clone, Copy, Debug)]
 pub struct Accepted<'a> {
     packet: &'a [u8],
@@ -44,9 +45,9 @@ pub struct Accepted<'a> {
     entries: &'a [[u8; ENTRY]],
 }
 
-/// Judges the whole packet.
-pub fn accept(packet: &[u8]) -> Result<Accepted<'_>, Refusal> {
-    let (entries, mut offset) = ask_contents(packet)?;
+/// Judges the whole packet, in a group with this rule of ties.
+pub fn accept(rule: Rule, packet: &[u8]) -> Result<Accepted<'_>, Refusal> {
+    let (entries, mut offset) = ask_contents(rule, packet)?;
     for bytes in entries {
         let entry = decode(bytes, offset).ok_or(Refusal::PacketEntry)?;
         offset += usize::from(entry.len);
@@ -62,7 +63,7 @@ impl<'a> Accepted<'a> {
     }
 
     /// Message `index`, with its body as that part of the packet: what [`fetch`]
-    /// gives of these bytes. Of the questions only 23 is left.
+    /// gives of these bytes by the same rule. Of the questions only 23 is left.
     #[inline]
     pub fn message(&self, index: usize) -> Result<(Envelope, &'a [u8]), Refusal> {
         let bytes = self.entries.get(index).ok_or(Refusal::PacketIndex)?;
@@ -82,6 +83,9 @@ impl<'a> Accepted<'a> {
 
     /// Delivers message `index`: question 23, then those of the delivery. The
     /// envelope tells which message came, also where its delivery is refused.
+    ///
+    /// Decision: the packet was accepted by the rule of the replica's group, and
+    /// 27 is not asked again.
     pub fn deliver(
         &self,
         replica: &Replica,
@@ -94,27 +98,31 @@ impl<'a> Accepted<'a> {
     }
 }
 
-/// 01, questions 20 and 21. Gives the contents table, and where it ends.
-fn ask_contents(packet: &[u8]) -> Result<(&[[u8; ENTRY]], usize), Refusal> {
-    let end = HEAD + ENTRY * ask_head(packet)?;
+/// 01, questions 20 and 21, with 27 between. Gives the contents table, and where
+/// it ends.
+fn ask_contents(rule: Rule, packet: &[u8]) -> Result<(&[[u8; ENTRY]], usize), Refusal> {
+    let end = HEAD + ENTRY * ask_head(rule, packet)?;
     let contents = packet.get(HEAD..end).ok_or(Refusal::PacketContents)?;
     Ok((contents.as_chunks().0, end))
 }
 
-/// 01, question 20. Gives the count of messages.
-fn ask_head(packet: &[u8]) -> Result<usize, Refusal> {
-    let [format, count, high, low, ..] = *packet else {
+/// 01, question 20, which lets byte 0 name either rule, then question 27 (02,
+/// Wish 6). Gives the count of messages.
+fn ask_head(rule: Rule, packet: &[u8]) -> Result<usize, Refusal> {
+    let [byte, count, high, low, ..] = *packet else {
         return Err(Refusal::PacketHead);
     };
+    let named = Rule::of_byte(byte);
     let count = usize::from(count);
     let total = usize::from(u16::from_be_bytes([high, low]));
     ask(
-        format == FORMAT
+        named.is_some()
             && (1..=COUNT_LIMIT).contains(&count)
             && total == packet.len()
             && total <= PACKET_LIMIT,
         Refusal::PacketHead,
     )?;
+    ask(named == Some(rule), Refusal::OtherRule)?;
     Ok(count)
 }
 

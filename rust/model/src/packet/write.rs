@@ -1,11 +1,17 @@
-use super::{Entry, COUNT_LIMIT, ENTRY, FORMAT, HEAD, PACKET_LIMIT};
-use crate::engine::{ask, Message, Refusal};
+use super::{Entry, COUNT_LIMIT, ENTRY, HEAD, PACKET_LIMIT};
+use crate::engine::{ask, Message, Refusal, Rule};
 
 /// Writes the messages, with their bodies end to end, as one packet at the
-/// beginning of `out`, and gives its length. Output past it is untouched.
+/// beginning of `out`, and gives its length. Output past it is untouched. The
+/// group's rule of ties is named by byte 0, and by nothing else (02, Wish 6).
 ///
 /// Decision: the count is the slice's length.
-pub fn write(entries: &[Entry], bodies: &[u8], out: &mut [u8]) -> Result<usize, Refusal> {
+pub fn write(
+    rule: Rule,
+    entries: &[Entry],
+    bodies: &[u8],
+    out: &mut [u8],
+) -> Result<usize, Refusal> {
     ask_messages(entries, bodies)?;
     let contents_end = HEAD + ENTRY * entries.len();
     let total = contents_end + bodies.len();
@@ -15,7 +21,7 @@ pub fn write(entries: &[Entry], bodies: &[u8], out: &mut [u8]) -> Result<usize, 
     let (head, rest) = packet.split_at_mut(HEAD);
     let (contents, tail) = rest.split_at_mut(ENTRY * entries.len());
     let [high, low] = (total as u16).to_be_bytes();
-    head.copy_from_slice(&[FORMAT, entries.len() as u8, high, low]);
+    head.copy_from_slice(&[rule.byte(), entries.len() as u8, high, low]);
     let mut offset = contents_end;
     for (bytes, entry) in contents.as_chunks_mut().0.iter_mut().zip(entries) {
         *bytes = encode(entry, offset as u16);

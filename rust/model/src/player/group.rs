@@ -3,12 +3,16 @@
 use std::io::Write;
 
 use super::line::{Event, Line};
-use crate::engine::{body, number, Answer, Envelope, Record, Replica, Slot, State, Timestamp};
+use crate::engine::{
+    body, number, Answer, Envelope, Record, Replica, Rule, Settings, Slot, State, Timestamp,
+};
 
 /// The log holds this many messages.
 const LOG_LIMIT: usize = 256;
 /// Every replica has this one record.
 const RECORD: usize = 0;
+/// The program keeps the old rule of ties (02, Wish 6).
+const SETTINGS: Settings = Settings { rule: Rule::Higher };
 
 /// A replica with its memory.
 #[derive(Clone, Copy)]
@@ -80,7 +84,7 @@ impl Member {
     fn start(number: u8, view: u16) -> Option<Member> {
         let mut table = [Record::fresh(0)];
         let mut store = [0; Record::VALUE_LIMIT];
-        let replica = Replica::start(number, view, &mut table, &mut store).ok()?;
+        let replica = Replica::start(number, view, SETTINGS, &mut table, &mut store).ok()?;
         Some(Member {
             replica,
             table,

@@ -1,14 +1,14 @@
 //! Random runs of small groups, with loss, repetition, reordering and changes
 //! of view. Demand 3 is checked after every event, and so is what Wish 5 promises.
 
-use std::collections::{BTreeMap, BTreeSet};
+use std::collections::{BTreeMap, BTreeSet, HashMap};
 
-use model::engine::{bit, Answer, Message, Record, Refusal, State, Timestamp};
+use model::engine::{bit, Answer, Message, Record, Refusal, Rule, State, Timestamp};
 use model::rng::Rng;
 
 use crate::group::{Commit, Event, Group};
 use crate::schedule::Schedule;
-use crate::support::{ack, inv, rng, set, val, Member};
+use crate::support::{ack, inv, other, rng, set, val, winner, Member};
 
 const RUNS: usize = 8000;
 const EVENTS: usize = 160;
@@ -47,11 +47,14 @@ fn name(
             let envelope = &group.posts[post].envelope;
             let held = member.table[envelope.record];
             match envelope.message {
-                Message::Inv(timestamp) if held.timestamp > timestamp => "older INV",
-                Message::Inv(_) => match held.state {
-                    State::InvalidWrite => "INV at a write",
-                    _ => "INV",
-                },
+                Message::Inv(timestamp) => {
+                    let older = held.timestamp.is_after(timestamp, group.rule);
+                    match (older, held.state) {
+                        (true, _) => "older INV",
+                        (_, State::InvalidWrite) => "INV at a write",
+                        _ => "INV",
+                    }
+                }
                 Message::Ack(_) => match (before[envelope.record].state, answer) {
                     (State::Write, Ok(Some(_))) => "last ACK at a write",
                     (State::Replay, Ok(Some(_))) => "last ACK at a replay",
@@ -82,10 +85,29 @@ fn end(name: &str) -> &'static str {
     }
 }
 
+/// The names under which an INV of another number's, of the record's version, is
+/// tallied besides (02, Wish 6).
+fn of_tie(group: &Group, before: &[Record], event: &Event) -> Option<&'static str> {
+    let Event::Deliver { post } = *event else {
+        return None;
+    };
+    let envelope = &group.posts[post].envelope;
+    let Message::Inv(new) = envelope.message else {
+        return None;
+    };
+    let held = before[envelope.record].timestamp;
+    if new.version != held.version || new.tie == held.tie {
+        return None;
+    }
+    let won = winner(group.rule, &[new.tie, held.tie]) == new.tie;
+    Some(if won { "tie, won" } else { "tie, lost" })
+}
+
 /// The names under which a commit on this stamp is tallied besides, given the
-/// record before; whether another has committed on it; and whether this replica
-/// was handed it out.
+/// rule of ties; the record before; whether another has committed on it; and
+/// whether this replica was handed it out.
 fn of_commit(
+    rule: Rule,
     answer: &Answer,
     before: &Record,
     opened: Timestamp,
@@ -105,7 +127,7 @@ fn of_commit(
         ("26, not valid", !valid),
         (
             "26, a newer save between",
-            valid && was_asked && opened < held,
+            valid && was_asked && held.is_after(opened, rule),
         ),
         ("26, the tie-breaker alone", valid && one_version),
         ("26, the version alone", valid && one_tie),
@@ -130,21 +152,25 @@ type Besides = fn(&Record, &mut Record);
 /// The engine as it is.
 fn nothing(_: &Record, _: &mut Record) {}
 
-fn run(rng: &mut Rng, together: bool, tally: &mut Tally, besides: Besides) -> Result<(), String> {
-    run_with(rng, together, tally, besides, Member::commit)
+fn run(
+    rng: &mut Rng,
+    rule: Rule,
+    together: bool,
+    tally: &mut Tally,
+    besides: Besides,
+) -> Result<(), String> {
+    let start = Schedule::start(rng, rule, together);
+    run_with(rng, start, tally, besides)
 }
 
 fn run_with(
     rng: &mut Rng,
-    together: bool,
+    (mut group, mut schedule): (Group, Schedule),
     tally: &mut Tally,
     besides: Besides,
-    commit: Commit,
 ) -> Result<(), String> {
-    let (mut group, mut schedule) = Schedule::start(rng, together);
-    group.commit = commit;
     // The commits: by record and stamp, who.
-    let mut saved: BTreeMap<(usize, Timestamp), BTreeSet<usize>> = BTreeMap::new();
+    let mut saved: HashMap<(usize, Timestamp), BTreeSet<usize>> = HashMap::new();
     // The records that were replayed from invalid-write and still are in replay.
     let mut given_up = BTreeSet::new();
     for _ in 0..EVENTS {
@@ -155,7 +181,14 @@ fn run_with(
             let by = saved.entry((record, opened)).or_default();
             let others = by.iter().any(|other| *other != at);
             let was_asked = group.opened[at][record].stamps().any(|s| s == opened);
-            for name in of_commit(&answer, &before[record], opened, others, was_asked) {
+            for name in of_commit(
+                group.rule,
+                &answer,
+                &before[record],
+                opened,
+                others,
+                was_asked,
+            ) {
                 *tally.entry(name).or_default() += 1;
             }
             if answer.is_ok() {
@@ -165,6 +198,9 @@ fn run_with(
         if answer.is_ok() {
             let name = name(&group, &before, at, &event, &answer);
             *tally.entry(name).or_default() += 1;
+            if let Some(name) = of_tie(&group, &before, &event) {
+                *tally.entry(name).or_default() += 1;
+            }
             for (record, held) in group.members[at].table.iter().enumerate() {
                 if held.state != State::Replay && given_up.remove(&(at, record)) {
                     *tally.entry(end(name)).or_default() += 1;
@@ -190,14 +226,21 @@ fn run_with(
 #[test]
 fn random_groups() {
     let mut rng = rng();
-    let mut tally = Tally::new();
-    for number in 0..RUNS {
-        let together = rng.chance(1, 3);
-        if let Err(broken) = run(&mut rng, together, &mut tally, nothing) {
-            panic!("run {number}: {broken}");
+    for rule in Rule::ALL {
+        let mut tally = Tally::new();
+        for number in 0..RUNS / 2 {
+            let together = rng.chance(1, 3);
+            if let Err(broken) = run(&mut rng, rule, together, &mut tally, nothing) {
+                panic!("run {number}, {rule:?}: {broken}");
+            }
         }
+        println!("{rule:?} {tally:?}");
+        all_came_about(&tally);
     }
-    println!("{tally:?}");
+}
+
+/// Nothing is missing from this tally of half the runs.
+fn all_came_about(tally: &Tally) {
     let names = [
         "read",
         "write",
@@ -221,26 +264,28 @@ fn random_groups() {
     ];
     // 02, Wish 2: replays from invalid-write are many, with each of their ends.
     let many = [
-        ("replay from invalid-write", 1000),
-        ("given up, all in invalid-write", 200),
-        ("given up, last ACK", 600),
-        ("given up, validated", 10),
-        ("given up, VAL", 120),
-        ("given up, INV", 20),
+        ("replay from invalid-write", 500),
+        ("given up, all in invalid-write", 100),
+        ("given up, last ACK", 300),
+        ("given up, validated", 5),
+        ("given up, VAL", 60),
+        ("given up, INV", 10),
     ];
     // 02, Wish 5.
     let saves = [
-        ("ask", 15_000),
-        ("commit", 8000),
-        ("commit on a stamp of two", 1200),
-        ("commit, 8", 5),
-        ("26, not valid", 15_000),
-        ("26, a newer save between", 3000),
-        ("26, the tie-breaker alone", 700),
-        ("26, the version alone", 1800),
-        ("26, a tie-breaker above 15", 250),
+        ("ask", 7500),
+        ("commit", 4000),
+        ("commit on a stamp of two", 600),
+        ("commit, 8", 2),
+        ("26, not valid", 7500),
+        ("26, a newer save between", 1500),
+        ("26, the tie-breaker alone", 350),
+        ("26, the version alone", 900),
+        ("26, a tie-breaker above 15", 125),
     ];
-    let many = many.into_iter().chain(saves);
+    // 02, Wish 6.
+    let ties = [("tie, won", 1000), ("tie, lost", 1000)];
+    let many = many.into_iter().chain(saves).chain(ties);
     for (name, least) in names.map(|name| (name, 5)).into_iter().chain(many) {
         let times = tally.get(name).copied().unwrap_or(0);
         assert!(times >= least, "{name}: only {times} times");
@@ -257,13 +302,34 @@ fn kept_acknowledgements() {
         }
     };
     let mut rng = rng();
-    let mut broken = 0;
-    for _ in 0..RUNS {
-        let done = run(&mut rng, true, &mut Tally::new(), keep);
-        broken += u32::from(done.is_err());
+    for rule in Rule::ALL {
+        let mut broken = 0;
+        for _ in 0..RUNS {
+            let done = run(&mut rng, rule, true, &mut Tally::new(), keep);
+            broken += u32::from(done.is_err());
+        }
+        println!("{rule:?}: broken {broken}");
+        assert!(broken >= 3, "{rule:?}: only {broken} runs broken");
     }
-    println!("broken {broken}");
-    assert!(broken >= 3, "only {broken} runs broken");
+}
+
+/// A laptop that has the other rule of ties, against the premises (02, Wish 6),
+/// breaks demand 3, and the random runs see it.
+#[test]
+fn another_rule() {
+    let mut rng = rng();
+    for rule in Rule::ALL {
+        let mut broken = 0;
+        for _ in 0..RUNS / 4 {
+            let (mut group, schedule) = Schedule::start(&mut rng, rule, true);
+            let at = rng.below(group.members.len());
+            group.members[at].replica.settings.rule = other(rule);
+            let done = run_with(&mut rng, (group, schedule), &mut Tally::new(), nothing);
+            broken += u32::from(done.is_err());
+        }
+        println!("{rule:?}: broken {broken}");
+        assert!(broken >= 100, "{rule:?}: only {broken} runs broken");
+    }
 }
 
 /// Engines that commit on a stamp other than the record's break what Wish 5
@@ -282,8 +348,11 @@ fn commits_on_another_stamp() {
     for (wrong, least) in [(any, 1000), (version_alone, 5)] {
         let mut rng = rng();
         let mut broken = 0;
-        for _ in 0..RUNS {
-            let done = run_with(&mut rng, true, &mut Tally::new(), nothing, wrong);
+        for number in 0..RUNS {
+            let rule = Rule::ALL[number % 2];
+            let (mut group, schedule) = Schedule::start(&mut rng, rule, true);
+            group.commit = wrong;
+            let done = run_with(&mut rng, (group, schedule), &mut Tally::new(), nothing);
             broken += u32::from(done.is_err_and(|what| what.contains("saved over")));
         }
         println!("broken {broken}");
@@ -295,10 +364,16 @@ fn commits_on_another_stamp() {
 /// check sees it, by a read and by an ask.
 #[test]
 fn the_check_of_what_is_shown_can_fail() {
+    for rule in Rule::ALL {
+        the_check_of_what_is_shown_can_fail_by(rule);
+    }
+}
+
+fn the_check_of_what_is_shown_can_fail_by(rule: Rule) {
     for event in [Event::Read { record: 0 }, Event::Ask { record: 0 }] {
-        let mut group = station();
+        let mut group = station(rule);
         let now = group.members[0].clone();
-        group.members[0] = Group::start(&[0], set(&[0, 1, 2]), 1).members.remove(0);
+        group.members[0] = Member::start(rule, 0, set(&[0, 1, 2]), 1);
         assert_eq!(group.play(0, &event), Ok(None));
         group.members[0] = now.clone();
         assert_eq!(group.play(0, &event), Ok(None));
@@ -317,8 +392,8 @@ fn the_check_of_what_is_shown_can_fail() {
 
 /// Replica 0 has written; 1 has acknowledged, 2 has heard nothing. The view
 /// {0,1} of epoch 1 has come to 0 alone, which validates.
-fn station() -> Group {
-    let mut group = Group::start(&[0, 1, 2], set(&[0, 1, 2]), 1);
+fn station(rule: Rule) -> Group {
+    let mut group = Group::start(rule, &[0, 1, 2], set(&[0, 1, 2]), 1);
     let value = b"old ring".to_vec();
     let write = Event::Write { record: 0, value };
     let view = Event::View {
@@ -339,20 +414,24 @@ fn station() -> Group {
 /// takes a validation meant for the new group.
 #[test]
 fn the_first_station() {
-    let mut group = station();
-    let answer = group.play(1, &Event::Deliver { post: 2 });
-    assert_eq!(answer, Err(Refusal::OtherEpoch));
-    assert!(group.agreement().is_ok());
-    assert_eq!(group.durability(), Ok(()));
+    for rule in Rule::ALL {
+        let mut group = station(rule);
+        let answer = group.play(1, &Event::Deliver { post: 2 });
+        assert_eq!(answer, Err(Refusal::OtherEpoch));
+        assert!(group.agreement().is_ok());
+        assert_eq!(group.durability(), Ok(()));
+    }
 }
 
 /// The same with an altered epoch, against the premises: the check sees it.
 #[test]
 fn the_first_check_can_fail() {
-    let mut group = station();
-    group.posts[2].envelope.epoch = 0;
-    assert_eq!(group.play(1, &Event::Deliver { post: 2 }), Ok(None));
-    assert!(group.agreement().is_err());
+    for rule in Rule::ALL {
+        let mut group = station(rule);
+        group.posts[2].envelope.epoch = 0;
+        assert_eq!(group.play(1, &Event::Deliver { post: 2 }), Ok(None));
+        assert!(group.agreement().is_err());
+    }
 }
 
 /// A forged acknowledgement of 2's for 0's first write, which 2 has not heard of.
@@ -369,37 +448,43 @@ fn forge(group: &mut Group) {
 /// A forged last acknowledgement validates while 2 still shows the old text.
 #[test]
 fn the_second_check_can_fail() {
-    let mut group = Group::start(&[0, 2], set(&[0, 2]), 1);
-    forge(&mut group);
-    assert_eq!(group.durability(), Ok(()));
-    let answer = group.play(0, &Event::Deliver { post: 0 });
-    assert_eq!(answer, Ok(Some(val(1, 0))));
-    assert!(group.durability().is_err());
+    for rule in Rule::ALL {
+        let mut group = Group::start(rule, &[0, 2], set(&[0, 2]), 1);
+        forge(&mut group);
+        assert_eq!(group.durability(), Ok(()));
+        let answer = group.play(0, &Event::Deliver { post: 0 });
+        assert_eq!(answer, Ok(Some(val(1, 0))));
+        assert!(group.durability().is_err());
+    }
 }
 
 /// The same by the separate validation: 1, whose acknowledgement is missing, is
 /// struck off.
 #[test]
 fn the_second_check_can_fail_at_validate() {
-    let mut group = Group::start(&[0, 1, 2], set(&[0, 1, 2]), 1);
-    forge(&mut group);
-    assert_eq!(group.play(0, &Event::Deliver { post: 0 }), Ok(None));
-    let view = Event::View {
-        epoch: 1,
-        view: set(&[0, 2]),
-    };
-    assert_eq!(group.play(0, &view), Ok(None));
-    assert_eq!(group.durability(), Ok(()));
-    let answer = group.play(0, &Event::Validate { record: 0 });
-    assert_eq!(answer, Ok(Some(val(1, 0))));
-    assert!(group.durability().is_err());
+    for rule in Rule::ALL {
+        let mut group = Group::start(rule, &[0, 1, 2], set(&[0, 1, 2]), 1);
+        forge(&mut group);
+        assert_eq!(group.play(0, &Event::Deliver { post: 0 }), Ok(None));
+        let view = Event::View {
+            epoch: 1,
+            view: set(&[0, 2]),
+        };
+        assert_eq!(group.play(0, &view), Ok(None));
+        assert_eq!(group.durability(), Ok(()));
+        let answer = group.play(0, &Event::Validate { record: 0 });
+        assert_eq!(answer, Ok(Some(val(1, 0))));
+        assert!(group.durability().is_err());
+    }
 }
 
 /// A VAL sent again is no validation.
 #[test]
 fn a_resent_val_is_no_validation() {
-    let mut group = Group::start(&[0, 2], set(&[0, 2]), 1);
-    let answer = group.play(0, &Event::Resend { record: 0 });
-    assert_eq!(answer, Ok(Some(val(0, 0))));
-    assert!(group.validations.is_empty());
+    for rule in Rule::ALL {
+        let mut group = Group::start(rule, &[0, 2], set(&[0, 2]), 1);
+        let answer = group.play(0, &Event::Resend { record: 0 });
+        assert_eq!(answer, Ok(Some(val(0, 0))));
+        assert!(group.validations.is_empty());
+    }
 }

@@ -2,17 +2,19 @@
 //! that each may be lost, late and repeated. All situations that can come about
 //! are gone through, and demand 3 is checked in each, and what Wish 5 promises.
 //!
+//! All this by either rule of ties (02, Wish 6).
+//!
 //! Two saves (02, Wish 2): laptops 0, 1 and 2, of which each may save once, and
-//! the view {0,1}. Ask, then save (02, Wish 5): two laptops ask, and commit on what
+//! the view without the one that wins a tie. Ask, then save (02, Wish 5): two laptops ask, and commit on what
 //! they were handed out, now or before.
 
 use std::collections::HashSet;
 use std::hash::{DefaultHasher, Hash, Hasher};
 
-use model::engine::{Record, Refusal, State};
+use model::engine::{Record, Refusal, Rule, State};
 
 use crate::group::{Commit, Event, Group, Post};
-use crate::support::{set, Member};
+use crate::support::{other, set, winner, Member};
 
 /// A situation in brief: members with what they have handed out, posts,
 /// validations, the latter two in any order. Two that differ but have it in common, which is unlikely, are taken
@@ -47,7 +49,7 @@ type Events = fn(&Group, usize) -> Vec<Event>;
 /// Two saves.
 fn two_saves(group: &Group, at: usize) -> Vec<Event> {
     let record = 0;
-    let view = set(&[0, 1]);
+    let view = set(&[0, 1, 2]) & !set(&[winner(group.rule, &[0, 1, 2])]);
     let mut events = vec![
         Event::Replay { record },
         Event::Validate { record },
@@ -92,9 +94,9 @@ struct Found {
     valid_pairs: u32,
 }
 
-/// Laptops of these numbers.
-fn laptops(numbers: &[u8]) -> Group {
-    Group::start(numbers, set(numbers), 1)
+/// Laptops of these numbers, with this rule of ties.
+fn laptops(rule: Rule, numbers: &[u8]) -> Group {
+    Group::start(rule, numbers, set(numbers), 1)
 }
 
 /// Goes through all situations up to one against demand 3 or Wish 5; `besides` is
@@ -163,48 +165,70 @@ fn said_once(group: &mut Group) {
 
 #[test]
 fn no_order_breaks_it() {
-    let found = find(laptops(&[0, 1, 2]), two_saves, |_, _| ()).expect("demand 3");
-    println!("{found:?}");
-    assert!(found.situations > 50_000, "{found:?}");
-    assert!(found.given_up > 10_000, "{found:?}");
-    assert!(found.valid_pairs > 10_000, "{found:?}");
+    for rule in Rule::ALL {
+        let found = find(laptops(rule, &[0, 1, 2]), two_saves, |_, _| ()).expect("demand 3");
+        println!("{found:?}");
+        assert!(found.situations > 50_000, "{found:?}");
+        assert!(found.given_up > 10_000, "{found:?}");
+        assert!(found.valid_pairs > 10_000, "{found:?}");
+    }
 }
 
 /// An engine that kept the acknowledgements of the save it gives up is found.
 #[test]
 fn kept_acknowledgements() {
-    let found = find(laptops(&[0, 1, 2]), two_saves, |before, after| {
-        after.acks = before.acks;
-    });
-    assert!(found.is_err(), "{found:?}");
+    for rule in Rule::ALL {
+        let found = find(laptops(rule, &[0, 1, 2]), two_saves, |before, after| {
+            after.acks = before.acks;
+        });
+        assert!(found.is_err(), "{found:?}");
+    }
+}
+
+/// A laptop that has the other rule is found: two of them save, and each keeps its
+/// own text or each takes the other's.
+#[test]
+fn another_rule() {
+    for rule in Rule::ALL {
+        for at in 0..3 {
+            let mut group = laptops(rule, &[0, 1, 2]);
+            group.members[at].replica.settings.rule = other(rule);
+            let found = find(group, two_saves, |_, _| ());
+            assert!(found.is_err(), "{found:?}");
+        }
+    }
 }
 
 /// 02, Wish 5: between an accepted ask and an accepted commit on its stamp the
 /// record kept stamp and bytes, and asks never hand out an earlier stamp.
 #[test]
 fn no_order_saves_over_what_was_not_seen() {
-    let two = (laptops(&[0, 1]), ask_then_save::<4> as Events);
-    let three = (laptops(&[0, 1, 2]), ask_then_save::<3> as Events);
-    for (start, events) in [two, three] {
-        let found = find(start, events, |_, _| ()).expect("Wish 5");
-        println!("{found:?}");
-        assert!(found.situations > 40_000, "{found:?}");
-        let [accepted, refused] = found.commits;
-        assert!(accepted > 3000 && refused > 20_000, "{found:?}");
-        assert!(found.valid_pairs > 20_000, "{found:?}");
+    for rule in Rule::ALL {
+        let two = (laptops(rule, &[0, 1]), ask_then_save::<4> as Events);
+        let three = (laptops(rule, &[0, 1, 2]), ask_then_save::<3> as Events);
+        for (start, events) in [two, three] {
+            let found = find(start, events, |_, _| ()).expect("Wish 5");
+            println!("{found:?}");
+            assert!(found.situations > 40_000, "{found:?}");
+            let [accepted, refused] = found.commits;
+            assert!(accepted > 3000 && refused > 20_000, "{found:?}");
+            assert!(found.valid_pairs > 20_000, "{found:?}");
+        }
     }
 }
 
 /// An engine that commits on the version alone is found.
 #[test]
 fn commits_on_the_version_alone() {
-    let wrong: Commit = |member: &mut Member, record, opened, value| match member.ask(record) {
-        Ok((_, held)) if held.version == opened.version => member.write(record, value),
-        _ => Err(Refusal::NotAsOpened),
-    };
-    let mut group = laptops(&[0, 1]);
-    group.commit = wrong;
-    let found = find(group, ask_then_save::<2>, |_, _| ());
-    let what = found.expect_err("Wish 5");
-    assert!(what.contains("saved over"), "{what}");
+    for rule in Rule::ALL {
+        let wrong: Commit = |member: &mut Member, record, opened, value| match member.ask(record) {
+            Ok((_, held)) if held.version == opened.version => member.write(record, value),
+            _ => Err(Refusal::NotAsOpened),
+        };
+        let mut group = laptops(rule, &[0, 1]);
+        group.commit = wrong;
+        let found = find(group, ask_then_save::<2>, |_, _| ());
+        let what = found.expect_err("Wish 5");
+        assert!(what.contains("saved over"), "{what}");
+    }
 }

@@ -1,7 +1,9 @@
 //! A group at work: its members, every message that ever left, the views that
 //! the warden issues, demand 3 in both halves, and what Wish 5 promises.
 
-use model::engine::{body, has, number, Answer, Envelope, Message, State, Timestamp};
+use model::engine::{
+    body, has, number, Answer, Envelope, Message, Replica, Rule, State, Timestamp,
+};
 use model::opened::{Held, Opened};
 
 use crate::support::Member;
@@ -65,6 +67,8 @@ pub type Commit = fn(&mut Member, usize, Timestamp, &[u8]) -> Answer;
 
 #[derive(Clone)]
 pub struct Group {
+    /// Of ties (02, Wish 6).
+    pub rule: Rule,
     pub members: Vec<Member>,
     pub posts: Vec<Post>,
     pub validations: Vec<Validation>,
@@ -77,14 +81,16 @@ pub struct Group {
 }
 
 impl Group {
-    /// All members have just started fresh, with one first view.
-    pub fn start(numbers: &[u8], view: u16, records: usize) -> Group {
-        let start = |&number| Member::start(number, view, records);
+    /// All members have just started fresh, with one first view and this rule of
+    /// ties.
+    pub fn start(rule: Rule, numbers: &[u8], view: u16, records: usize) -> Group {
+        let start = |&number| Member::start(rule, number, view, records);
         Group {
+            rule,
             members: numbers.iter().map(start).collect(),
             posts: Vec::new(),
             validations: Vec::new(),
-            opened: vec![vec![Opened::default(); records]; numbers.len()],
+            opened: vec![vec![Opened::new(rule); records]; numbers.len()],
             against: None,
             commit: Member::commit,
         }
@@ -159,11 +165,11 @@ impl Group {
     }
 
     /// From this post on, all that leaves comes to those left whom it is for, in
-    /// this order. Members' places are their numbers.
+    /// this order.
     pub fn everything_arrives(&mut self, mut post: usize, left: &[usize]) {
         while post < self.posts.len() {
             for &at in left {
-                if self.posts[post].to >> at & 1 == 1 {
+                if has(self.posts[post].to, self.members[at].replica.number) {
                     // Some are answered already: a second VAL, say.
                     let _ = self.checked(at, &Event::Deliver { post });
                 }
@@ -211,9 +217,10 @@ impl Group {
         for validation in &self.validations {
             for member in &self.members {
                 let shown = &member.table[validation.record];
+                let stamp = validation.timestamp;
                 if has(validation.view, member.replica.number)
                     && shown.state == State::Valid
-                    && shown.timestamp < validation.timestamp
+                    && stamp.is_after(shown.timestamp, self.rule)
                 {
                     let replica = member.replica;
                     return Err(format!("{validation:?}, but {replica:?} {shown:?}"));
@@ -252,8 +259,17 @@ fn changes_only(before: &Member, after: &Member, record: usize, answer: &Answer)
         assert_eq!(after, before, "refused by {}", number(answer));
         return;
     }
-    let is_view = record == usize::MAX;
-    assert!(is_view || after.replica == before.replica);
+    let Replica { epoch, view, .. } = after.replica;
+    let expected = match record {
+        // A view: number and settings stay.
+        usize::MAX => Replica {
+            epoch,
+            view,
+            ..before.replica
+        },
+        _ => before.replica,
+    };
+    assert_eq!(after.replica, expected);
     for other in (0..before.table.len()).filter(|&other| other != record) {
         assert_eq!(after.table[other], before.table[other]);
         assert_eq!(after.slot(other), before.slot(other));

@@ -4,7 +4,8 @@
 //! form does.
 
 use model::engine::{
-    body, Answer, Envelope, Message, Record, Refusal, Replica, Sizes, Slot, State, Timestamp,
+    body, Answer, Envelope, Message, Record, Refusal, Replica, Rule, Settings, Sizes, Slot, State,
+    Timestamp,
 };
 use model::rng::Rng;
 
@@ -79,6 +80,9 @@ fn some_member(rng: &mut Rng) -> Member {
             },
             epoch: rng.below(3) as u32,
             view: some_view(rng),
+            settings: Settings {
+                rule: Rule::ALL[rng.below(2)],
+            },
         },
         table: (0..count).map(|_| some_record(rng)).collect(),
         store,
@@ -107,6 +111,10 @@ fn some_message(rng: &mut Rng, member: &Member, index: usize) -> Message {
     let timestamp = match member.table.get(index) {
         Some(record) if rng.chance(1, 3) => record.timestamp,
         Some(record) if rng.chance(1, 2) => record.last_write,
+        // A tie.
+        Some(record) if rng.chance(1, 3) => {
+            Timestamp::new(record.timestamp.version, some_number(rng))
+        }
         _ => some_timestamp(rng),
     };
     let kinds = [Message::Inv, Message::Ack, Message::Val];
@@ -174,6 +182,35 @@ fn counts_then_validates(done: &Done, sender: u8) -> bool {
     validated.is_ok()
 }
 
+/// 02, Wish 6: an accepted INV is acknowledged, and taken if its version is
+/// greater, or that of a tie wins by the laptop's rule. Tells if there was a tie
+/// of different numbers, and if it was won.
+fn is_the_inv(done: &Done, envelope: &Envelope, bytes: &[u8]) -> Option<bool> {
+    let new = envelope.message.timestamp();
+    let (held, slot) = taken_out(&done.before, done.index);
+    let (version, tie) = (held.timestamp.version, held.timestamp.tie);
+    let won = match done.before.rule() {
+        Rule::Higher => (new.version, new.tie) > (version, tie),
+        Rule::Lower => (new.version, 255 - new.tie) > (version, 255 - tie),
+    };
+    assert_eq!(done.answer, Ok(Some(Message::Ack(new))));
+    let mut expected = (held, slot);
+    if won {
+        let overtaken = matches!(held.state, State::Write | State::InvalidWrite);
+        expected.0 = Record {
+            state: [State::Invalid, State::InvalidWrite][usize::from(overtaken)],
+            timestamp: new,
+            last_writer: envelope.sender,
+            len: bytes.len() as u8,
+            ..held
+        };
+        expected.1.fill(0);
+        expected.1[..bytes.len()].copy_from_slice(bytes);
+    }
+    assert_eq!(taken_out(&done.after, done.index), expected);
+    (new.version == version && new.tie != tie).then_some(won)
+}
+
 /// 02, Wish 2: a replay is that of source document 000, widened by
 /// invalid-write. 16 refuses where it does not permit the step, and only there.
 fn is_the_replay(done: &Done) {
@@ -229,6 +266,8 @@ fn events() {
     // Commits refused by 26: not valid; of a valid record by the version alone,
     // by the tie-breaker alone; then by 8, by 9.
     let mut uncommitted = [0; 5];
+    // Ties, by the rule, and lost or won.
+    let mut ties = [[0; 2]; 2];
     for _ in 0..ROUNDS {
         let before = some_member(&mut rng);
         let index = some_index(&mut rng);
@@ -239,7 +278,7 @@ fn events() {
         let mut bytes = some_bytes(&mut rng);
         let event = rng.below(10);
         let mut kind = event;
-        let mut sender = u8::MAX;
+        let mut delivered = None;
         let opened = some_opened(&mut rng, &before, index);
         let (answer, one) = match event {
             0 => {
@@ -286,13 +325,13 @@ fn events() {
                 if kind != 5 && rng.chance(2, 3) {
                     bytes.clear();
                 }
-                sender = some_number(&mut rng);
                 let envelope = Envelope {
-                    sender,
+                    sender: some_number(&mut rng),
                     epoch: replica.epoch ^ u32::from(rng.chance(1, 10)),
                     record: index,
                     message,
                 };
+                delivered = Some(envelope);
                 (
                     after.deliver(&envelope, &bytes),
                     replica.deliver_one(sizes, &mut record, &mut slot, &envelope, &bytes),
@@ -333,8 +372,15 @@ fn events() {
             };
             at.into_iter().for_each(|at| uncommitted[at] += 1);
         }
-        if kind == 6 && done.answer.is_ok() {
-            let followed = counts_then_validates(&done, sender);
+        let delivered = delivered.filter(|_| done.answer.is_ok());
+        if let (5, Some(envelope)) = (kind, delivered) {
+            if let Some(won) = is_the_inv(&done, &envelope, &bytes) {
+                let by = usize::from(replica.settings.rule == Rule::Lower);
+                ties[by][usize::from(won)] += 1;
+            }
+        }
+        if let (6, Some(envelope)) = (kind, delivered) {
+            let followed = counts_then_validates(&done, envelope.sender);
             let all = replica.others() & !done.after.table[index].acks == 0;
             match done.before.table[index].state {
                 State::Write => last[0] += u32::from(followed),
@@ -349,7 +395,11 @@ fn events() {
     assert!(last.iter().all(|&times| times > 5), "{last:?}");
     assert!(overtaken > 5, "{overtaken}");
     assert!(given_up.iter().all(|&times| times > 50), "{given_up:?}");
-    println!("uncommitted {uncommitted:?}");
+    println!("uncommitted {uncommitted:?}, ties {ties:?}");
+    assert!(
+        ties.as_flattened().iter().all(|&times| times > 20),
+        "{ties:?}"
+    );
     assert!(
         uncommitted.iter().all(|&times| times > 50),
         "{uncommitted:?}"
@@ -363,12 +413,17 @@ fn starts() {
     for _ in 0..ROUNDS / 4 {
         let before = some_member(&mut rng);
         let mut after = before.clone();
-        let Replica { number, view, .. } = before.replica;
-        let answer = Replica::start(number, view, &mut after.table, &mut after.store);
+        let Replica {
+            number,
+            view,
+            settings,
+            ..
+        } = before.replica;
+        let answer = Replica::start(number, view, settings, &mut after.table, &mut after.store);
 
         let sizes = Sizes::of(&before.table, &before.store);
         let (mut record, mut slot) = taken_out(&before, 0);
-        let one = Replica::start_one(number, view, sizes, &mut record, &mut slot);
+        let one = Replica::start_one(number, view, settings, sizes, &mut record, &mut slot);
         assert_eq!(answer, one);
         let Ok(replica) = answer else {
             assert_eq!(after, before);
@@ -376,7 +431,7 @@ fn starts() {
         };
         accepted += 1;
         assert_eq!((replica.number, replica.epoch), (number, 0));
-        assert_eq!(replica.view, view);
+        assert_eq!((replica.view, replica.settings), (view, settings));
         assert!(after.table.iter().all(|&each| each == record));
         assert!(after.store.iter().all(|&byte| byte == 0));
         assert_eq!(record, Record::fresh(view.trailing_zeros() as u8));
@@ -396,11 +451,10 @@ fn views() {
         let answer = after.change_view(epoch, view);
         if answer.is_ok() {
             accepted += 1;
-            let number = before.number;
             let expected = Replica {
-                number,
                 epoch,
                 view,
+                ..before
             };
             assert_eq!((answer, after), (Ok(None), expected));
             assert!(epoch > before.epoch && view | before.view == before.view);

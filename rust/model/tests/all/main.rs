@@ -14,4 +14,5 @@ mod refusals;
 mod ringing_table;
 mod schedule;
 mod support;
+mod tie_rule;
 mod two_saves;

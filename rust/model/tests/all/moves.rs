@@ -1,7 +1,7 @@
 //! What each accepted event makes of a whole record (01, "Steps"), from records
 //! whose every field differs from what a fresh start gives.
 
-use model::engine::{Answer, Message, Record, State};
+use model::engine::{Answer, Message, Record, Rule, State};
 
 use crate::support::{ack, from, inv, set, ts, val, Member};
 
@@ -18,16 +18,15 @@ fn held(state: State) -> Record {
 }
 
 /// Laptop 2 holding this record, its store full of other bytes behind the value.
-fn holding(record: Record) -> Member {
-    let mut member = Member::ringing();
+fn holding(rule: Rule, record: Record) -> Member {
+    let mut member = Member::ringing_by(rule);
     member.table[0] = record;
     member.store.fill(b'~');
     member.store[..4].copy_from_slice(b"wing");
     member
 }
 
-/// The event moves this record to that, and sends this. The store's 192 bytes
-/// are the value and zeroes if the event sets it, else untouched.
+/// The event moves this record to that, and sends this, by either rule of ties.
 fn moves(
     before: Record,
     event: impl Fn(&mut Member) -> Answer,
@@ -35,10 +34,25 @@ fn moves(
     sent: Option<Message>,
     value: Option<&[u8]>,
 ) {
-    let mut member = holding(before);
+    for rule in Rule::ALL {
+        moves_by(rule, before, &event, after, sent, value);
+    }
+}
+
+/// The same by this rule. The store's 192 bytes are the value and zeroes if the
+/// event sets it, else untouched.
+fn moves_by(
+    rule: Rule,
+    before: Record,
+    event: impl Fn(&mut Member) -> Answer,
+    after: Record,
+    sent: Option<Message>,
+    value: Option<&[u8]>,
+) {
+    let mut member = holding(rule, before);
     assert_eq!(event(&mut member), Ok(sent));
     assert_eq!(member.table, [after]);
-    let mut store = holding(before).store;
+    let mut store = holding(rule, before).store;
     if let Some(value) = value {
         store.fill(0);
         store[..value.len()].copy_from_slice(value);
@@ -112,14 +126,24 @@ fn replay() {
     }
 }
 
+/// The record's stamp is (9,5). The tie alone depends on the rule (02, Wish 6).
 #[test]
 fn greater_inv() {
+    let all = [(10, 0), (10, 5), (10, 15), (u32::MAX, 15), (u32::MAX, 0)];
+    greater_inv_by(Rule::Higher, &[(9, 6), (9, 15)]);
+    greater_inv_by(Rule::Lower, &[(9, 4), (9, 0)]);
+    Rule::ALL
+        .into_iter()
+        .for_each(|rule| greater_inv_by(rule, &all));
+}
+
+fn greater_inv_by(rule: Rule, stamps: &[(u32, u8)]) {
     for state in State::ALL {
         let taken = match state {
             State::Valid | State::Invalid | State::Replay => State::Invalid,
             State::Write | State::InvalidWrite => State::InvalidWrite,
         };
-        for (version, tie) in [(9, 6), (10, 0), (u32::MAX, 15)] {
+        for &(version, tie) in stamps {
             // Acknowledgements and the last-write stamp stay.
             let after = Record {
                 state: taken,
@@ -130,18 +154,28 @@ fn greater_inv() {
             };
             let event = |m: &mut Member| m.deliver(&from(1, inv(version, tie)), b"ok");
             let sent = Some(ack(version, tie));
-            moves(held(state), event, after, sent, Some(b"ok"));
+            moves_by(rule, held(state), event, after, sent, Some(b"ok"));
         }
     }
 }
 
+/// An INV of an older stamp, or of this one, is acknowledged and nothing else.
 #[test]
 fn other_inv() {
+    let all = [(9, 5), (8, 15), (8, 5), (8, 0), (0, 15), (0, 0)];
+    other_inv_by(Rule::Higher, &[(9, 4), (9, 0)]);
+    other_inv_by(Rule::Lower, &[(9, 6), (9, 15)]);
+    Rule::ALL
+        .into_iter()
+        .for_each(|rule| other_inv_by(rule, &all));
+}
+
+fn other_inv_by(rule: Rule, stamps: &[(u32, u8)]) {
     for state in State::ALL {
-        for (version, tie) in [(9, 5), (9, 4), (8, 15), (0, 0)] {
+        for &(version, tie) in stamps {
             let event = |m: &mut Member| m.deliver(&from(1, inv(version, tie)), b"ok");
             let sent = Some(ack(version, tie));
-            moves(held(state), event, held(state), sent, None);
+            moves_by(rule, held(state), event, held(state), sent, None);
         }
     }
 }
@@ -254,7 +288,9 @@ fn resend() {
 #[test]
 fn read() {
     let valid = held(State::Valid);
-    assert_eq!(holding(valid).read(0), Ok(&b"wing"[..]));
+    for rule in Rule::ALL {
+        assert_eq!(holding(rule, valid).read(0), Ok(&b"wing"[..]));
+    }
     moves(valid, |m| m.read(0).map(|_| None), valid, None, None);
 }
 
@@ -262,7 +298,10 @@ fn read() {
 #[test]
 fn ask() {
     let valid = held(State::Valid);
-    assert_eq!(holding(valid).ask(0), Ok((&b"wing"[..], ts(9, 5))));
+    for rule in Rule::ALL {
+        let asked = holding(rule, valid);
+        assert_eq!(asked.ask(0), Ok((&b"wing"[..], ts(9, 5))));
+    }
     moves(valid, |m| m.ask(0).map(|_| None), valid, None, None);
 }
 
@@ -270,9 +309,10 @@ fn ask() {
 fn view() {
     let record = held(State::Replay);
     let event = |m: &mut Member| {
+        let settings = m.replica.settings;
         let answer = m.view(3, set(&[2, 5]));
         assert_eq!((m.replica.epoch, m.replica.view), (3, set(&[2, 5])));
-        assert_eq!(m.replica.number, 2);
+        assert_eq!((m.replica.number, m.replica.settings), (2, settings));
         answer
     };
     moves(record, event, record, None, None);
@@ -281,7 +321,13 @@ fn view() {
 #[test]
 fn the_second_record() {
     // The part is 192 times the record's number into the store.
-    let mut member = Member::start(2, set(&[1, 2, 5]), 3);
+    for rule in Rule::ALL {
+        the_second_record_by(rule);
+    }
+}
+
+fn the_second_record_by(rule: Rule) {
+    let mut member = Member::start(rule, 2, set(&[1, 2, 5]), 3);
     member.store.fill(b'~');
     assert!(member.write(1, b"ring").is_ok());
     assert_eq!(&member.store[190..197], b"~~ring\0");

@@ -1,28 +1,36 @@
 //! The order of the questions: for every subset of an event's questions, an
 //! input that fails just these answers the first of them.
 
-use model::engine::{number, Envelope, Message, Record, Replica, State};
+use model::engine::{number, Envelope, Message, Record, Replica, Rule, State};
 use model::packet::{self, Entry};
 
-use crate::support::{ack, from, inv, packet_of, set, ts, val, Member};
+use crate::support::{ack, from, inv, other, packet_of, set, ts, val, Member};
 
-/// Runs the event with every subset of faults. The questions are in the paper's
-/// order.
+/// Runs the event with every subset of faults, by either rule of ties. The
+/// questions are in the paper's order.
 fn every_subset(questions: &[u8], event: impl Fn(&Faults) -> u8) {
-    for mask in 0..1u32 << questions.len() {
-        let chosen = questions.iter().enumerate();
-        let chosen = chosen.filter(|(i, _)| mask >> i & 1 == 1);
-        let faults = Faults(chosen.map(|(_, &question)| question).collect());
-        let expected = faults.0.first().copied().unwrap_or(0);
-        assert_eq!(event(&faults), expected, "faults {:?}", faults.0);
+    for rule in Rule::ALL {
+        for mask in 0..1u32 << questions.len() {
+            let chosen = questions.iter().enumerate();
+            let chosen = chosen.filter(|(i, _)| mask >> i & 1 == 1);
+            let numbers = chosen.map(|(_, &question)| question).collect();
+            let faults = Faults { rule, numbers };
+            let expected = faults.numbers.first().copied().unwrap_or(0);
+            assert_eq!(event(&faults), expected, "{faults:?}");
+        }
     }
 }
 
-struct Faults(Vec<u8>);
+/// Questions to fail, in a group with this rule of ties.
+#[derive(Debug)]
+struct Faults {
+    rule: Rule,
+    numbers: Vec<u8>,
+}
 
 impl Faults {
     fn has(&self, question: u8) -> bool {
-        self.0.contains(&question)
+        self.numbers.contains(&question)
     }
 
     /// The good one, unless there is this fault.
@@ -36,7 +44,7 @@ impl Faults {
 
     /// Laptop 2 with the faults 1, 2, 3 and 5, over this record.
     fn member(&self, record: Record) -> Member {
-        let mut member = Member::ringing();
+        let mut member = Member::ringing_by(self.rule);
         member.table[0] = record;
         member.replica.view = match (self.has(1), self.has(3)) {
             (false, false) => set(&[1, 2, 5]),
@@ -76,7 +84,7 @@ impl Faults {
     ) -> u8 {
         let before = member.clone();
         let answer = number(&event(&mut member));
-        assert!(answer == 0 || member == before, "faults {:?}", self.0);
+        assert!(answer == 0 || member == before, "{self:?}");
         answer
     }
 }
@@ -92,8 +100,13 @@ fn written() -> Record {
 fn start() {
     every_subset(&[1, 2, 3], |faults| {
         faults.answer(faults.member(Record::fresh(9)), |m| {
-            let Replica { number, view, .. } = m.replica;
-            Replica::start(number, view, &mut m.table, &mut m.store)
+            let Replica {
+                number,
+                view,
+                settings,
+                ..
+            } = m.replica;
+            Replica::start(number, view, settings, &mut m.table, &mut m.store)
         })
     });
 }
@@ -251,14 +264,31 @@ fn view() {
     });
 }
 
-/// A packet with the faults 20 to 22, and an index with fault 23.
-fn packet(faults: &Faults, envelope: Envelope) -> (Vec<u8>, usize) {
-    let mut bytes = packet_of(&[(envelope, b"")]).expect("accepted");
-    if faults.has(20) {
-        bytes[0] = 0;
+/// What is wrong with a packet's head, for fault 20. Byte 0 then names no rule,
+/// or the group's, or with fault 27 the other.
+type Head = fn(&mut [u8]);
+
+const HEADS: [Head; 6] = [
+    |p| p[0] = 0,
+    |p| p[0] = 3,
+    |p| p[1] = 0,
+    |p| p[1] = 65,
+    |p| p[2] += 1,
+    |p| p[3] -= 1,
+];
+
+/// A packet with the faults 20, 27, 21 and 22, and an index with fault 23.
+fn packet(faults: &Faults, envelope: Envelope, head: Head) -> (Vec<u8>, usize) {
+    let mut bytes = packet_of(faults.rule, &[(envelope, b"")]).expect("accepted");
+    if faults.has(27) {
+        // As the other group would write it.
+        bytes = packet_of(other(faults.rule), &[(envelope, b"")]).expect("accepted");
     }
     if faults.has(21) {
         bytes[1] = 2;
+    }
+    if faults.has(20) {
+        head(&mut bytes);
     }
     if faults.has(22) {
         bytes[16] = 16;
@@ -266,22 +296,39 @@ fn packet(faults: &Faults, envelope: Envelope) -> (Vec<u8>, usize) {
     (bytes, faults.choose(23, 0, 2))
 }
 
+/// 02, Wish 6: 27 just after 20.
 #[test]
 fn fetch() {
-    every_subset(&[20, 21, 22, 23], |faults| {
-        let (bytes, index) = packet(faults, from(5, ack(1, 2)));
-        number(&packet::fetch(&bytes, index))
-    });
+    for head in HEADS {
+        every_subset(&[20, 27, 21, 22, 23], |faults| {
+            let (bytes, index) = packet(faults, from(5, ack(1, 2)), head);
+            number(&packet::fetch(faults.rule, &bytes, index))
+        });
+    }
+}
+
+#[test]
+fn accept() {
+    for head in HEADS {
+        every_subset(&[20, 27, 21, 22, 23], |faults| {
+            let (bytes, index) = packet(faults, from(5, ack(1, 2)), head);
+            let accepted = packet::accept(faults.rule, &bytes);
+            // 23 is asked of the message alone.
+            let of_packet = faults.numbers.iter().find(|&&question| question != 23);
+            assert_eq!(number(&accepted), of_packet.copied().unwrap_or(0));
+            number(&accepted.and_then(|all| all.message(index)))
+        });
+    }
 }
 
 #[test]
 fn deliver_from_a_packet() {
     // A packet that 22 lets pass is well-formed for 12.
-    let questions = [20, 21, 22, 23, 1, 2, 3, 4, 5, 10, 11, 13];
+    let questions = [20, 27, 21, 22, 23, 1, 2, 3, 4, 5, 10, 11, 13];
     every_subset(&questions, |faults| {
         let mut record = written();
         record.acks = faults.choose(13, set(&[1]), set(&[5]));
-        let (bytes, index) = packet(faults, faults.envelope(ack(1, 2)));
+        let (bytes, index) = packet(faults, faults.envelope(ack(1, 2)), HEADS[2]);
         faults.answer(faults.member(record), |m| m.deliver_packet(&bytes, index))
     });
 }
@@ -295,7 +342,12 @@ fn write_packet() {
         };
         let mut out = [0xee; 21];
         let room = faults.choose(25, 21, 20);
-        let answer = number(&packet::write(&[entry], b"b", &mut out[..room]));
+        let answer = number(&packet::write(
+            faults.rule,
+            &[entry],
+            b"b",
+            &mut out[..room],
+        ));
         assert!(answer == 0 || out == [0xee; 21]);
         answer
     });

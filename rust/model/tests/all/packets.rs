@@ -1,25 +1,35 @@
-//! Packets: the questions 20 to 25, round trips, and changed bytes.
+//! Packets: the questions 20 to 25 and 27, round trips, and changed bytes.
 
-use model::engine::{number, Envelope, Message, Refusal};
+use model::engine::{number, Envelope, Message, Refusal, Rule};
 use model::packet::{self, Entry};
 use model::rng::Rng;
 
-use crate::support::{ack, from, in_one_pass, inv, messages_of, packet_of, rng, ts, val, Member};
+use crate::support::{
+    ack, from, in_one_pass, inv, messages_of, other, packet_of, rng, ts, val, Member,
+};
 
 /// A packet of an INV with the body "B7" and an ACK.
-fn two() -> Vec<u8> {
-    packet_of(&[(from(5, inv(1, 5)), b"B7"), (from(1, ack(1, 2)), b"")]).expect("accepted")
+fn two(rule: Rule) -> Vec<u8> {
+    let messages = [
+        (from(5, inv(1, 5)), &b"B7"[..]),
+        (from(1, ack(1, 2)), &b""[..]),
+    ];
+    packet_of(rule, &messages).expect("accepted")
 }
 
 #[test]
 fn packets_read() {
+    Rule::ALL.into_iter().for_each(packets_read_by);
+}
+
+fn packets_read_by(rule: Rule) {
     let is = |no: u8, index: usize, change: &dyn Fn(&mut Vec<u8>)| {
-        let mut bytes = two();
+        let mut bytes = two(rule);
         change(&mut bytes);
-        assert_eq!(number(&packet::fetch(&bytes, index)), no);
+        assert_eq!(number(&packet::fetch(rule, &bytes, index)), no);
         // 02, Wish 4: the same numbers in the same order, 20 to 22 of the packet
         // and 23 of the message.
-        let accepted = packet::accept(&bytes);
+        let accepted = packet::accept(rule, &bytes);
         assert_eq!(number(&accepted), if no == 23 { 0 } else { no });
         assert_eq!(number(&accepted.and_then(|all| all.message(index))), no);
     };
@@ -28,7 +38,10 @@ fn packets_read() {
     is(20, 0, &Vec::clear);
     is(20, 0, &|p| p.truncate(3));
     is(20, 0, &|p| p[0] = 0);
-    is(20, 0, &|p| p[0] = 2);
+    is(20, 0, &|p| p[0] = 3);
+    is(20, 0, &|p| p[0] = 255);
+    is(27, 0, &|p| p[0] = other(rule).byte());
+    is(27, 2, &|p| p[0] = other(rule).byte());
     is(20, 0, &|p| p[1] = 0);
     is(20, 0, &|p| p[1] = 65);
     is(20, 0, &|p| p[3] += 1);
@@ -77,12 +90,17 @@ fn packets_written() {
         envelope: from(5, inv(1, 5)),
         len: 2,
     };
-    let write = |entries: &[Entry], bodies: &[u8], room: usize| {
+    let write_by = |rule, entries: &[Entry], bodies: &[u8], room: usize| {
         let mut out = vec![0xee; room];
-        let answer = packet::write(entries, bodies, &mut out);
+        let answer = packet::write(rule, entries, bodies, &mut out);
         let untouched = &out[*answer.as_ref().unwrap_or(&0)..];
         assert!(untouched.iter().all(|&byte| byte == 0xee));
         number(&answer)
+    };
+    let write = |entries: &[Entry], bodies: &[u8], room: usize| {
+        let [old, new] = Rule::ALL.map(|rule| write_by(rule, entries, bodies, room));
+        assert_eq!(old, new, "the two rules of ties");
+        old
     };
     assert_eq!(write(&[good], b"B7", 22), 0);
     assert_eq!(write(&[good], b"B7", 2000), 0);
@@ -117,13 +135,13 @@ fn packets_written() {
 
 /// An accepted packet is the one that the writer makes of its messages, whether
 /// they are fetched or taken in one pass. Answers whether it was accepted.
-fn reads_back(bytes: &[u8]) -> bool {
-    let messages = messages_of(bytes);
-    assert_eq!(in_one_pass(bytes), messages);
+fn reads_back(rule: Rule, bytes: &[u8]) -> bool {
+    let messages = messages_of(rule, bytes);
+    assert_eq!(in_one_pass(rule, bytes), messages);
     let Ok(messages) = messages else {
         return false;
     };
-    assert_eq!(packet_of(&messages).as_deref(), Ok(bytes));
+    assert_eq!(packet_of(rule, &messages).as_deref(), Ok(bytes));
     true
 }
 
@@ -160,11 +178,12 @@ fn round_trips() {
     let mut rng = rng();
     let mut longest = 0;
     for _ in 0..3000 {
+        let rule = Rule::ALL[rng.below(2)];
         let messages = some_messages(&mut rng);
         let messages: Vec<_> = messages.iter().map(|(e, b)| (*e, &b[..])).collect();
-        let bytes = packet_of(&messages).expect("accepted");
-        assert_eq!(messages_of(&bytes), Ok(messages.clone()));
-        assert_eq!(in_one_pass(&bytes), Ok(messages));
+        let bytes = packet_of(rule, &messages).expect("accepted");
+        assert_eq!(messages_of(rule, &bytes), Ok(messages.clone()));
+        assert_eq!(in_one_pass(rule, &bytes), Ok(messages));
         longest = longest.max(bytes.len());
     }
     assert!(longest > 1350, "only short packets");
@@ -172,41 +191,55 @@ fn round_trips() {
 
 #[test]
 fn full_packets() {
+    Rule::ALL.into_iter().for_each(full_packets_by);
+}
+
+fn full_packets_by(rule: Rule) {
     // 64 messages without bodies, and with 372 bytes of them: 1,400 in all.
-    let bytes = packet_of(&[(from(1, val(1, 1)), &b""[..]); 64]).expect("accepted");
+    let bytes = packet_of(rule, &[(from(1, val(1, 1)), &b""[..]); 64]).expect("accepted");
     assert_eq!(bytes.len(), 4 + 64 * 16);
-    assert!(reads_back(&bytes));
+    assert!(reads_back(rule, &bytes));
     let mut messages = [(from(1, inv(1, 1)), &[9; 6][..]); 64];
     messages[62].1 = b"";
     messages[63].1 = b"";
-    let bytes = packet_of(&messages).expect("accepted");
+    let bytes = packet_of(rule, &messages).expect("accepted");
     assert_eq!(bytes.len(), 1400);
-    assert!(reads_back(&bytes));
+    assert!(reads_back(rule, &bytes));
 }
 
 #[test]
 fn every_single_byte_changed() {
+    Rule::ALL.into_iter().for_each(every_single_byte_changed_by);
+}
+
+fn every_single_byte_changed_by(rule: Rule) {
     let long = [b'z'; 192];
     let packets = [
-        packet_of(&[(from(5, ack(1, 2)), b"")]),
-        packet_of(&[(from(5, inv(1, 5)), b"")]),
-        packet_of(&[
-            (from(5, inv(1, 5)), b"wing 71"),
-            (from(1, ack(1, 2)), b""),
-            (from(3, inv(u32::MAX, 15)), b"weight 18"),
-            (from(15, val(7, 0)), b""),
-        ]),
-        packet_of(&[(from(0, inv(2, 0)), &long), (from(4, inv(2, 4)), b"")]),
+        packet_of(rule, &[(from(5, ack(1, 2)), b"")]),
+        packet_of(rule, &[(from(5, inv(1, 5)), b"")]),
+        packet_of(
+            rule,
+            &[
+                (from(5, inv(1, 5)), b"wing 71"),
+                (from(1, ack(1, 2)), b""),
+                (from(3, inv(u32::MAX, 15)), b"weight 18"),
+                (from(15, val(7, 0)), b""),
+            ],
+        ),
+        packet_of(
+            rule,
+            &[(from(0, inv(2, 0)), &long), (from(4, inv(2, 4)), b"")],
+        ),
     ];
     for packet in packets {
         let mut bytes = packet.expect("accepted");
-        assert!(reads_back(&bytes));
+        assert!(reads_back(rule, &bytes));
         let mut accepted = 0;
         for at in 0..bytes.len() {
             let kept = bytes[at];
             for byte in (0..=255).filter(|&byte| byte != kept) {
                 bytes[at] = byte;
-                let changed = reads_back(&bytes);
+                let changed = reads_back(rule, &bytes);
                 accepted += u32::from(changed);
                 // Neither head, nor offset, nor length can change alone.
                 let entry_at = (4..4 + 16 * usize::from(bytes[1])).contains(&at);
@@ -219,10 +252,10 @@ fn every_single_byte_changed() {
         assert!(accepted >= 8 * 255);
 
         for len in 0..bytes.len() {
-            assert!(!reads_back(&bytes[..len]));
+            assert!(!reads_back(rule, &bytes[..len]));
         }
         bytes.push(0);
-        assert!(!reads_back(&bytes));
+        assert!(!reads_back(rule, &bytes));
     }
 }
 
@@ -231,9 +264,10 @@ fn random_bytes() {
     let mut rng = rng();
     let mut accepted = 0;
     for _ in 0..20_000 {
+        let rule = Rule::ALL[rng.below(2)];
         let messages = some_messages(&mut rng);
         let messages: Vec<_> = messages.iter().take(4).map(|(e, b)| (*e, &b[..])).collect();
-        let mut bytes = packet_of(&messages).expect("accepted");
+        let mut bytes = packet_of(rule, &messages).expect("accepted");
         for _ in 0..=rng.below(3) {
             let at = rng.below(bytes.len());
             bytes[at] = rng.next_u64() as u8;
@@ -245,25 +279,29 @@ fn random_bytes() {
                 place.copy_from_slice(&total);
             }
         }
-        accepted += u32::from(reads_back(&bytes));
+        accepted += u32::from(reads_back(rule, &bytes));
         let mut noise = [0; 40];
         rng.fill(&mut noise);
-        reads_back(&noise);
+        reads_back(rule, &noise);
     }
     assert!(accepted > 1000, "only {accepted} accepted");
 }
 
 #[test]
 fn delivery_from_a_packet() {
-    let mut member = Member::ringing();
-    let bytes = two();
+    Rule::ALL.into_iter().for_each(delivery_from_a_packet_by);
+}
+
+fn delivery_from_a_packet_by(rule: Rule) {
+    let mut member = Member::ringing_by(rule);
+    let bytes = two(rule);
     assert_eq!(member.deliver_packet(&bytes, 0), Ok(Some(ack(1, 5))));
     assert_eq!(&member.store[..3], b"B7\0");
     assert_eq!(member.deliver_packet(&bytes, 1), Err(Refusal::StrayAck));
     assert_eq!(member.deliver_packet(&bytes, 2), Err(Refusal::PacketIndex));
 
-    let mut direct = Member::ringing();
-    for (envelope, body) in messages_of(&bytes).expect("accepted") {
+    let mut direct = Member::ringing_by(rule);
+    for (envelope, body) in messages_of(rule, &bytes).expect("accepted") {
         let _ = direct.deliver(&envelope, body);
     }
     assert_eq!(member, direct);
@@ -276,15 +314,16 @@ fn messages_in_one_pass() {
     let place = |body: &[u8]| (body.as_ptr(), body.len());
     let mut rng = rng();
     for _ in 0..3000 {
+        let rule = Rule::ALL[rng.below(2)];
         let messages = some_messages(&mut rng);
         let messages: Vec<_> = messages.iter().map(|(e, b)| (*e, &b[..])).collect();
-        let bytes = packet_of(&messages).expect("accepted");
-        let accepted = packet::accept(&bytes).expect("accepted");
+        let bytes = packet_of(rule, &messages).expect("accepted");
+        let accepted = packet::accept(rule, &bytes).expect("accepted");
         assert_eq!(accepted.count(), messages.len());
         for (i, message) in messages.iter().enumerate() {
             let (envelope, body) = accepted.message(i).expect("a message");
             assert_eq!((envelope, body), *message);
-            let fetched = packet::fetch(&bytes, i).expect("a message");
+            let fetched = packet::fetch(rule, &bytes, i).expect("a message");
             assert_eq!(place(body), place(fetched.1));
         }
         for past in [messages.len(), messages.len() + 1, 64, 255, 256, usize::MAX] {
@@ -295,9 +334,13 @@ fn messages_in_one_pass() {
 
 #[test]
 fn delivery_in_one_pass() {
-    let mut member = Member::ringing();
-    let bytes = two();
-    let accepted = packet::accept(&bytes).expect("accepted");
+    Rule::ALL.into_iter().for_each(delivery_in_one_pass_by);
+}
+
+fn delivery_in_one_pass_by(rule: Rule) {
+    let mut member = Member::ringing_by(rule);
+    let bytes = two(rule);
+    let accepted = packet::accept(rule, &bytes).expect("accepted");
     let mut deliver = |index| {
         let Member {
             replica,
@@ -313,7 +356,7 @@ fn delivery_in_one_pass() {
     assert_eq!(deliver(1), Ok(second));
     assert_eq!(deliver(2), Err(Refusal::PacketIndex));
 
-    let mut one_by_one = Member::ringing();
+    let mut one_by_one = Member::ringing_by(rule);
     for index in 0..3 {
         let _ = one_by_one.deliver_packet(&bytes, index);
     }
@@ -327,6 +370,7 @@ fn random_deliveries_in_one_pass() {
     let mut rng = rng();
     let mut answers = [0; 26];
     for _ in 0..3000 {
+        let rule = Rule::ALL[rng.below(2)];
         let mut messages = some_messages(&mut rng);
         for (envelope, _) in &mut messages {
             // Mostly such as the member takes.
@@ -335,9 +379,9 @@ fn random_deliveries_in_one_pass() {
             envelope.record = rng.below(4);
         }
         let messages: Vec<_> = messages.iter().map(|(e, b)| (*e, &b[..])).collect();
-        let bytes = packet_of(&messages).expect("accepted");
-        let accepted = packet::accept(&bytes).expect("accepted");
-        let mut member = Member::start(2, 0b10_0110, 3);
+        let bytes = packet_of(rule, &messages).expect("accepted");
+        let accepted = packet::accept(rule, &bytes).expect("accepted");
+        let mut member = Member::start(rule, 2, 0b10_0110, 3);
         let mut one_by_one = member.clone();
         for (i, (envelope, _)) in messages.iter().enumerate() {
             let expected = one_by_one.deliver_packet(&bytes, i);

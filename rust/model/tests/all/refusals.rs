@@ -4,19 +4,24 @@
 use std::collections::BTreeSet;
 
 use model::engine::{
-    bit, has, number, Answer, Envelope, Record, Refusal, Replica, State, Timestamp,
+    bit, has, number, Answer, Envelope, Record, Refusal, Replica, Rule, Settings, State, Timestamp,
 };
 
 use crate::support::{ack, from, inv, set, ts, val, Member};
 
-/// An event on laptop 2 after some change made by hand.
+/// An event on laptop 2 after some change made by hand. The rule of ties is in
+/// none of these questions (02, Wish 6): both answer alike.
 fn after(change: impl Fn(&mut Member), event: impl Fn(&mut Member) -> Answer) -> u8 {
-    let mut member = Member::ringing();
-    change(&mut member);
-    let before = member.clone();
-    let answer = event(&mut member);
-    assert!(answer.is_ok() || member == before, "a refused event moved");
-    number(&answer)
+    let [old, new] = Rule::ALL.map(|rule| {
+        let mut member = Member::ringing_by(rule);
+        change(&mut member);
+        let before = member.clone();
+        let answer = event(&mut member);
+        assert!(answer.is_ok() || member == before, "a refused event moved");
+        number(&answer)
+    });
+    assert_eq!(old, new, "the two rules of ties");
+    old
 }
 
 fn read(member: &mut Member) -> Answer {
@@ -126,14 +131,19 @@ fn sound_to_the_limit() {
 
 #[test]
 fn start() {
-    let start = |number, view, records, store| {
+    let start_by = |rule, number, view, records, store| {
         let mut table = vec![Record::fresh(9); records];
         let mut store = vec![3; store];
-        let answer = Replica::start(number, view, &mut table, &mut store);
+        let answer = Replica::start(number, view, Settings { rule }, &mut table, &mut store);
         let moved = table.iter().any(|&record| record != Record::fresh(9))
             || store.iter().any(|&byte| byte != 3);
         assert_eq!(moved, answer.is_ok());
         model::engine::number(&answer)
+    };
+    let start = |number, view, records, store| {
+        let [old, new] = Rule::ALL.map(|rule| start_by(rule, number, view, records, store));
+        assert_eq!(old, new, "the two rules of ties");
+        old
     };
     assert_eq!(start(2, set(&[1, 2]), 1, 192), 0);
     assert_eq!(start(15, set(&[0, 15]), 2, 384), 0);
@@ -387,9 +397,12 @@ fn resends_send() {
     assert_eq!(member, before);
 
     // A fresh replica that is the lowest of its view is last writer.
-    let lowest = Member::start(1, set(&[1, 2, 5]), 1);
-    assert_eq!(lowest.resend(0), Ok(Some(val(0, 1))));
-    assert_eq!(Member::ringing().resend(0), Err(Refusal::NotResendable));
+    for rule in Rule::ALL {
+        let lowest = Member::start(rule, 1, set(&[1, 2, 5]), 1);
+        assert_eq!(lowest.resend(0), Ok(Some(val(0, 1))));
+        let answer = Member::ringing_by(rule).resend(0);
+        assert_eq!(answer, Err(Refusal::NotResendable));
+    }
 }
 
 #[test]
@@ -440,10 +453,12 @@ fn the_numbers_are_the_papers() {
         PacketMessages,
         PacketRoom,
         NotAsOpened,
+        OtherRule,
     ];
     let numbers: BTreeSet<u8> = all.iter().map(|refusal| refusal.number()).collect();
-    assert_eq!(numbers, (1..=26).collect());
+    assert_eq!(numbers, (1..=27).collect());
     assert_eq!(NotAsOpened.number(), 26);
+    assert_eq!(OtherRule.number(), 27);
 }
 
 #[test]

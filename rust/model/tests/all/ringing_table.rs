@@ -1,7 +1,7 @@
 //! The rows of document 01, "From the ringing table", and the last ACK of
 //! document 02. Laptop 2, view {1,2,5}, epoch 0 unless said.
 
-use model::engine::{body, Record, Refusal, Replica, State};
+use model::engine::{body, Record, Refusal, Replica, Rule, Settings, State};
 use model::packet;
 
 use crate::support::{ack, from, inv, packet_of, set, ts, val, Member};
@@ -281,8 +281,14 @@ fn the_packet_of_an_ack() {
     let mut envelope = from(5, ack(1, 2));
     envelope.record = 7;
     let expected = [1, 1, 0, 20, 2, 5, 0, 0, 0, 0, 0, 7, 0, 0, 0, 1, 2, 0, 20, 0];
-    assert_eq!(packet_of(&[(envelope, b"")]), Ok(expected.to_vec()));
-    assert_eq!(packet::fetch(&expected, 0), Ok((envelope, &b""[..])));
+    assert_eq!(
+        packet_of(Rule::Higher, &[(envelope, b"")]),
+        Ok(expected.to_vec())
+    );
+    assert_eq!(
+        packet::fetch(Rule::Higher, &expected, 0),
+        Ok((envelope, &b""[..]))
+    );
 }
 
 #[test]
@@ -296,7 +302,7 @@ fn values_of_192_and_193() {
     );
     assert_eq!(member, Member::ringing());
     assert_eq!(
-        packet_of(&[(from(5, inv(1, 5)), &text)]),
+        packet_of(Rule::Higher, &[(from(5, inv(1, 5)), &text)]),
         Err(Refusal::PacketMessages)
     );
 
@@ -309,22 +315,31 @@ fn values_of_192_and_193() {
     assert_eq!(member.write(0, text), Ok(Some(inv(2, 2))));
     assert_eq!(member.store, text);
     assert_eq!(member.table[0].len, 192);
-    assert!(packet_of(&[(from(5, inv(1, 5)), text)]).is_ok());
+    assert!(packet_of(Rule::Higher, &[(from(5, inv(1, 5)), text)]).is_ok());
 }
 
 #[test]
 fn records_4095_and_4096() {
     let view = set(&[1, 2, 5]);
-    let mut member = Member::start(2, view, 4096);
+    let mut member = Member::start(Rule::Higher, 2, view, 4096);
     assert_eq!(member.write(4095, b"last"), Ok(Some(inv(1, 2))));
     assert_eq!(member.write(4096, b"none"), Err(Refusal::StrayRecord));
     assert_eq!(&member.slot(4095)[..4], b"last");
-    assert_eq!(member.table[..4095], Member::start(2, view, 4095).table);
+    assert_eq!(
+        member.table[..4095],
+        Member::start(Rule::Higher, 2, view, 4095).table
+    );
 
     for count in [0, 4097] {
         let mut table = vec![Record::fresh(9); count];
         let mut store = vec![3; 192 * count];
-        let answer = Replica::start(2, view, &mut table, &mut store);
+        let answer = Replica::start(
+            2,
+            view,
+            Settings { rule: Rule::Higher },
+            &mut table,
+            &mut store,
+        );
         assert_eq!(answer, Err(Refusal::LentMemory));
         assert!(table.iter().all(|&record| record == Record::fresh(9)));
         assert!(store.iter().all(|&byte| byte == 3));
@@ -332,13 +347,16 @@ fn records_4095_and_4096() {
 
     let mut envelope = from(5, inv(1, 5));
     envelope.record = 4095;
-    let mut bytes = packet_of(&[(envelope, b"x")]).expect("accepted");
+    let mut bytes = packet_of(Rule::Higher, &[(envelope, b"x")]).expect("accepted");
     assert_eq!(member.deliver_packet(&bytes, 0), Ok(Some(ack(1, 5))));
     assert_eq!(member.table[4095].timestamp, ts(1, 5));
     bytes[10..12].copy_from_slice(&4096u16.to_be_bytes());
-    assert_eq!(packet::fetch(&bytes, 0), Err(Refusal::PacketEntry));
+    assert_eq!(
+        packet::fetch(Rule::Higher, &bytes, 0),
+        Err(Refusal::PacketEntry)
+    );
     envelope.record = 4096;
-    let answer = packet_of(&[(envelope, b"x")]);
+    let answer = packet_of(Rule::Higher, &[(envelope, b"x")]);
     assert_eq!(answer, Err(Refusal::PacketMessages));
 }
 
@@ -349,17 +367,23 @@ fn packets_of_1400_and_1401() {
     let of = |last: usize| {
         let mut messages = [(envelope, &text[..]); 7];
         messages[6].1 = &text[..last];
-        packet_of(&messages)
+        packet_of(Rule::Higher, &messages)
     };
     // 4 + 7 * 16 + 6 * 192 + 132
     let mut bytes = of(132).expect("accepted");
     assert_eq!(bytes.len(), 1400);
-    assert_eq!(packet::fetch(&bytes, 6), Ok((envelope, &text[..132])));
+    assert_eq!(
+        packet::fetch(Rule::Higher, &bytes, 6),
+        Ok((envelope, &text[..132]))
+    );
     assert_eq!(of(133), Err(Refusal::PacketRoom));
 
     // The same packet with a last body of 133 bytes, made by hand.
     bytes.push(7);
     bytes[2..4].copy_from_slice(&1401u16.to_be_bytes());
     bytes[4 + 6 * 16 + 15] = 133;
-    assert_eq!(packet::fetch(&bytes, 6), Err(Refusal::PacketHead));
+    assert_eq!(
+        packet::fetch(Rule::Higher, &bytes, 6),
+        Err(Refusal::PacketHead)
+    );
 }

@@ -2,11 +2,11 @@
 //! loses, repeats and holds back, with views that reach each member when they
 //! will.
 
-use model::engine::{bit, has, State, Timestamp};
+use model::engine::{bit, has, Rule, State, Timestamp};
 use model::rng::Rng;
 
 use crate::group::{Event, Group};
-use crate::support::{set, Member};
+use crate::support::{set, winner, Member};
 
 pub struct Schedule {
     /// The views that the warden issues, by epoch.
@@ -24,19 +24,22 @@ pub struct Schedule {
 }
 
 impl Schedule {
-    /// A group that has just started, and its schedule. With `together`, most
+    /// A group with this rule of ties that has just started, and its schedule. With
+    /// `together`, most
     /// members begin by saving the same record, some messages arrive, and the
     /// one that wins a tie dies and is struck off first (02, Wish 2). Some of
     /// these saves are commits on the one stamp that all were handed out (Wish 5).
-    pub fn start(rng: &mut Rng, together: bool) -> (Group, Schedule) {
+    pub fn start(rng: &mut Rng, rule: Rule, together: bool) -> (Group, Schedule) {
         let numbers = some_numbers(rng);
         let mut first = set(&numbers);
         if rng.chance(1, 10) {
             // A number that no replica has may stand in the first view.
             first |= bit(rng.below(16) as u8);
         }
-        let winner = (0..numbers.len()).max_by_key(|&at| numbers[at]);
-        let dead = winner.filter(|_| together);
+        let wins = winner(rule, &numbers);
+        let dead = numbers
+            .iter()
+            .position(|&number| together && number == wins);
         let mut schedule = Schedule {
             views: some_views(rng, first, dead.map(|at| numbers[at])),
             under_way: Vec::new(),
@@ -70,7 +73,7 @@ impl Schedule {
             schedule.deliveries = rng.below(13);
         }
         let records = if rng.chance(1, 8) { 2 } else { 1 };
-        (Group::start(&numbers, first, records), schedule)
+        (Group::start(rule, &numbers, first, records), schedule)
     }
 
     /// The next event, and the place of the member that it comes to. One that

@@ -1,6 +1,8 @@
 //! What the tests share.
 
-use model::engine::{Answer, Envelope, Message, Record, Refusal, Replica, Timestamp};
+use model::engine::{
+    Answer, Envelope, Message, Record, Refusal, Replica, Rule, Settings, Timestamp,
+};
 use model::packet::{self, Entry};
 use model::rng::Rng;
 
@@ -45,6 +47,25 @@ pub fn from(sender: u8, message: Message) -> Envelope {
     }
 }
 
+/// The one of these numbers that wins a tie by this rule (02, Wish 6).
+pub fn winner(rule: Rule, numbers: &[u8]) -> u8 {
+    let mut sorted = numbers.to_vec();
+    sorted.sort_unstable();
+    let won = match rule {
+        Rule::Higher => sorted.last(),
+        Rule::Lower => sorted.first(),
+    };
+    *won.expect("a number")
+}
+
+/// The other rule of ties.
+pub fn other(rule: Rule) -> Rule {
+    match rule {
+        Rule::Higher => Rule::Lower,
+        Rule::Lower => Rule::Higher,
+    }
+}
+
 /// A replica with the memory that is lent for it.
 #[derive(Clone, Debug, PartialEq)]
 pub struct Member {
@@ -54,11 +75,13 @@ pub struct Member {
 }
 
 impl Member {
-    /// Started fresh in memory that was not clean before.
-    pub fn start(number: u8, view: u16, count: usize) -> Member {
+    /// Started fresh, in memory that was not clean before, in a group with this
+    /// rule of ties.
+    pub fn start(rule: Rule, number: u8, view: u16, count: usize) -> Member {
         let mut table = vec![Record::fresh(9); count];
         let mut store = vec![0xee; Record::VALUE_LIMIT * count];
-        let replica = Replica::start(number, view, &mut table, &mut store).expect("accepted");
+        let answer = Replica::start(number, view, Settings { rule }, &mut table, &mut store);
+        let replica = answer.expect("accepted");
         Member {
             replica,
             table,
@@ -66,9 +89,19 @@ impl Member {
         }
     }
 
-    /// The ringing table's: laptop 2, view {1,2,5}, epoch 0, one record.
+    /// The ringing table's: laptop 2, view {1,2,5}, epoch 0, one record, the old
+    /// rule of ties.
     pub fn ringing() -> Member {
-        Member::start(2, set(&[1, 2, 5]), 1)
+        Member::ringing_by(Rule::Higher)
+    }
+
+    /// The same with this rule of ties.
+    pub fn ringing_by(rule: Rule) -> Member {
+        Member::start(rule, 2, set(&[1, 2, 5]), 1)
+    }
+
+    pub fn rule(&self) -> Rule {
+        self.replica.settings.rule
     }
 
     pub fn slot(&self, record: usize) -> &[u8] {
@@ -125,8 +158,8 @@ impl Member {
     }
 }
 
-/// The packet of these messages and bodies.
-pub fn packet_of(messages: &[(Envelope, &[u8])]) -> Result<Vec<u8>, Refusal> {
+/// The packet of these messages and bodies, in a group with this rule of ties.
+pub fn packet_of(rule: Rule, messages: &[(Envelope, &[u8])]) -> Result<Vec<u8>, Refusal> {
     let entries: Vec<Entry> = messages
         .iter()
         .map(|&(envelope, body)| Entry {
@@ -136,22 +169,22 @@ pub fn packet_of(messages: &[(Envelope, &[u8])]) -> Result<Vec<u8>, Refusal> {
         .collect();
     let bodies = messages.iter().map(|(_, body)| *body).collect::<Vec<_>>();
     let mut out = vec![0xee; 1500];
-    let total = packet::write(&entries, &bodies.concat(), &mut out)?;
+    let total = packet::write(rule, &entries, &bodies.concat(), &mut out)?;
     assert!(out[total..].iter().all(|&byte| byte == 0xee));
     out.truncate(total);
     Ok(out)
 }
 
 /// All messages of a packet.
-pub fn messages_of(bytes: &[u8]) -> Result<Vec<(Envelope, &[u8])>, Refusal> {
-    packet::fetch(bytes, 0)?;
+pub fn messages_of(rule: Rule, bytes: &[u8]) -> Result<Vec<(Envelope, &[u8])>, Refusal> {
+    packet::fetch(rule, bytes, 0)?;
     (0..usize::from(bytes[1]))
-        .map(|i| packet::fetch(bytes, i))
+        .map(|i| packet::fetch(rule, bytes, i))
         .collect()
 }
 
 /// The same in one pass: the packet is judged once.
-pub fn in_one_pass(bytes: &[u8]) -> Result<Vec<(Envelope, &[u8])>, Refusal> {
-    let accepted = packet::accept(bytes)?;
+pub fn in_one_pass(rule: Rule, bytes: &[u8]) -> Result<Vec<(Envelope, &[u8])>, Refusal> {
+    let accepted = packet::accept(rule, bytes)?;
     (0..accepted.count()).map(|i| accepted.message(i)).collect()
 }

@@ -1,7 +1,7 @@
 //! A record hung after two saves (02, Wish 2): two huts save the same ring
 //! together, and the laptop with the winning stamp dies.
 
-use model::engine::{body, Answer, Envelope, Message, Record, Refusal, State};
+use model::engine::{body, Answer, Envelope, Message, Record, Refusal, Rule, State};
 
 use crate::group::{Event, Group};
 use crate::support::{ack, from, inv, set, ts, val, Member};
@@ -11,7 +11,7 @@ use crate::support::{ack, from, inv, set, ts, val, Member};
 /// Laptop 2 has saved (1,2), which 1 has acknowledged; 5's save (1,5) has
 /// overtaken it.
 fn overtaken() -> Member {
-    let mut member = Member::start(2, set(&[1, 2, 3, 5]), 1);
+    let mut member = Member::start(Rule::Higher, 2, set(&[1, 2, 3, 5]), 1);
     assert_eq!(member.write(0, b"own"), Ok(Some(inv(1, 2))));
     assert_eq!(member.deliver(&from(1, ack(1, 2)), b""), Ok(None));
     let winner = from(5, inv(1, 5));
@@ -231,23 +231,37 @@ fn another_replay_before_this_one() {
     assert_eq!(member.table, [REPLAYED]);
 }
 
-// Whole groups. Members are named by their places, which are their numbers.
+// Whole groups. Members are named by their places. The later place wins a tie: by
+// the old rule the places are the numbers, by the new one these fall from 15.
+
+fn number(rule: Rule, at: usize) -> u8 {
+    match rule {
+        Rule::Higher => at as u8,
+        Rule::Lower => 15 - at as u8,
+    }
+}
+
+/// The set of these places' numbers.
+fn places(rule: Rule, places: &[usize]) -> u16 {
+    let numbers = places.iter().map(|&at| number(rule, at));
+    set(&numbers.collect::<Vec<_>>())
+}
 
 /// These members save at once. Their INVs are the first posts, in this order.
-fn saved(size: u8, savers: &[usize]) -> Group {
-    let numbers: Vec<u8> = (0..size).collect();
-    let mut group = Group::start(&numbers, set(&numbers), 1);
+fn saved(rule: Rule, size: usize, savers: &[usize]) -> Group {
+    let numbers: Vec<u8> = (0..size).map(|at| number(rule, at)).collect();
+    let mut group = Group::start(rule, &numbers, set(&numbers), 1);
     for &at in savers {
-        let value = text(at as u8);
+        let value = text(at);
         let write = Event::Write { record: 0, value };
         let answer = group.play(at, &write);
-        assert_eq!(answer, Ok(Some(inv(1, at as u8))));
+        assert_eq!(answer, Ok(Some(inv(1, numbers[at]))));
     }
     group
 }
 
-fn text(number: u8) -> Vec<u8> {
-    format!("saved by {number}").into_bytes()
+fn text(at: usize) -> Vec<u8> {
+    format!("saved by {at}").into_bytes()
 }
 
 fn deliver(group: &mut Group, at: usize, post: usize) {
@@ -257,7 +271,7 @@ fn deliver(group: &mut Group, at: usize, post: usize) {
 
 /// These members, and no others, are told that they are left.
 fn strike_off_the_rest(group: &mut Group, left: &[usize]) {
-    let view = left.iter().fold(0, |view, at| view | 1 << at);
+    let view = places(group.rule, left);
     for &at in left {
         let event = Event::View { epoch: 1, view };
         assert_eq!(group.checked(at, &event), Ok(None));
@@ -269,11 +283,12 @@ fn replay(group: &mut Group, at: usize) -> Answer {
 }
 
 /// These members show what this one saved.
-fn all_show(group: &Group, left: &[usize], saver: u8) {
+fn all_show(group: &Group, left: &[usize], saver: usize) {
     for &at in left {
         let member = &group.members[at];
         assert_eq!(member.read(0), Ok(&text(saver)[..]), "laptop {at}");
-        assert_eq!(member.table[0].timestamp, ts(1, saver));
+        let stamp = ts(1, number(group.rule, saver));
+        assert_eq!(member.table[0].timestamp, stamp);
     }
 }
 
@@ -284,48 +299,52 @@ fn states(group: &Group) -> Vec<State> {
 /// 0 and 2 save together, all hear of 2's, and 2 dies.
 #[test]
 fn the_winners_text_stands() {
-    use State::{Invalid, InvalidWrite, Write};
-    let mut group = saved(3, &[0, 2]);
-    // 1 acknowledges 0's save, post 2.
-    deliver(&mut group, 1, 0);
-    deliver(&mut group, 0, 2);
-    deliver(&mut group, 1, 1);
-    deliver(&mut group, 0, 1);
-    assert_eq!(states(&group), [InvalidWrite, Invalid, Write]);
-    assert_eq!(replay(&mut group, 0), Err(Refusal::NotReplayable));
-    strike_off_the_rest(&mut group, &[0, 1]);
+    for rule in Rule::ALL {
+        use State::{Invalid, InvalidWrite, Write};
+        let mut group = saved(rule, 3, &[0, 2]);
+        // 1 acknowledges 0's save, post 2.
+        deliver(&mut group, 1, 0);
+        deliver(&mut group, 0, 2);
+        deliver(&mut group, 1, 1);
+        deliver(&mut group, 0, 1);
+        assert_eq!(states(&group), [InvalidWrite, Invalid, Write]);
+        assert_eq!(replay(&mut group, 0), Err(Refusal::NotReplayable));
+        strike_off_the_rest(&mut group, &[0, 1]);
 
-    let post = group.posts.len();
-    assert_eq!(replay(&mut group, 0), Ok(Some(inv(1, 2))));
-    group.everything_arrives(post, &[0, 1]);
-    all_show(&group, &[0, 1], 2);
-    assert_eq!(group.validations.len(), 1);
-    assert_eq!(group.validations[0].timestamp, ts(1, 2));
-    assert_eq!(group.validations[0].view, set(&[0, 1]));
+        let post = group.posts.len();
+        assert_eq!(replay(&mut group, 0), Ok(Some(inv(1, number(rule, 2)))));
+        group.everything_arrives(post, &[0, 1]);
+        all_show(&group, &[0, 1], 2);
+        assert_eq!(group.validations.len(), 1);
+        assert_eq!(group.validations[0].timestamp, ts(1, number(rule, 2)));
+        assert_eq!(group.validations[0].view, places(rule, &[0, 1]));
+    }
 }
 
 /// 2's INV came to 0 alone. 1 holds what 0 saved, or nothing, and may not
 /// replay.
 #[test]
 fn one_laptop_holds_the_winners_text() {
-    for heard in [false, true] {
-        let mut group = saved(3, &[0, 2]);
-        if heard {
-            deliver(&mut group, 1, 0);
-            deliver(&mut group, 0, 2);
-        }
-        deliver(&mut group, 0, 1);
-        strike_off_the_rest(&mut group, &[0, 1]);
-        assert_eq!(replay(&mut group, 1), Err(Refusal::NotReplayable));
+    for rule in Rule::ALL {
+        for heard in [false, true] {
+            let mut group = saved(rule, 3, &[0, 2]);
+            if heard {
+                deliver(&mut group, 1, 0);
+                deliver(&mut group, 0, 2);
+            }
+            deliver(&mut group, 0, 1);
+            strike_off_the_rest(&mut group, &[0, 1]);
+            assert_eq!(replay(&mut group, 1), Err(Refusal::NotReplayable));
 
-        let post = group.posts.len();
-        assert_eq!(replay(&mut group, 0), Ok(Some(inv(1, 2))));
-        // An acknowledgement of the save given up does not validate.
-        let validate = group.checked(0, &Event::Validate { record: 0 });
-        assert_eq!(validate, Err(Refusal::NotFinished));
-        group.everything_arrives(post, &[0, 1]);
-        all_show(&group, &[0, 1], 2);
-        assert_eq!(group.validations.len(), 1);
+            let post = group.posts.len();
+            assert_eq!(replay(&mut group, 0), Ok(Some(inv(1, number(rule, 2)))));
+            // An acknowledgement of the save given up does not validate.
+            let validate = group.checked(0, &Event::Validate { record: 0 });
+            assert_eq!(validate, Err(Refusal::NotFinished));
+            group.everything_arrives(post, &[0, 1]);
+            all_show(&group, &[0, 1], 2);
+            assert_eq!(group.validations.len(), 1);
+        }
     }
 }
 
@@ -333,26 +352,28 @@ fn one_laptop_holds_the_winners_text() {
 /// in invalid. One of them replays, or all do.
 #[test]
 fn all_in_invalid_write() {
-    for size in [3, 4] {
-        let savers: Vec<usize> = (0..usize::from(size)).collect();
-        let (&winner, left) = savers.split_last().expect("a saver");
-        let first = left.iter().map(|&at| vec![at]);
-        for replaying in first.chain([left.to_vec()]) {
-            let mut group = saved(size, &savers);
-            for &at in left {
-                deliver(&mut group, at, winner);
-            }
-            strike_off_the_rest(&mut group, left);
-            let overtaken = vec![State::InvalidWrite; winner];
-            assert_eq!(states(&group)[..winner], overtaken);
+    for rule in Rule::ALL {
+        for size in [3, 4] {
+            let savers: Vec<usize> = (0..size).collect();
+            let (&winner, left) = savers.split_last().expect("a saver");
+            let first = left.iter().map(|&at| vec![at]);
+            for replaying in first.chain([left.to_vec()]) {
+                let mut group = saved(rule, size, &savers);
+                for &at in left {
+                    deliver(&mut group, at, winner);
+                }
+                strike_off_the_rest(&mut group, left);
+                let overtaken = vec![State::InvalidWrite; winner];
+                assert_eq!(states(&group)[..winner], overtaken);
 
-            let post = group.posts.len();
-            for &at in &replaying {
-                let sent = inv(1, winner as u8);
-                assert_eq!(replay(&mut group, at), Ok(Some(sent)));
+                let post = group.posts.len();
+                for &at in &replaying {
+                    let sent = inv(1, number(rule, winner));
+                    assert_eq!(replay(&mut group, at), Ok(Some(sent)));
+                }
+                group.everything_arrives(post, left);
+                all_show(&group, left, winner);
             }
-            group.everything_arrives(post, left);
-            all_show(&group, left, winner as u8);
         }
     }
 }
@@ -361,25 +382,27 @@ fn all_in_invalid_write() {
 /// stamp stands whichever is heard first.
 #[test]
 fn two_winners() {
-    for order in [[0, 1], [1, 0]] {
-        let mut group = saved(4, &[0, 1, 2, 3]);
-        deliver(&mut group, 0, 3);
-        deliver(&mut group, 1, 2);
-        strike_off_the_rest(&mut group, &[0, 1]);
-        assert_eq!(states(&group)[..2], [State::InvalidWrite; 2]);
-        let post = group.posts.len();
-        for at in order {
-            assert!(replay(&mut group, at).is_ok());
+    for rule in Rule::ALL {
+        for order in [[0, 1], [1, 0]] {
+            let mut group = saved(rule, 4, &[0, 1, 2, 3]);
+            deliver(&mut group, 0, 3);
+            deliver(&mut group, 1, 2);
+            strike_off_the_rest(&mut group, &[0, 1]);
+            assert_eq!(states(&group)[..2], [State::InvalidWrite; 2]);
+            let post = group.posts.len();
+            for at in order {
+                assert!(replay(&mut group, at).is_ok());
+            }
+            group.everything_arrives(post, &[0, 1]);
+            all_show(&group, &[0, 1], 3);
         }
-        group.everything_arrives(post, &[0, 1]);
-        all_show(&group, &[0, 1], 3);
     }
 }
 
 /// 0, 1 and 2 save together. 1 has acknowledged 0's save, 0 has acknowledged
 /// 1's, and 0 alone has heard of the winner's; it replays.
-fn replaying() -> Group {
-    let mut group = saved(3, &[0, 1, 2]);
+fn replaying(rule: Rule) -> Group {
+    let mut group = saved(rule, 3, &[0, 1, 2]);
     // Posts 3 and 4 are these ACKs.
     deliver(&mut group, 1, 0);
     deliver(&mut group, 0, 3);
@@ -387,35 +410,39 @@ fn replaying() -> Group {
     deliver(&mut group, 1, 4);
     deliver(&mut group, 0, 2);
     strike_off_the_rest(&mut group, &[0, 1]);
-    assert_eq!(group.members[0].table[0].acks, set(&[1]));
-    assert_eq!(replay(&mut group, 0), Ok(Some(inv(1, 2))));
+    assert_eq!(group.members[0].table[0].acks, places(rule, &[1]));
+    assert_eq!(replay(&mut group, 0), Ok(Some(inv(1, number(rule, 2)))));
     // 2, which has not acknowledged 1's save, is struck off.
     let validate = group.checked(1, &Event::Validate { record: 0 });
-    assert_eq!(validate, Ok(Some(val(1, 1))));
+    assert_eq!(validate, Ok(Some(val(1, number(rule, 1)))));
     group
 }
 
 /// 1 shows its own save until it hears of the winner's.
 #[test]
 fn a_lesser_save_is_validated_meanwhile() {
-    let mut group = replaying();
-    all_show(&group, &[1], 1);
-    let validate = group.checked(0, &Event::Validate { record: 0 });
-    assert_eq!(validate, Err(Refusal::NotFinished));
-    let post = group.posts.len() - 2;
-    assert_eq!(group.posts[post].envelope.message, inv(1, 2));
-    group.everything_arrives(post, &[0, 1]);
-    all_show(&group, &[0, 1], 2);
+    for rule in Rule::ALL {
+        let mut group = replaying(rule);
+        all_show(&group, &[1], 1);
+        let validate = group.checked(0, &Event::Validate { record: 0 });
+        assert_eq!(validate, Err(Refusal::NotFinished));
+        let post = group.posts.len() - 2;
+        assert_eq!(group.posts[post].envelope.message, inv(1, number(rule, 2)));
+        group.everything_arrives(post, &[0, 1]);
+        all_show(&group, &[0, 1], 2);
+    }
 }
 
 /// Why the acknowledgements are emptied: with 1's kept, 0 would validate what 1
 /// has not heard of, and both screens show valid with different texts.
 #[test]
 fn kept_acknowledgements_would_break_it() {
-    let mut group = replaying();
-    group.members[0].table[0].acks = set(&[1]);
-    let validate = group.play(0, &Event::Validate { record: 0 });
-    assert_eq!(validate, Ok(Some(val(1, 2))));
-    assert!(group.agreement().is_err());
-    assert!(group.durability().is_err());
+    for rule in Rule::ALL {
+        let mut group = replaying(rule);
+        group.members[0].table[0].acks = places(rule, &[1]);
+        let validate = group.play(0, &Event::Validate { record: 0 });
+        assert_eq!(validate, Ok(Some(val(1, number(rule, 2)))));
+        assert!(group.agreement().is_err());
+        assert!(group.durability().is_err());
+    }
 }
