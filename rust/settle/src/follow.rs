@@ -26,7 +26,8 @@ where
     replied(to.deliver(message.arriving()))
 }
 
-/// The message in a packet of its own, as the radio brings it.
+/// The message in a packet of its own, by the laptop's settings, as the radio brings
+/// it.
 ///
 /// # Errors
 ///
@@ -37,7 +38,7 @@ where
     S: AsMut<[u8]>,
 {
     let mut bytes = [0; packet::PACKET_MAX];
-    let len = packet::pack([message], &mut bytes)?;
+    let len = packet::pack(to.settings(), [message], &mut bytes)?;
     replied(to.deliver_packet(&bytes[..len], 0))
 }
 
