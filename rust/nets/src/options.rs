@@ -14,7 +14,7 @@ Agreement is checked after every event, and at the end that every record has
 settled, that every text was saved over one that its ringer saw, and that every
 bird is told of; exit status 1 if a check fails, 2 for wrong options.
 
-  --seed S         the beginning of all random numbers    (111, or CETSKOBI_SEED)
+  --seed S         the beginning of all random numbers    (560, or CETSKOBI_SEED)
   --seeds N        N mornings, from the seed on, one line each
   --counts         also count events, messages, packets and refusals
   --laptops N      2 to 16                                (11)

@@ -390,7 +390,8 @@ impl Report {
             Rule::Higher => "new",
             Rule::Lower => "old",
         };
-        let remark = format!("saves: {was} of them at {lower}; by the {by} rule {other}");
+        let remark =
+            format!("saves; {was} of ringers in charge ({lower}), by the {by} rule {other}");
         line(f, "  lost", ties.lost as u64, &remark)
     }
 
@@ -432,7 +433,7 @@ impl Report {
         line(f, "  entered again", again, &remark)?;
         let (lower, of_lower) = (self.lower_half(), grouped(self.replaced_in_charge()));
         let remark = format!(
-            "by a save of another laptop that had not heard of them: {of_lower} at {lower}"
+            "by a save of another laptop that had not heard of them; {of_lower} at {lower}"
         );
         line(f, "    replaced", replaced, &remark)?;
         let remark = "of the replaced were finished before";

@@ -49,7 +49,7 @@ pub struct Settings {
 impl Default for Settings {
     fn default() -> Settings {
         Settings {
-            seed: 111,
+            seed: 560,
             laptops: 11,
             records: Record::COUNT_MAX,
             // The season's groups are formed under the new one.

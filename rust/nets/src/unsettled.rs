@@ -3,7 +3,7 @@
 //! morning goes on as if nobody had looked.
 
 use cetskobi::{Laptop, Members};
-use settle::{by_packet, follow, held, most, recipe};
+use settle::{by_packet, follow, held, latest, most, recipe};
 
 use crate::failure::Cause;
 use crate::group::Group;
@@ -45,10 +45,8 @@ pub(crate) fn look(group: &Group, view: Members) -> Result<Unsettled, Cause> {
 /// How many events settle a record. None if they do not, or are too many.
 fn settle_one(group: &Group, copies: &mut [Laptop], i: usize) -> Option<usize> {
     let held = held(copies, i);
-    let rule = group.rule();
-    let latest = held.iter().map(|(_, r)| r.timestamp);
-    let latest = latest.max_by(|a, b| a.compare(*b, rule))?;
-    let steps = recipe(&held, rule)?;
+    let latest = latest(group.rule(), &held)?;
+    let steps = recipe(group.rule(), &held)?;
     follow(&steps, copies, i, by_packet).ok()?;
     let members: Vec<&Laptop> = copies.iter().collect();
     same_text(group, &members, i).ok()?;
