@@ -1,7 +1,7 @@
 //! The laptops of the group. Every event goes through here: it is counted,
 //! remembered, and the checks are made after it.
 
-use cetskobi::packet::Messages;
+use cetskobi::packet::{self, Messages};
 use cetskobi::{Arriving, Envelope, Laptop, Leaving, Members, Message, Opened, Record, Refusal};
 use cetskobi::{Reply, Rule, State};
 use std::collections::BTreeMap;
@@ -257,10 +257,14 @@ impl Group {
         }))
     }
 
-    /// The first message of a packet by its number, of which nothing is known. Only for
-    /// one that is refused: the event is not watched.
-    pub fn deliver_by_number(&mut self, number: u8, packet: &[u8]) -> Option<Refusal> {
-        self.laptop_mut(number).deliver_packet(packet, 0).err()
+    /// The first message of a packet, fetched by its number and delivered, as software
+    /// does that looks at no packet as a whole. Only for one that is to be refused: the
+    /// event is not watched.
+    pub fn deliver_fetched(&mut self, number: u8, bytes: &[u8]) -> Option<Refusal> {
+        let laptop = self.laptop_mut(number);
+        let fetched = packet::fetch(laptop.settings(), bytes, 0);
+        let reply = fetched.and_then(|came| laptop.deliver(came));
+        reply.err()
     }
 
     /// A message that came, handed over as another.

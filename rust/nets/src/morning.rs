@@ -161,12 +161,13 @@ impl Morning {
     /// Packets of the other station, which a hut takes for packets as any.
     fn other_station(&mut self) -> Done {
         let now = self.group.now;
-        for (to, bytes) in self.neighbours.on_air(now, self.plan.awake(now)) {
+        for packet in self.neighbours.on_air(now, self.plan.awake(now)) {
+            let (to, bytes) = (packet.to, &packet.bytes);
             let before = self.group.laptop(to).clone();
-            let whole = self.huts[usize::from(to)].packet_came(&mut self.group, &bytes)?;
-            let refused = [whole, self.group.deliver_by_number(to, &bytes)];
+            let whole = self.huts[usize::from(to)].packet_came(&mut self.group, bytes)?;
+            let refused = [whole, self.group.deliver_fetched(to, bytes)];
             let since = self.group.laptop(to);
-            self.neighbours.came(&bytes, refused, before, since)?;
+            self.neighbours.came(&packet, refused, before, since)?;
         }
         Ok(())
     }

@@ -11,6 +11,16 @@ use crate::failure::Cause;
 use crate::settings::{other, Part, Settings};
 use crate::{text, Tick};
 
+/// A packet of its own, with one message.
+#[derive(Clone, Debug, PartialEq, Eq)]
+pub(crate) struct Packet {
+    /// The hut here that hears it.
+    pub to: u8,
+    /// The record that it is about.
+    pub record: usize,
+    pub bytes: Vec<u8>,
+}
+
 /// What became here of its packets.
 #[derive(Clone, Copy, Debug, Default, PartialEq, Eq)]
 pub(crate) struct Heard {
@@ -62,7 +72,7 @@ impl Neighbours {
 
     /// Now and then one of its laptops saves a record, and all that leaves then goes on
     /// air: each packet is heard by one hut here. Of both stations these laptops run.
-    pub fn on_air(&mut self, now: Tick, awake: Members) -> Vec<(u8, Vec<u8>)> {
+    pub fn on_air(&mut self, now: Tick, awake: Members) -> Vec<Packet> {
         if now >= self.until || !self.rng.chance(self.share.into(), 100) {
             return Vec::new();
         }
@@ -71,8 +81,12 @@ impl Neighbours {
         let record = self.rng.below(self.laptops[0].count());
         let text = text::of_bird(&mut self.rng, false);
         let packets = self.saved(saver, record, text.as_bytes(), &awake);
-        let mut heard_by = |bytes| (self.rng.pick(&awake).unwrap_or_default(), bytes);
-        packets.into_iter().map(&mut heard_by).collect()
+        let heard = |bytes| Packet {
+            to: self.rng.pick(&awake).unwrap_or_default(),
+            record,
+            bytes,
+        };
+        packets.into_iter().map(heard).collect()
     }
 
     /// A save there, with all that follows at once, as packets. None if the record is
@@ -96,34 +110,29 @@ impl Neighbours {
         packets
     }
 
-    /// What one of its packets did here: what it was refused by, as a whole and by the
-    /// number of its message, and the laptop as it was before and is since. It is to be
+    /// What one of its packets did here: what it was refused by, as a whole and when its
+    /// message was fetched, and the laptop as it was before and is since. It is to be
     /// refused by 27, both times, and nothing has changed.
     pub fn came(
         &mut self,
-        bytes: &[u8],
+        packet: &Packet,
         refused: [Option<Refusal>; 2],
         mut before: Laptop,
         since: &Laptop,
     ) -> Result<(), Cause> {
-        let messages = packet::messages(self.rule, bytes).expect("a packet of that station");
-        let records: Vec<usize> = messages.map(|m| m.envelope().record).collect();
+        let record = packet.record;
         if refused != [Some(Refusal::OtherRule); 2] || before != *since {
             return Err(Cause::TakenIn {
-                record: records[0],
+                record,
                 laptop: since.number(),
             });
         }
         self.heard.packets += 1;
         // The copy is of no further use: what if byte 0 were this group's?
-        let mut bytes = bytes.to_vec();
+        let mut bytes = packet.bytes.clone();
         bytes[0] = before.settings().rule.number();
-        for n in 0..records.len() {
-            let _ = before.deliver_packet(&bytes, n);
-        }
-        let changed = records
-            .iter()
-            .any(|i| before.record(*i) != since.record(*i));
+        let _ = before.deliver_packet(&bytes, 0);
+        let changed = before.record(record) != since.record(record);
         self.heard.otherwise += u64::from(changed);
         Ok(())
     }
@@ -151,8 +160,8 @@ mod tests {
 
     /// Each packet has the other rule's byte, and one message: the kind, who sent it,
     /// its epoch and its timestamp.
-    fn sent(rule: Rule, packets: &[(u8, Vec<u8>)]) -> Vec<(u8, u8, u32, Timestamp)> {
-        let message = |(_, bytes): &(u8, Vec<u8>)| {
+    fn sent(rule: Rule, packets: &[Packet]) -> Vec<(u8, u8, u32, Timestamp)> {
+        let message = |Packet { record, bytes, .. }: &Packet| {
             assert_eq!(bytes[0], other(rule).number());
             assert_eq!(
                 packet::messages(rule, bytes).err(),
@@ -160,7 +169,7 @@ mod tests {
             );
             let mut messages = packet::messages(other(rule), bytes).expect("a packet");
             let e = messages.next().expect("a message").envelope();
-            assert_eq!(messages.len(), 0);
+            assert_eq!((messages.len(), e.record), (0, *record));
             (e.message.kind(), e.sender, e.epoch, e.message.timestamp())
         };
         packets.iter().map(message).collect()
@@ -174,7 +183,7 @@ mod tests {
             let (_, mut station) = three(rule);
             let saved = |station: &mut Neighbours, awake: u16, version| {
                 let packets = station.on_air(0, Members::from(awake));
-                let heard = packets.iter().all(|(to, _)| awake & (1 << to) != 0);
+                let heard = packets.iter().all(|p| awake & (1 << p.to) != 0);
                 assert!(heard, "a hut that runs");
                 let messages = sent(rule, &packets);
                 let (_, saver, epoch, stamp) = messages[0];
@@ -230,7 +239,11 @@ mod tests {
             laptop
         };
         let packets = station.saved(2, 0, b"Robin", &[0, 1, 2]);
-        let inv = &packets[0];
+        let inv = &Packet {
+            to: 0,
+            record: 0,
+            bytes: packets[0].clone(),
+        };
         let right = [Some(Refusal::OtherRule); 2];
         // By our rule 0's own save wins, and by theirs it would not.
         let wren = laptop(b"Wren");

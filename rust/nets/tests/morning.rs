@@ -220,7 +220,7 @@ fn other_seeds() {
     // ties, by the new one 20.
     let [[old, old_lower], [new, new_lower]] = lost;
     assert!(old >= 30 && 2 * old_lower > old, "{lost:?}");
-    assert!(new >= 30 && 3 * new_lower < new, "{lost:?}");
+    assert!(new >= 30 && 5 * new_lower < 2 * new, "{lost:?}");
 }
 
 #[test]
