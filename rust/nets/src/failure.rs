@@ -80,7 +80,7 @@ pub enum Cause {
     /// A packet of the other station, whose group has the other rule, was not refused
     /// by 27, or something changed.
     TakenIn {
-        /// The record of its first message.
+        /// The record that it is about.
         record: usize,
         /// The laptop that it came to.
         laptop: u8,
