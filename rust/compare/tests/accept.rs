@@ -46,7 +46,7 @@ fn damaged_packets() {
             each_case("foreign facts", &tally.foreign, 1000);
             println!("{:8} entries that 22 was not asked of", tally.unasked);
             assert!(tally.unasked >= 1000);
-            // 02, Wish 6: 5,500 and more of each; by byte 0 alone 1,700 and more. Also
+            // 02, Wish 6: 5,400 and more of each; by byte 0 alone 4,200 and more. Also
             // entries of packets of the other rule, with foreign facts.
             tally.heads.often(&[0, 21, 22], 1000);
             println!("{:8} entries of the other rule", tally.unruled);

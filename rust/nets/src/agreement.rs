@@ -3,7 +3,7 @@
 
 use std::fmt;
 
-use cetskobi::{Laptop, Members, Record, State, Timestamp};
+use cetskobi::{Laptop, Members, Record, Rule, State, Timestamp};
 
 /// Two halves, two ways to fail.
 #[derive(Clone, Copy, Debug, PartialEq, Eq)]
@@ -59,10 +59,12 @@ impl fmt::Display for Disagreement {
     }
 }
 
-/// What the checks remember: for each record and laptop the greatest timestamp
-/// that was validated by a finisher who had that laptop in its view.
+/// What the checks remember: for each record and laptop the latest timestamp, by the
+/// group's rule of ties, that was validated by a finisher who had that laptop in its
+/// view.
 pub(crate) struct Agreement {
-    validated: Vec<[Timestamp; 16]>,
+    rule: Rule,
+    validated: Vec<[Option<Timestamp>; 16]>,
     /// Records looked at.
     pub checks: u64,
 }
@@ -77,9 +79,10 @@ struct Screen<'a> {
 }
 
 impl Agreement {
-    pub fn new(records: usize) -> Agreement {
+    pub fn new(records: usize, rule: Rule) -> Agreement {
         Agreement {
-            validated: vec![[Timestamp::default(); 16]; records],
+            rule,
+            validated: vec![[None; 16]; records],
             checks: 0,
         }
     }
@@ -92,7 +95,9 @@ impl Agreement {
         };
         for laptop in finisher.view() {
             let least = &mut row[usize::from(laptop)];
-            *least = r.timestamp.max(*least);
+            if least.is_none_or(|before| r.timestamp.later(before, self.rule)) {
+                *least = Some(r.timestamp);
+            }
         }
     }
 
@@ -107,17 +112,17 @@ impl Agreement {
         let Some(row) = self.validated.get(record) else {
             return Ok(());
         };
-        match screens
-            .iter()
-            .find(|s| s.timestamp < row[usize::from(s.number)])
-        {
-            None => Ok(()),
-            Some(s) => Err(Disagreement::OlderText {
-                record,
-                laptop: s.number,
-                validated: row[usize::from(s.number)],
-            }),
+        for s in &screens {
+            let validated = row[usize::from(s.number)];
+            if let Some(validated) = validated.filter(|v| v.later(s.timestamp, self.rule)) {
+                return Err(Disagreement::OlderText {
+                    record,
+                    laptop: s.number,
+                    validated,
+                });
+            }
         }
+        Ok(())
     }
 }
 
@@ -180,6 +185,7 @@ mod tests {
         store[0] = byte;
         let me = Replica {
             number,
+            settings: Rule::Lower.into(),
             view,
             epoch: 0,
         };
@@ -187,7 +193,7 @@ mod tests {
     }
 
     fn check(laptops: &[Laptop]) -> Result<(), Disagreement> {
-        Agreement::new(1).check(laptops, 0)
+        Agreement::new(1, Rule::Lower).check(laptops, 0)
     }
 
     #[test]
@@ -229,7 +235,7 @@ mod tests {
 
     #[test]
     fn finished_saves_last() {
-        let mut agreement = Agreement::new(1);
+        let mut agreement = Agreement::new(1, Rule::Lower);
         agreement.finished(&laptop(1, 0b11, State::Valid, NEW, 8), 0);
         // The finisher writes again, so its screen is dark; the other's is old.
         let busy = laptop(1, 0b11, State::Write, NEW, 8);
@@ -246,5 +252,31 @@ mod tests {
         // The validated timestamp, or a later one, is right.
         let same = laptop(0, 0b11, State::Valid, NEW, 8);
         assert_eq!(agreement.check(&[same], 0), Ok(()));
+    }
+
+    /// Which of two with one version is the later one, the rule says (document 02,
+    /// Wish 6); and so which of two validated ones is to be shown.
+    #[test]
+    fn ties_go_by_the_rule() {
+        let of = |tie| Timestamp { tie, ..NEW };
+        for (rule, earlier, later) in [(Rule::Higher, 0, 2), (Rule::Lower, 2, 0)] {
+            for validated in [[earlier, 1], [1, earlier]] {
+                let mut agreement = Agreement::new(1, rule);
+                for tie in validated {
+                    agreement.finished(&laptop(1, 0b11, State::Valid, of(tie), 8), 0);
+                }
+                let mut check = |tie| {
+                    let screen = laptop(0, 0b11, State::Valid, of(tie), 7);
+                    agreement.check(&[screen], 0)
+                };
+                assert_eq!([check(1), check(later)], [Ok(()), Ok(())]);
+                let older = Disagreement::OlderText {
+                    record: 0,
+                    laptop: 0,
+                    validated: of(1),
+                };
+                assert_eq!(check(earlier), Err(older), "{rule}");
+            }
+        }
     }
 }

@@ -4,32 +4,13 @@
 
 use std::collections::BTreeSet;
 
-use cetskobi::{Laptop, Members, Timestamp};
+use cetskobi::{Laptop, Timestamp};
 
 use crate::failure::Cause;
 use crate::group::Group;
+use crate::saves::{key, Key};
 use crate::slip::Slip;
-use crate::{text, Tick};
-
-/// An accepted save.
-#[derive(Clone, Debug, Default, PartialEq, Eq)]
-pub(crate) struct Save {
-    pub tick: Tick,
-    pub text: Vec<u8>,
-    /// The timestamp of the text that it replaced at its laptop.
-    pub over: Timestamp,
-    /// The other laptops that took its INV.
-    pub heard: Members,
-    /// Whether it was finished at its laptop.
-    pub finished: bool,
-}
-
-impl Save {
-    /// Another laptop has taken its INV.
-    pub fn heard(&mut self, laptop: u8) {
-        self.heard = self.heard.into_iter().chain([laptop]).collect();
-    }
-}
+use crate::text;
 
 /// The captures that the texts in the records tell of.
 #[derive(Clone, Copy, Debug, PartialEq, Eq)]
@@ -75,7 +56,7 @@ fn all_seen(group: &Group, slips: &[&Slip]) -> Result<(), Cause> {
         .flat_map(|slip| slip.saves.iter().map(move |t| (*slip, *t)));
     let blind = saves.filter(|(slip, saved)| !made(group, slip, *saved));
     let tick = |(slip, saved): &(&Slip, Timestamp)| {
-        let save = group.saves.get(&(slip.record, *saved));
+        let save = group.saves.get(slip.record, *saved);
         save.map(|s| s.tick)
     };
     match blind.min_by_key(tick) {
@@ -94,10 +75,13 @@ fn made(group: &Group, slip: &Slip, saved: Timestamp) -> bool {
 
 /// Whether a bird is told of, and once; unless its ringer could not know, and entered it
 /// again.
-fn once(told: &BTreeSet<(usize, Timestamp)>, slip: &Slip) -> Result<(), Cause> {
+fn once(told: &BTreeSet<Key>, slip: &Slip) -> Result<(), Cause> {
     let record = slip.record;
     let saved = slip.saves.last().copied().unwrap_or_default();
-    let led = slip.saves.iter().filter(|t| told.contains(&(record, **t)));
+    let led = slip
+        .saves
+        .iter()
+        .filter(|t| told.contains(&key(record, **t)));
     match led.count() {
         0 => Err(Cause::Untold { record, saved }),
         n if n > 1 && !slip.unsure => Err(Cause::Twice { record, saved }),
@@ -115,7 +99,7 @@ fn unseen(group: &Group, record: usize, saved: Timestamp) -> Cause {
 
 /// The timestamp that a save replaced at its laptop.
 fn replaced(group: &Group, record: usize, saved: Timestamp) -> Timestamp {
-    let save = group.saves.get(&(record, saved));
+    let save = group.saves.get(record, saved);
     save.map_or(Timestamp::default(), |s| s.over)
 }
 
@@ -125,17 +109,17 @@ pub(crate) fn text_of(group: &Group, record: usize, timestamp: Timestamp) -> Opt
     match timestamp.version {
         0 => Some(&[]),
         _ => {
-            let save = group.saves.get(&(record, timestamp));
+            let save = group.saves.get(record, timestamp);
             save.map(|s| s.text.as_slice())
         }
     }
 }
 
 /// The saves of the chain that ends with this one.
-fn links(group: &Group, record: usize, mut last: Timestamp) -> Vec<(usize, Timestamp)> {
+fn links(group: &Group, record: usize, mut last: Timestamp) -> Vec<Key> {
     let mut links = Vec::new();
-    while let Some(save) = group.saves.get(&(record, last)) {
-        links.push((record, last));
+    while let Some(save) = group.saves.get(record, last) {
+        links.push(key(record, last));
         last = save.over;
     }
     links
@@ -144,6 +128,7 @@ fn links(group: &Group, record: usize, mut last: Timestamp) -> Vec<(usize, Times
 #[cfg(test)]
 mod tests {
     use super::*;
+    use crate::saves::Save;
     use crate::settings::Settings;
 
     /// Two laptops with one record, 0's save finished at both, and the slip of it.
@@ -246,7 +231,7 @@ mod tests {
             text: b"fat 3".to_vec(),
             ..Save::default()
         };
-        group.saves.insert((0, lesser), save);
+        group.saves.insert(0, lesser, save);
         let slips = [first.clone(), slip(&[lesser], "fat 3")];
         let untold = Cause::Untold {
             record: 0,

@@ -65,6 +65,35 @@ pub enum Cause {
         /// The timestamp of its last save.
         saved: Timestamp,
     },
+    /// Two saves were a tie, and at a laptop that heard of both another one stands than
+    /// the winner by the group's rule (document 02, Wish 6).
+    WrongTie {
+        /// The record.
+        record: usize,
+        /// The laptop.
+        laptop: u8,
+        /// The save that wins.
+        winner: Timestamp,
+        /// The other one.
+        loser: Timestamp,
+    },
+    /// A packet of the other station, whose group has the other rule, was not refused
+    /// by 27, or something changed.
+    TakenIn {
+        /// The record that it is about.
+        record: usize,
+        /// The laptop that it came to.
+        laptop: u8,
+    },
+    /// All else is well, but packets of the group's own laptops were refused as a whole.
+    Refused {
+        /// The record that changed last.
+        record: usize,
+        /// A laptop that sent one.
+        laptop: u8,
+        /// The number of the question.
+        number: u8,
+    },
 }
 
 impl From<Disagreement> for Cause {
@@ -92,7 +121,10 @@ impl Cause {
             | Cause::Unsaved { record }
             | Cause::Unseen { record, .. }
             | Cause::Untold { record, .. }
-            | Cause::Twice { record, .. } => *record,
+            | Cause::Twice { record, .. }
+            | Cause::WrongTie { record, .. }
+            | Cause::TakenIn { record, .. }
+            | Cause::Refused { record, .. } => *record,
         }
     }
 }
@@ -138,6 +170,20 @@ impl fmt::Display for Cause {
                 let laptop = saved.tie;
                 write!(f, "the text of record {record} tells twice of the bird that laptop {laptop} saved with {saved}")
             }
+            Cause::WrongTie {
+                record,
+                laptop,
+                winner,
+                loser,
+            } => {
+                write!(f, "laptop {laptop} heard of two saves of record {record} with one version, {winner} and {loser}, and the first does not stand there")
+            }
+            Cause::TakenIn { record, laptop } => {
+                write!(f, "laptop {laptop} did not refuse by 27 a packet of the other station, about record {record}, or changed by it")
+            }
+            Cause::Refused { laptop, number, .. } => {
+                write!(f, "packets of laptop {laptop} were refused by {number}")
+            }
         }
     }
 }
@@ -155,6 +201,9 @@ pub struct Failure {
     pub holdings: Vec<String>,
     /// The last events on the record, in order; the last one failed.
     pub events: Vec<String>,
+    /// The packets of the group's own laptops that were refused as a whole, a line for
+    /// each sender; none in a sound group.
+    pub refused: Vec<String>,
 }
 
 impl fmt::Display for Failure {
@@ -170,6 +219,10 @@ impl fmt::Display for Failure {
             .iter()
             .try_for_each(|h| writeln!(f, "  {h}"))?;
         writeln!(f, "the last events on record {record}:")?;
-        self.events.iter().try_for_each(|e| writeln!(f, "  {e}"))
+        self.events.iter().try_for_each(|e| writeln!(f, "  {e}"))?;
+        if !self.refused.is_empty() {
+            writeln!(f, "the group's packets that were refused, by sender:")?;
+        }
+        self.refused.iter().try_for_each(|r| writeln!(f, "  {r}"))
     }
 }

@@ -28,7 +28,7 @@ pub(crate) fn of(laptop: &Laptop, i: usize, saved: Timestamp) -> Fate {
 #[cfg(test)]
 mod tests {
     use super::*;
-    use cetskobi::{Members, Record, Replica};
+    use cetskobi::{Members, Record, Replica, Rule};
 
     const SAVED: Timestamp = Timestamp { version: 2, tie: 0 };
 
@@ -44,6 +44,7 @@ mod tests {
         };
         let me = Replica {
             number: 0,
+            settings: Rule::Lower.into(),
             view,
             epoch: 1,
         };

@@ -1,7 +1,7 @@
 //! Deliberate faults. Each breaks a premise of the agreement (docs/AGREEMENT.md)
 //! or a rule of the guide, so that the checks can be seen to fail.
 
-use cetskobi::{packet, raw, Message};
+use cetskobi::{packet, raw, Message, Rule};
 use model::rng::Rng;
 
 /// What is broken.
@@ -27,6 +27,13 @@ pub enum Fault {
     /// Hut software does not ask for the fate of a save: who was replaced is not told,
     /// and does not enter her bird again.
     Forget,
+    /// The last laptop is started with the other rule of ties (document 02, Wish 6).
+    Rule,
+    /// The same, and its hut's software reads and writes packets by the group's rule,
+    /// so that nobody notices.
+    Tie,
+    /// Hut software takes the rule from the packet and not from the group.
+    Byte,
 }
 
 impl Fault {
@@ -45,7 +52,13 @@ impl Fault {
             "save" => Ok(Fault::Save),
             "blind" => Ok(Fault::Blind),
             "forget" => Ok(Fault::Forget),
-            _ => Err("--fault: text, epoch, sender, val, replay, save, blind or forget".to_owned()),
+            "rule" => Ok(Fault::Rule),
+            "tie" => Ok(Fault::Tie),
+            "byte" => Ok(Fault::Byte),
+            _ => Err(
+                "--fault: text, epoch, sender, val, replay, save, blind, forget, rule, tie or byte"
+                    .to_owned(),
+            ),
         }
     }
 }
@@ -54,14 +67,20 @@ impl Fault {
 const ALTERED: usize = 20;
 
 /// The packet as a faulty link hands it on.
-pub(crate) fn in_flight(fault: Fault, bytes: &[u8], laptops: u8, rng: &mut Rng) -> Option<Vec<u8>> {
+pub(crate) fn in_flight(
+    fault: Fault,
+    rule: Rule,
+    bytes: &[u8],
+    laptops: u8,
+    rng: &mut Rng,
+) -> Option<Vec<u8>> {
     let alters = matches!(fault, Fault::Text | Fault::Sender);
     if !alters || !rng.chance(1, ALTERED) {
         return None;
     }
     let mut out = bytes.to_vec();
-    let accepted = raw::accept(bytes);
-    for (k, m) in packet::messages(bytes).ok()?.enumerate() {
+    let accepted = raw::accept(rule.into(), bytes);
+    for (k, m) in packet::messages(rule, bytes).ok()?.enumerate() {
         match (fault, m.envelope().message) {
             (Fault::Text, Message::Inv(_)) if !m.body().is_empty() => {
                 out[raw::fetch_accepted(bytes, accepted, k).at] ^= 1;

@@ -1,17 +1,18 @@
 //! The laptops of the group. Every event goes through here: it is counted,
 //! remembered, and the checks are made after it.
 
-use cetskobi::packet::Messages;
+use cetskobi::packet::{self, Messages};
 use cetskobi::{Arriving, Envelope, Laptop, Leaving, Members, Message, Opened, Record, Refusal};
-use cetskobi::{Reply, State, Timestamp};
+use cetskobi::{Reply, Rule, State};
 use std::collections::BTreeMap;
 
 use crate::agreement::Agreement;
-use crate::chain::Save;
 use crate::failure::Cause;
 use crate::history::{kind_of, Answer, Event, History, Kind};
 use crate::opening::Openings;
+use crate::saves::{Save, Saves};
 use crate::settings::Settings;
+use crate::ties::Ties;
 use crate::times::Times;
 use crate::{holdings, Tick};
 
@@ -58,8 +59,8 @@ pub(crate) struct Group {
     pub history: History,
     pub counts: EventCounts,
     pub times: Times,
-    /// Each accepted save, by record and timestamp.
-    pub saves: BTreeMap<(usize, Timestamp), Save>,
+    pub saves: Saves,
+    pub ties: Ties,
     pub now: Tick,
     /// When a record or a view last changed.
     pub last_change: Tick,
@@ -102,16 +103,17 @@ impl Group {
         let view: Members = (0..settings.laptops).collect();
         let laptops: Result<Vec<Laptop>, Refusal> = view
             .into_iter()
-            .map(|n| Laptop::start(n, view, settings.records))
+            .map(|n| Laptop::start(n, view, settings.started_with(n), settings.records))
             .collect();
         Ok(Group {
             laptops: laptops?,
-            agreement: Agreement::new(settings.records),
-            openings: Openings::default(),
+            agreement: Agreement::new(settings.records, settings.rule),
+            openings: Openings::new(settings.rule),
             history: History::new(settings.records),
             counts: EventCounts::default(),
             times: Times::new(settings.ticks),
-            saves: BTreeMap::new(),
+            saves: Saves::default(),
+            ties: Ties::new(settings.rule),
             now: 0,
             last_change: 0,
             last_changed: 0,
@@ -120,6 +122,17 @@ impl Group {
 
     pub fn laptop(&self, number: u8) -> &Laptop {
         &self.laptops[usize::from(number)]
+    }
+
+    /// The group's rule of ties.
+    pub fn rule(&self) -> Rule {
+        self.ties.rule
+    }
+
+    /// The lower half of the numbers, which belong to the ringers in charge: those
+    /// below this one.
+    pub fn lower_half(&self) -> u8 {
+        self.laptops.len() as u8 / 2
     }
 
     pub fn record(&self, number: u8, i: usize) -> Option<Record> {
@@ -191,7 +204,7 @@ impl Group {
                 over,
                 ..Save::default()
             };
-            self.saves.insert((i, stamp), save);
+            self.saves.insert(i, stamp, save);
         }
         answer
     }
@@ -244,6 +257,16 @@ impl Group {
         }))
     }
 
+    /// The first message of a packet, fetched by its number and delivered, as software
+    /// does that looks at no packet as a whole. Only for one that is to be refused: the
+    /// event is not watched.
+    pub fn deliver_fetched(&mut self, number: u8, bytes: &[u8]) -> Option<Refusal> {
+        let laptop = self.laptop_mut(number);
+        let fetched = packet::fetch(laptop.settings(), bytes, 0);
+        let reply = fetched.and_then(|came| laptop.deliver(came));
+        reply.err()
+    }
+
     /// A message that came, handed over as another.
     pub fn deliver_as(&mut self, number: u8, came: Envelope, handed: Arriving) -> Watched {
         self.deliver(number, came, |l| replied(l.deliver(handed)))
@@ -258,20 +281,28 @@ impl Group {
         event: impl FnOnce(&mut Laptop) -> Left,
     ) -> Watched {
         let i = came.record;
-        let state = |group: &Group| group.record(number, i).map(|r| r.state);
-        let before = state(self);
+        let before = self.record(number, i);
         let answer = self.act(number, i, event);
+        let after = self.record(number, i);
+        let mut right = Ok(());
         if let (Ok(_), Message::Inv(saved)) = (&answer, came.message) {
-            let save = self.saves.get_mut(&(i, saved));
+            let save = self.saves.get_mut(i, saved);
             save.into_iter().for_each(|s| s.heard(number));
+            if let (Some(had), Some(has)) = (before, after) {
+                let stamps = [had.timestamp, saved, has.timestamp];
+                right = self.ties.heard(number, i, stamps);
+            }
         }
-        let waited = matches!(before, Some(State::Write | State::Replay));
-        let ended = waited && state(self) == Some(State::Valid);
+        let state = |record: Option<Record>| record.map(|r| r.state);
+        let waited = matches!(state(before), Some(State::Write | State::Replay));
+        let ended = waited && state(after) == Some(State::Valid);
         if ended && matches!(came.message, Message::Ack(_)) {
             self.counts.completed += 1;
             self.finished(number, i);
         }
-        self.watched(number, i, Kind::Deliver, Some(came), answer)
+        let left = self.watched(number, i, Kind::Deliver, Some(came), answer)?;
+        right?;
+        Ok(left)
     }
 
     /// A view changes who stands in whose: all records are checked after it.
@@ -314,7 +345,7 @@ impl Group {
                 self.counts.overtaken += 1;
             }
             if (before.state, after.state) == (State::Write, State::Valid) {
-                let save = self.saves.get_mut(&(i, after.timestamp));
+                let save = self.saves.get_mut(i, after.timestamp);
                 save.into_iter().for_each(|s| s.finished = true);
             }
         }
@@ -383,14 +414,18 @@ impl Group {
 mod tests {
     use super::*;
     use crate::agreement::Disagreement;
+    use crate::fault::Fault;
+    use cetskobi::Timestamp;
 
     const SAVED: Timestamp = Timestamp { version: 1, tie: 0 };
 
     /// Laptops 0 to 3 with one record.
-    fn four() -> Group {
+    fn four(rule: Rule, fault: Option<Fault>) -> Group {
         let settings = Settings {
             laptops: 4,
             records: 1,
+            rule,
+            fault,
             ..Settings::default()
         };
         Group::start(&settings).expect("a group of four")
@@ -416,7 +451,8 @@ mod tests {
     /// 0 saves, and only 1 and 2 take it. 3 has another view, without 0, so that
     /// the two screens may differ; but it stands in 0's view.
     fn open() -> Group {
-        let mut group = four();
+        // The old rule: 0's save may be overtaken by one with the same version.
+        let mut group = four(Rule::Higher, None);
         let view = Members::from(0b1110);
         (group.change_view(3, 1, view).expect("agreement")).expect("accepted");
         let inv = group.write(0, 0, b"").expect("agreement");
@@ -487,5 +523,54 @@ mod tests {
         // Nor does a VAL make the laptop that takes it the finisher.
         assert_eq!(left(comes(&mut group, 0, 2, 0, Message::Val(later))), None);
         assert_eq!(group.counts.completed, 0);
+    }
+
+    /// 1 and 2 save at once; 0, 3 and they themselves hear of both.
+    fn tied(group: &mut Group) -> Result<(), Cause> {
+        let mut invs = Vec::new();
+        for n in [1, 2] {
+            let inv = group.write(n, 0, b"Wren")?;
+            invs.push(inv.expect("accepted").expect("an INV"));
+        }
+        for (to, inv) in [(0, 0), (0, 1), (1, 1), (2, 0), (3, 1), (3, 0)] {
+            let inv: &Leaving = &invs[inv];
+            let ack = group.deliver_as(to, inv.envelope(), inv.arriving())?;
+            assert!(ack.is_ok_and(|ack| ack.is_some()));
+        }
+        Ok(())
+    }
+
+    /// Document 02, Wish 6. Of the four 0 and 1 are the lower half.
+    #[test]
+    fn a_tie_goes_by_the_rule() {
+        for (rule, wins, in_charge, otherwise) in [(Rule::Higher, 2, 1, 0), (Rule::Lower, 1, 0, 1)]
+        {
+            let mut group = four(rule, None);
+            assert_eq!(tied(&mut group), Ok(()));
+            for n in 0..4 {
+                let stands = group.record(n, 0).map(|r| r.timestamp.tie);
+                assert_eq!(stands, Some(wins), "{rule}");
+            }
+            let ties = group.ties.report(group.saves.ties(), group.lower_half());
+            assert_eq!((ties.all, ties.decided, ties.met), (1, 1, 4));
+            let lost = (ties.lost, ties.in_charge, ties.otherwise);
+            assert_eq!(lost, (1, in_charge, otherwise), "{rule}");
+        }
+    }
+
+    /// 3 was started with the other rule, and keeps the other save.
+    #[test]
+    fn a_tie_that_goes_the_wrong_way_is_noticed() {
+        for (rule, wins, loses) in [(Rule::Higher, 2, 1), (Rule::Lower, 1, 2)] {
+            let mut group = four(rule, Some(Fault::Tie));
+            let stamp = |tie| Timestamp { tie, ..SAVED };
+            let wrong = Cause::WrongTie {
+                record: 0,
+                laptop: 3,
+                winner: stamp(wins),
+                loser: stamp(loses),
+            };
+            assert_eq!(tied(&mut group), Err(wrong));
+        }
     }
 }

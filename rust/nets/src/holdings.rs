@@ -4,8 +4,9 @@ use cetskobi::{Laptop, Record};
 
 use crate::layout::{table, Side};
 
-const HEADING: [&str; 10] = [
+const HEADING: [&str; 11] = [
     "laptop",
+    "ties to",
     "epoch",
     "view",
     "state",
@@ -17,8 +18,9 @@ const HEADING: [&str; 10] = [
     "text",
 ];
 
-const SIDES: [Side; 10] = [
+const SIDES: [Side; 11] = [
     Side::Right,
+    Side::Left,
     Side::Right,
     Side::Left,
     Side::Left,
@@ -37,11 +39,12 @@ pub(crate) fn of(laptops: &[Laptop], record: usize) -> Vec<String> {
     table(SIDES, &rows)
 }
 
-fn row(laptop: &Laptop, i: usize) -> [String; 10] {
+fn row(laptop: &Laptop, i: usize) -> [String; 11] {
     let held = laptop.record(i);
     let cell = |of: fn(&Record) -> String| held.as_ref().map_or("-".to_owned(), of);
     [
         laptop.number().to_string(),
+        laptop.settings().rule.to_string(),
         laptop.epoch().to_string(),
         laptop.view().to_string(),
         held.map_or("no record".to_owned(), |r| r.state.to_string()),
@@ -72,12 +75,18 @@ fn text(laptop: &Laptop, i: usize, len: usize) -> String {
 #[cfg(test)]
 mod tests {
     use super::*;
-    use cetskobi::{Members, Replica, State, Timestamp};
+    use cetskobi::{Members, Replica, Rule, State, Timestamp};
 
-    /// Laptops with two records, of which the first is empty.
+    /// Laptop 2, 5 or 7, which was started with the other rule, with two records, of
+    /// which the first is empty.
     fn laptop(number: u8, view: u16, epoch: u32, second: [u8; 16], text: &[u8]) -> Laptop {
+        let rule = match number {
+            7 => Rule::Higher,
+            _ => Rule::Lower,
+        };
         let me = Replica {
             number,
+            settings: rule.into(),
             view,
             epoch,
         };
@@ -113,10 +122,10 @@ mod tests {
             laptop(7, 0b1010_0110, 0, broken, b"Wren"),
         ];
         let right = [
-            "laptop  epoch  view       state          timestamp  last writer  last write  acknowledged  bytes  text",
-            "     2      0  {1,2,5,7}  invalid-write  (12,7)               7  (9,2)       {1,5}             6  \"Wren\\n\\\"\"",
-            "     5     17  {1,2,5}    valid          (12,7)               7  (9,2)       {}                4  \"Wren\", and 2 of the bytes behind it are not 0",
-            "     7      0  {1,2,5,7}  no record      -                    -  -           -                 -  -",
+            "laptop  ties to  epoch  view       state          timestamp  last writer  last write  acknowledged  bytes  text",
+            "     2  lower        0  {1,2,5,7}  invalid-write  (12,7)               7  (9,2)       {1,5}             6  \"Wren\\n\\\"\"",
+            "     5  lower       17  {1,2,5}    valid          (12,7)               7  (9,2)       {}                4  \"Wren\", and 2 of the bytes behind it are not 0",
+            "     7  higher       0  {1,2,5,7}  no record      -                    -  -           -                 -  -",
         ];
         assert_eq!(of(&laptops, 1), right);
     }

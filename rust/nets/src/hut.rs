@@ -4,7 +4,8 @@
 use std::collections::BTreeMap;
 
 use cetskobi::packet::{self, Messages};
-use cetskobi::{Arriving, Envelope, Leaving, Members, Message, Opened, Refusal, State, Timestamp};
+use cetskobi::{Arriving, Envelope, Leaving, Members, Message, Opened, Refusal, Rule};
+use cetskobi::{State, Timestamp};
 
 use crate::failure::Cause;
 use crate::fate::{self, Fate};
@@ -30,6 +31,8 @@ struct Timer {
 /// The hut of one laptop.
 pub(crate) struct Hut {
     number: u8,
+    /// By which its software reads and writes packets: that of its group.
+    rule: Rule,
     outbox: Outbox,
     timers: BTreeMap<usize, Timer>,
     /// The last epoch that was greater than the laptop's own, since its view; 0 if none came.
@@ -45,9 +48,10 @@ pub(crate) struct Hut {
 pub(crate) type Done = Result<(), Cause>;
 
 impl Hut {
-    pub fn new(number: u8, fault: Option<Fault>) -> Hut {
+    pub fn new(number: u8, rule: Rule, fault: Option<Fault>) -> Hut {
         Hut {
             number,
+            rule,
             outbox: Outbox::default(),
             timers: BTreeMap::new(),
             heard: 0,
@@ -91,10 +95,17 @@ impl Hut {
         }
     }
 
-    /// A packet comes: its messages one by one, in one pass.
-    pub fn packet_came(&mut self, group: &mut Group, bytes: &[u8]) -> Done {
-        let Ok(mut messages) = packet::messages(bytes) else {
-            return Ok(());
+    /// A packet comes: its messages one by one, in one pass. Gives the question that
+    /// refuses it as a whole: what is damaged, or of a group with the other rule (27),
+    /// is dropped.
+    pub fn packet_came(
+        &mut self,
+        group: &mut Group,
+        bytes: &[u8],
+    ) -> Result<Option<Refusal>, Cause> {
+        let mut messages = match self.messages(bytes) {
+            Ok(messages) => messages,
+            Err(refusal) => return Ok(Some(refusal)),
         };
         group.counts.packet(messages.len());
         while let Some(came) = self.take(group, &mut messages)? {
@@ -108,7 +119,17 @@ impl Hut {
                 Ok(None) | Err(_) => {}
             }
         }
-        Ok(())
+        Ok(None)
+    }
+
+    /// The messages of a packet of its group.
+    fn messages<'a>(&self, bytes: &'a [u8]) -> Result<Messages<'a>, Refusal> {
+        let named = bytes.first().copied();
+        let of_packet = Rule::ALL.iter().find(|r| Some(r.number()) == named);
+        match (self.fault, of_packet) {
+            (Some(Fault::Byte), Some(rule)) => packet::messages(*rule, bytes),
+            _ => packet::messages(self.rule, bytes),
+        }
     }
 
     /// A message was of this epoch. A greater one than the laptop's says that it
@@ -157,14 +178,23 @@ impl Hut {
 
     /// The end of a tick: what waits goes on air.
     pub fn packets(&mut self) -> Vec<(Members, Vec<u8>)> {
-        self.outbox.packets()
+        self.outbox.packets(self.rule)
     }
 
     /// Takes the next message of a packet in.
     fn take(&self, group: &mut Group, messages: &mut Messages<'_>) -> Result<Option<Came>, Cause> {
         let is_val = |m: Arriving| matches!(m.envelope().message, Message::Val(_));
         match self.fault {
-            Some(Fault::Epoch) => messages.next().map(|m| self.twist(group, m)).transpose(),
+            Some(Fault::Epoch) => {
+                let epoch = group.laptop(self.number).epoch();
+                let next = messages.next();
+                next.map(|m| self.hand(group, m, epoch)).transpose()
+            }
+            Some(Fault::Tie | Fault::Byte) => {
+                let next = messages.next();
+                next.map(|m| self.hand(group, m, m.envelope().epoch))
+                    .transpose()
+            }
             Some(Fault::Val) => {
                 while messages.clone().next().is_some_and(is_val) {
                     messages.next();
@@ -175,10 +205,10 @@ impl Hut {
         }
     }
 
-    /// Hands a message over as if it were of the laptop's own epoch.
-    fn twist(&self, group: &mut Group, m: Arriving) -> Result<Came, Cause> {
+    /// Hands a message over by itself, as if it were of this epoch. That its packet was
+    /// of the laptop's group, nobody asks then.
+    fn hand(&self, group: &mut Group, m: Arriving, epoch: u32) -> Result<Came, Cause> {
         let came = m.envelope();
-        let epoch = group.laptop(self.number).epoch();
         let handed = Arriving::new(Envelope { epoch, ..came }, m.body());
         let left = group.deliver_as(self.number, came, handed)?;
         Ok(Came {
@@ -262,13 +292,20 @@ mod tests {
 
     /// So many laptops with one record, each with its hut.
     fn huts<const N: usize>() -> (Group, [Hut; N]) {
+        huts_with(Rule::Lower, None)
+    }
+
+    fn huts_with<const N: usize>(rule: Rule, fault: Option<Fault>) -> (Group, [Hut; N]) {
         let settings = Settings {
             laptops: N as u8,
             records: 1,
+            rule,
+            fault,
             ..Settings::default()
         };
         let group = Group::start(&settings).expect("a group");
-        (group, std::array::from_fn(|n| Hut::new(n as u8, None)))
+        let hut = |n| Hut::new(n, settings.spoken_at(n), fault);
+        (group, std::array::from_fn(|n| hut(n as u8)))
     }
 
     /// The ticks from now on at which something leaves.
@@ -430,45 +467,118 @@ mod tests {
         assert_eq!(sent_at(&mut two, group, 60), []);
     }
 
-    /// 1 and 2 save at once, and 2's save overtakes 1's; then 2 is struck off. 1
-    /// gives its own up: 2's leaves with the view, and with 0's acknowledgement it
-    /// stands at both (document 02, Wish 2).
+    /// 1 and 2 save at once, and the save of one, by the rule, overtakes that of the
+    /// other; then it is struck off. The other gives its own up: the later save leaves
+    /// with the view, and with 0's acknowledgement it stands at both (document 02,
+    /// Wish 2).
     #[test]
     fn an_overtaken_save_is_given_up_with_the_view() {
-        let (mut group, [mut zero, mut one, mut two]) = huts();
-        let group = &mut group;
-        saves(&mut one, group, b"Wren");
-        saves(&mut two, group, b"Robin");
-        let [first, second] = [sent(&mut one), sent(&mut two)];
-        one.packet_came(group, &second).expect("agreement");
-        zero.packet_came(group, &first).expect("agreement");
-        for hut in [&mut one, &mut zero] {
-            sent(hut);
-        }
-        let state = |group: &Group| group.record(1, 0).map(|r| r.state);
-        assert_eq!(state(group), Some(State::InvalidWrite));
-        // 2 is in the view still: no replay, and nothing to send again.
-        assert_eq!(sent_at(&mut one, group, 60), []);
-        assert_eq!((group.counts.overtaken, group.counts.given_up), (1, 0));
+        for &rule in Rule::ALL {
+            let (mut group, [mut zero, one, two]) = huts_with(rule, None);
+            let group = &mut group;
+            let (mut loses, mut wins) = match rule {
+                Rule::Higher => (one, two),
+                Rule::Lower => (two, one),
+            };
+            saves(&mut loses, group, b"Wren");
+            saves(&mut wins, group, b"Robin");
+            let [first, second] = [sent(&mut loses), sent(&mut wins)];
+            loses.packet_came(group, &second).expect("agreement");
+            zero.packet_came(group, &first).expect("agreement");
+            for hut in [&mut loses, &mut zero] {
+                sent(hut);
+            }
+            let number = loses.number;
+            let state = |group: &Group| group.record(number, 0).map(|r| r.state);
+            assert_eq!(state(group), Some(State::InvalidWrite));
+            // The winner is in the view still: no replay, and nothing to send again.
+            assert_eq!(sent_at(&mut loses, group, 60), []);
+            assert_eq!((group.counts.overtaken, group.counts.given_up), (1, 0));
 
-        for hut in [&mut zero, &mut one] {
-            hut.view_came(group, 1, Members::from(0b011))
+            let left: Members = [0, number].into_iter().collect();
+            for hut in [&mut zero, &mut loses] {
+                hut.view_came(group, 1, left).expect("agreement");
+            }
+            assert_eq!(state(group), Some(State::Replay));
+            assert_eq!((group.counts.overtaken, group.counts.given_up), (1, 1));
+            // Lost, and sent again.
+            sent(&mut loses);
+            assert_eq!(sent_at(&mut loses, group, 7), []);
+            group.now += 1;
+            loses.tick(group).expect("agreement");
+            zero.packet_came(group, &sent(&mut loses))
                 .expect("agreement");
+            loses
+                .packet_came(group, &sent(&mut zero))
+                .expect("agreement");
+            zero.packet_came(group, &sent(&mut loses))
+                .expect("agreement");
+            for n in [0, number] {
+                assert_eq!(group.laptop(n).read(0), Ok(&b"Robin"[..]));
+            }
+            assert_eq!(validations(group), (0, 0));
         }
-        assert_eq!(state(group), Some(State::Replay));
-        assert_eq!((group.counts.overtaken, group.counts.given_up), (1, 1));
-        // Lost, and sent again.
-        sent(&mut one);
-        assert_eq!(sent_at(&mut one, group, 7), []);
-        group.now += 1;
-        one.tick(group).expect("agreement");
-        zero.packet_came(group, &sent(&mut one)).expect("agreement");
-        one.packet_came(group, &sent(&mut zero)).expect("agreement");
-        zero.packet_came(group, &sent(&mut one)).expect("agreement");
-        for n in [0, 1] {
-            assert_eq!(group.laptop(n).read(0), Ok(&b"Robin"[..]));
+    }
+
+    /// 2 was started with the other rule. It and the others refuse all of each other's
+    /// packets by 27, so for the others it is as good as dead: a save waits for it, and
+    /// is finished once it is struck off.
+    #[test]
+    fn a_laptop_of_the_other_rule_settles_with_nobody() {
+        for &rule in Rule::ALL {
+            let (mut group, [mut zero, mut one, mut two]) = huts_with(rule, Some(Fault::Rule));
+            let group = &mut group;
+            assert_ne!(group.laptop(2).settings(), group.laptop(0).settings());
+            saves(&mut zero, group, b"Wren");
+            let inv = sent(&mut zero);
+            let other = Some(Refusal::OtherRule);
+            assert_eq!(two.packet_came(group, &inv), Ok(other));
+            assert_eq!(one.packet_came(group, &inv), Ok(None));
+            assert_eq!(zero.packet_came(group, &sent(&mut one)), Ok(None));
+            saves(&mut two, group, b"Robin");
+            let inv = sent(&mut two);
+            for hut in [&mut zero, &mut one] {
+                assert_eq!(hut.packet_came(group, &inv), Ok(other));
+                assert!(hut.packets().is_empty());
+            }
+            // Both savers wait, and send their INV again without end.
+            for hut in [&mut zero, &mut two] {
+                assert_eq!(sent_at(hut, group, 130).len(), 5);
+            }
+            let states = |group: &Group| {
+                let states = [0, 1, 2].map(|n| group.record(n, 0).map(|r| r.state));
+                states.map(|state| state.expect("a record"))
+            };
+            assert_eq!(states(group), [State::Write, State::Invalid, State::Write]);
+
+            for hut in [&mut zero, &mut one] {
+                hut.view_came(group, 1, Members::from(0b011))
+                    .expect("agreement");
+            }
+            one.packet_came(group, &sent(&mut zero)).expect("agreement");
+            assert_eq!(states(group), [State::Valid, State::Valid, State::Write]);
+            assert_eq!(group.laptop(1).read(0), Ok(&b"Wren"[..]));
         }
-        assert_eq!(validations(group), (0, 0));
+    }
+
+    /// Software that takes the rule from the packet takes in what is of another group.
+    #[test]
+    fn a_rule_taken_from_the_packet() {
+        let (mut group, [mut zero, mut one]) = huts_with(Rule::Lower, None);
+        saves(&mut zero, &mut group, b"Wren");
+        let inv = sent(&mut zero);
+        for (fault, refused) in [(None, Some(Refusal::OtherRule)), (Some(Fault::Byte), None)] {
+            let (mut group, [_, mut other]) = huts_with(Rule::Higher, fault);
+            assert_eq!(other.packet_came(&mut group, &inv), Ok(refused));
+            assert_eq!(group.laptop(1).shows_valid(0), refused.is_some());
+        }
+        assert_eq!(one.packet_came(&mut group, &inv), Ok(None));
+        // What is no packet of either is refused all the same.
+        let (mut group, [_, mut byte]) = huts_with(Rule::Lower, Some(Fault::Byte));
+        let head = Some(Refusal::PacketHead);
+        for bytes in [&b""[..], b"\x03\x01\x00\x14"] {
+            assert_eq!(byte.packet_came(&mut group, bytes), Ok(head));
+        }
     }
 
     /// How often the hut validated, and how often question 15 said no.

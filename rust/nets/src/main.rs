@@ -49,8 +49,12 @@ fn many(settings: &Settings, seeds: u64) -> io::Result<ExitCode> {
     // refused, and those that a plain write would have done.
     let (mut given_up, mut mornings) = (0, 0);
     let (mut refused, mut unseen) = (0, 0);
-    // Saves whose bird was entered again: replaced, of these crossed, laptop gone.
-    let mut again = [0; 3];
+    // Saves whose bird was entered again: replaced, of these crossed, laptop gone. Of the
+    // replaced those at the lower half of the numbers.
+    let (mut again, mut lower) = ([0; 3], 0);
+    // Ties; saves that lost one, of these at the lower half of the numbers, and of that
+    // half by the other rule. Packets of the other station.
+    let (mut ties, mut lost, mut packets) = (0, [0; 3], 0);
     for n in 0..seeds {
         let seed = settings.seed.wrapping_add(n);
         let settings = Settings {
@@ -66,6 +70,12 @@ fn many(settings: &Settings, seeds: u64) -> io::Result<ExitCode> {
                 for (all, n) in again.iter_mut().zip(report.entered_again()) {
                     *all += n;
                 }
+                lower += report.replaced_in_charge();
+                ties += report.ties()[0];
+                for (all, n) in lost.iter_mut().zip(report.lost_ties()) {
+                    *all += n;
+                }
+                packets += report.other_station()[0];
                 say(&format!("{}\n", report.line()))?;
             }
             Err(failure) => return failed(&failure),
@@ -73,8 +83,9 @@ fn many(settings: &Settings, seeds: u64) -> io::Result<ExitCode> {
     }
     let seconds = begun.elapsed().as_secs_f64();
     let [replaced, crossed, gone] = again;
+    let (rule, [lost, in_charge, otherwise]) = (settings.rule, lost);
     say(&format!(
-        "{seeds} mornings, agreement held throughout, every record settled, every bird in the records; saves given up: {given_up}, in {mornings} mornings; commits refused by 26: {refused}, {unseen} of them over an unseen text; entered again: {replaced} replaced, {crossed} of them finished before, and {gone} of laptops gone; {seconds:.2} s\n"
+        "{seeds} mornings, agreement held throughout, every record settled, every bird in the records; ties: {ties}, all to the {rule} number; saves that lost one: {lost}, {in_charge} of them at the lower half of the numbers, and {otherwise} by the other rule; packets of the other station: {packets}, all refused by 27; saves given up: {given_up}, in {mornings} mornings; commits refused by 26: {refused}, {unseen} of them over an unseen text; entered again: {replaced} replaced, {lower} of them at the lower half and {crossed} finished before, and {gone} of laptops gone; {seconds:.2} s\n"
     ))?;
     Ok(ExitCode::SUCCESS)
 }

@@ -1,13 +1,17 @@
 //! One morning, tick by tick.
 
-use cetskobi::{Laptop, Members};
+use std::collections::BTreeMap;
+
+use cetskobi::{Laptop, Members, Refusal};
 
 use crate::air::Air;
 use crate::chain::{self, Told};
 use crate::failure::{Cause, Failure};
 use crate::group::Group;
 use crate::hut::{Done, Hut, WAIT_VAL};
+use crate::layout::grouped;
 use crate::link::Link;
+use crate::neighbours::Neighbours;
 use crate::plan::Plan;
 use crate::report::Report;
 use crate::ringer::Ringers;
@@ -49,6 +53,28 @@ struct End {
     told: Told,
 }
 
+/// Packets of the group's own laptops that were refused as a whole: by the sender and
+/// the number of the question how many, and at which laptops.
+#[derive(Clone, Debug, Default, PartialEq, Eq)]
+struct Packets(BTreeMap<(u8, u8), (u64, Members)>);
+
+impl Packets {
+    fn refused(&mut self, from: u8, to: u8, refusal: Refusal) {
+        let (count, at) = self.0.entry((from, refusal.number())).or_default();
+        *count += 1;
+        *at = at.into_iter().chain([to]).collect();
+    }
+
+    /// As lines.
+    fn told(&self) -> Vec<String> {
+        let line = |((from, number), (count, at)): (&(u8, u8), &(u64, Members))| {
+            let count = grouped(*count);
+            format!("laptop {from}: {count} refused by {number}, at {at}")
+        };
+        self.0.iter().map(line).collect()
+    }
+}
+
 struct Morning {
     settings: Settings,
     plan: Plan,
@@ -56,7 +82,9 @@ struct Morning {
     huts: Vec<Hut>,
     link: Link,
     air: Air,
+    neighbours: Neighbours,
     ringers: Ringers,
+    refused: Packets,
     /// Copies that reached a dead laptop.
     to_the_dead: u64,
     /// What was open when all had heard of the last view.
@@ -66,13 +94,15 @@ struct Morning {
 impl Morning {
     fn new(settings: &Settings) -> Morning {
         let plan = Plan::new(settings);
-        let hut = |n| Hut::new(n, settings.fault);
+        let hut = |n| Hut::new(n, settings.spoken_at(n), settings.fault);
         Morning {
             settings: settings.clone(),
             group: Group::start(settings).expect("settings that were checked start a group"),
             huts: (0..settings.laptops).map(hut).collect(),
             link: Link::new(settings),
             air: Air::new(settings.laptops, settings.ticks),
+            neighbours: Neighbours::start(settings).expect("a group of the same size"),
+            refused: Packets::default(),
             ringers: Ringers::new(&plan.birds, settings.rng(Part::Texts)),
             plan,
             to_the_dead: 0,
@@ -87,6 +117,7 @@ impl Morning {
         self.views()?;
         self.serve();
         self.arrivals()?;
+        self.other_station()?;
         self.ringers()?;
         if self.group.now == self.settings.ticks {
             self.link.heal();
@@ -106,6 +137,8 @@ impl Morning {
         for issue in issues.filter(|i| i.tick == now && awake.contains(i.laptop)) {
             let hut = &mut self.huts[usize::from(issue.laptop)];
             hut.view_came(&mut self.group, issue.epoch, issue.view)?;
+            self.neighbours
+                .view_came(issue.laptop, issue.epoch, issue.view);
         }
         Ok(())
     }
@@ -117,7 +150,24 @@ impl Morning {
                 self.to_the_dead += 1;
                 continue;
             }
-            self.huts[usize::from(heard.to)].packet_came(&mut self.group, &heard.bytes)?;
+            let hut = &mut self.huts[usize::from(heard.to)];
+            if let Some(refusal) = hut.packet_came(&mut self.group, &heard.bytes)? {
+                self.refused.refused(heard.from, heard.to, refusal);
+            }
+        }
+        Ok(())
+    }
+
+    /// Packets of the other station, which a hut takes for packets as any.
+    fn other_station(&mut self) -> Done {
+        let now = self.group.now;
+        for packet in self.neighbours.on_air(now, self.plan.awake(now)) {
+            let (to, bytes) = (packet.to, &packet.bytes);
+            let before = self.group.laptop(to).clone();
+            let whole = self.huts[usize::from(to)].packet_came(&mut self.group, bytes)?;
+            let refused = [whole, self.group.deliver_fetched(to, bytes)];
+            let since = self.group.laptop(to);
+            self.neighbours.came(&packet, refused, before, since)?;
         }
         Ok(())
     }
@@ -190,12 +240,22 @@ impl Morning {
             return Err(Cause::Unsaved { record });
         }
         let told = chain::look(&self.group, &self.ringers.slips(), members[0])?;
+        if let Some(((laptop, number), _)) = self.refused.0.first_key_value() {
+            return Err(Cause::Refused {
+                record: self.group.last_changed,
+                laptop: *laptop,
+                number: *number,
+            });
+        }
         Ok(Some(End { settled, told }))
     }
 
     fn report(self, end: End) -> Report {
+        let (ties, lower) = (self.group.saves.ties(), self.group.lower_half());
         Report {
             settings: self.settings,
+            ties: self.group.ties.report(ties, lower),
+            neighbours: self.neighbours.heard,
             plan: self.plan,
             times: self.group.times.report(self.group.now),
             visits: self.ringers.counts,
@@ -220,6 +280,7 @@ impl Morning {
             tick: self.group.now,
             holdings: self.group.holdings(cause.record()),
             events: self.group.history.of(cause.record()),
+            refused: self.refused.told(),
             cause,
         }
     }
@@ -237,5 +298,34 @@ mod tests {
         morning.group.last_change = 99_999;
         morning.group.last_changed = 7;
         assert_eq!(morning.end(), Err(Cause::Restless { record: 7 }));
+    }
+
+    /// A morning without birds that is over. A packet of its own that was refused is a
+    /// failure, though all else is well.
+    #[test]
+    fn a_refused_packet_is_a_failure() {
+        let mut morning = Morning::new(&Settings {
+            laptops: 3,
+            rings: 0,
+            recaptures: 0,
+            deaths: 0,
+            late: 0,
+            ..Settings::default()
+        });
+        morning.group.now = 10_000;
+        assert!(morning.end().is_ok_and(|end| end.is_some()));
+        morning.refused.refused(2, 1, Refusal::OtherRule);
+        morning.refused.refused(2, 0, Refusal::OtherRule);
+        let refused = Cause::Refused {
+            record: 0,
+            laptop: 2,
+            number: 27,
+        };
+        assert_eq!(morning.end(), Err(refused));
+        let said = morning.failure(refused).to_string();
+        assert!(
+            said.contains("\n  laptop 2: 2 refused by 27, at {0,1}\n"),
+            "{said}"
+        );
     }
 }

@@ -4,7 +4,7 @@
 use std::collections::BTreeMap;
 use std::fmt;
 
-use cetskobi::{Laptop, Opened, Record, Timestamp};
+use cetskobi::{Laptop, Opened, Record, Rule, Timestamp};
 
 /// A promise that one laptop did not keep.
 #[derive(Clone, Copy, Debug, PartialEq, Eq)]
@@ -90,15 +90,24 @@ struct Place {
 }
 
 /// What the checks remember of all laptops.
-#[derive(Default)]
 pub(crate) struct Openings {
+    /// By which one timestamp is later than another.
+    rule: Rule,
     places: BTreeMap<(u8, usize), Place>,
 }
 
 impl Openings {
+    pub fn new(rule: Rule) -> Openings {
+        Openings {
+            rule,
+            places: BTreeMap::new(),
+        }
+    }
+
     /// After an event on the record: what a read and an ask hand out now, and whether
     /// it stands as it was opened.
     pub fn check(&mut self, laptop: &Laptop, record: usize) -> Result<(), Unkept> {
+        let rule = self.rule;
         let place = self.place(laptop.number(), record);
         place.look(laptop, record);
         let stands = |opened: &Opened| {
@@ -108,7 +117,7 @@ impl Openings {
         match (laptop.ask(record), laptop.read(record)) {
             (Err(ask), Err(read)) if ask == read => Ok(()),
             (Ok(opened), Ok(text)) if opened.text() == text && stands(&opened) => {
-                place.hands_out(laptop.number(), &opened)
+                place.hands_out(laptop.number(), &opened, rule)
             }
             _ => Err(Unkept::Misread {
                 record,
@@ -127,8 +136,9 @@ impl Openings {
 
     /// An ask was accepted, and this is what it handed out.
     pub fn opened(&mut self, laptop: &Laptop, opened: &Opened) -> Result<(), Unkept> {
+        let rule = self.rule;
         let place = self.place(laptop.number(), opened.record());
-        place.hands_out(laptop.number(), opened)?;
+        place.hands_out(laptop.number(), opened, rule)?;
         let again = |(before, kept): &(Stamped, bool)| *kept && before.0 == opened.timestamp();
         if !place.opened.as_ref().is_some_and(again) {
             let stands = held(laptop, opened.record());
@@ -177,11 +187,11 @@ impl Place {
     }
 
     /// A read or an ask hands this out.
-    fn hands_out(&mut self, laptop: u8, opened: &Opened) -> Result<(), Unkept> {
+    fn hands_out(&mut self, laptop: u8, opened: &Opened, rule: Rule) -> Result<(), Unkept> {
         let now = opened.timestamp();
         match &self.shown {
             Some((before, text)) if *before == now && text == opened.text() => {}
-            Some((before, _)) if *before >= now => {
+            Some((before, _)) if !now.later(*before, rule) => {
                 return Err(Unkept::WentBack {
                     record: opened.record(),
                     laptop,
@@ -226,6 +236,7 @@ mod tests {
         store[0] = byte;
         let me = Replica {
             number: 0,
+            settings: Rule::Lower.into(),
             view: 0b11,
             epoch: 0,
         };
@@ -246,7 +257,7 @@ mod tests {
 
     #[test]
     fn what_is_handed_out_never_goes_back() {
-        let mut openings = Openings::default();
+        let mut openings = Openings::new(Rule::Lower);
         for _ in 0..2 {
             assert_eq!(openings.check(&valid(OLD, 7), 0), Ok(()));
         }
@@ -257,17 +268,31 @@ mod tests {
         assert_eq!(openings.check(&valid(NEW, 8), 0), Ok(()));
         assert_eq!(openings.check(&valid(OLD, 7), 0), went_back(NEW));
         assert_eq!(openings.check_all(&valid(OLD, 7)), went_back(NEW));
-        let lower = valid(Timestamp { tie: 0, ..NEW }, 8);
-        let asked = lower.ask(0).expect("valid");
-        assert_eq!(openings.opened(&lower, &asked), went_back(NEW));
         // Of another record or laptop nothing is known.
-        assert_eq!(Openings::default().check(&valid(OLD, 7), 0), Ok(()));
+        let mut others = Openings::new(Rule::Lower);
+        assert_eq!(others.check(&valid(OLD, 7), 0), Ok(()));
+    }
+
+    /// Of two with one version the rule says which is the later one.
+    #[test]
+    fn ties_go_by_the_rule() {
+        for (rule, earlier, later) in [(Rule::Higher, 0, 2), (Rule::Lower, 2, 0)] {
+            let mut openings = Openings::new(rule);
+            assert_eq!(openings.check(&valid(NEW, 8), 0), Ok(()));
+            let mut opened = |tie| {
+                let laptop = valid(Timestamp { tie, ..NEW }, 8);
+                let asked = laptop.ask(0).expect("valid");
+                openings.opened(&laptop, &asked)
+            };
+            assert_eq!(opened(earlier), went_back(NEW), "{rule}");
+            assert_eq!(opened(later), Ok(()), "{rule}");
+        }
     }
 
     /// The record is opened with OLD and 7; then it is as each of these is, one after
     /// the other, and a commit on that timestamp is accepted.
     fn committed(then: &[Laptop], brought: Timestamp) -> Result<(), Unkept> {
-        let mut openings = Openings::default();
+        let mut openings = Openings::new(Rule::Lower);
         let first = valid(OLD, 7);
         let opened = first.ask(0).expect("valid");
         openings.opened(&first, &opened)?;
@@ -298,7 +323,7 @@ mod tests {
 
     #[test]
     fn an_opening_is_committed_once() {
-        let mut openings = Openings::default();
+        let mut openings = Openings::new(Rule::Lower);
         let first = valid(OLD, 7);
         let opened = first.ask(0).expect("valid");
         // Two ringers of one laptop open it.
@@ -313,7 +338,7 @@ mod tests {
     #[test]
     fn an_ask_hands_out_what_stands_there() {
         let (right, wrong) = (valid(OLD, 7), valid(OLD, 8));
-        let mut openings = Openings::default();
+        let mut openings = Openings::new(Rule::Lower);
         let opened = wrong.ask(0).expect("valid");
         assert_eq!(openings.opened(&right, &opened), Ok(()));
         assert!(openings.committed(0, 0, OLD).is_err());

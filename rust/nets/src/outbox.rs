@@ -2,7 +2,7 @@
 
 use std::collections::BTreeMap;
 
-use cetskobi::{packet, Leaving, Members};
+use cetskobi::{packet, Leaving, Members, Rule};
 
 /// What left an event, kept.
 type Parcel = Leaving<'static>;
@@ -23,14 +23,18 @@ impl Outbox {
         }
     }
 
-    /// All of it as packets: as many messages in each as fit.
-    pub fn packets(&mut self) -> Vec<(Members, Vec<u8>)> {
+    /// All of it as packets of a group with this rule of ties: as many messages in each
+    /// as fit.
+    pub fn packets(&mut self, rule: Rule) -> Vec<(Members, Vec<u8>)> {
         let waiting = std::mem::take(&mut self.waiting);
         let sets = waiting
             .into_iter()
             .map(|(to, parcels)| (Members::from(to), parcels));
         sets.flat_map(|(to, parcels)| {
-            let packets: Vec<Vec<u8>> = loads(&parcels).into_iter().map(packed).collect();
+            let packets: Vec<Vec<u8>> = loads(&parcels)
+                .into_iter()
+                .map(|load| packed(rule, load))
+                .collect();
             packets.into_iter().map(move |p| (to, p))
         })
         .collect()
@@ -54,9 +58,9 @@ fn loads(parcels: &[Parcel]) -> Vec<&[Parcel]> {
     loads
 }
 
-fn packed(load: &[Parcel]) -> Vec<u8> {
+fn packed(rule: Rule, load: &[Parcel]) -> Vec<u8> {
     let mut bytes = vec![0; packet::PACKET_MAX];
-    let len = packet::pack(load, &mut bytes).expect("a load fits into a packet");
+    let len = packet::pack(rule, load, &mut bytes).expect("a load fits into a packet");
     bytes.truncate(len);
     bytes
 }
@@ -67,21 +71,22 @@ mod tests {
     use cetskobi::Laptop;
 
     /// The records of the messages in each packet.
-    fn sent(count: usize, len: usize) -> Vec<Vec<usize>> {
-        let mut laptop = Laptop::start(0, 0b111, 200).expect("a laptop");
+    fn sent(rule: Rule, count: usize, len: usize) -> Vec<Vec<usize>> {
+        let mut laptop = Laptop::start(0, 0b111, rule, 200).expect("a laptop");
         let mut outbox = Outbox::default();
         for i in 0..count {
             let inv = laptop.write(i, &vec![b'x'; len]).expect("a save");
             outbox.put(inv.into_owned());
             outbox.put(laptop.resend(i).expect("the same").into_owned());
         }
-        let packets = outbox.packets();
-        assert!(outbox.packets().is_empty());
+        let packets = outbox.packets(rule);
+        assert!(outbox.packets(rule).is_empty());
         packets
             .iter()
             .map(|(to, bytes)| {
                 assert_eq!(to.bits(), 0b110);
-                let messages = packet::messages(bytes).expect("a packet");
+                assert_eq!(bytes[0], rule.number());
+                let messages = packet::messages(rule, bytes).expect("a packet");
                 messages.map(|m| m.envelope().record).collect()
             })
             .collect()
@@ -89,12 +94,14 @@ mod tests {
 
     #[test]
     fn as_many_messages_as_fit_share_a_packet() {
-        assert_eq!(sent(0, 0), Vec::<Vec<usize>>::new());
-        assert_eq!(sent(1, 192), [vec![0]]);
         let sizes = |packets: Vec<Vec<usize>>| packets.iter().map(Vec::len).collect::<Vec<usize>>();
-        assert_eq!(sizes(sent(130, 0)), [64, 64, 2]);
-        assert_eq!(sizes(sent(13, 192)), [6, 6, 1]);
-        let all: Vec<usize> = sent(200, 31).concat();
-        assert_eq!(all, (0..200).collect::<Vec<usize>>());
+        for &rule in Rule::ALL {
+            assert_eq!(sent(rule, 0, 0), Vec::<Vec<usize>>::new());
+            assert_eq!(sent(rule, 1, 192), [vec![0]]);
+            assert_eq!(sizes(sent(rule, 130, 0)), [64, 64, 2]);
+            assert_eq!(sizes(sent(rule, 13, 192)), [6, 6, 1]);
+            let all: Vec<usize> = sent(rule, 200, 31).concat();
+            assert_eq!(all, (0..200).collect::<Vec<usize>>());
+        }
     }
 }

@@ -1,7 +1,7 @@
 //! What the morning brings: birds, deaths and views, all known beforehand to
 //! the simulation and to nobody in it.
 
-use cetskobi::Members;
+use cetskobi::{Members, Rule};
 use model::rng::Rng;
 
 use crate::settings::{Part, Settings};
@@ -153,7 +153,8 @@ fn recaptures(settings: &Settings, rng: &mut Rng, birds: &mut Vec<Bird>) -> Vec<
     pairs
 }
 
-/// Laptops die at the worst moment: while they and another hut save one bird.
+/// Laptops die at the worst moment: while they and another hut save one bird, and
+/// theirs is the save that wins.
 fn deaths(settings: &Settings, rng: &mut Rng, pairs: &[(Bird, Bird)]) -> Vec<Death> {
     let mut deaths: Vec<Death> = Vec::new();
     while deaths.len() < usize::from(settings.deaths) {
@@ -161,7 +162,11 @@ fn deaths(settings: &Settings, rng: &mut Rng, pairs: &[(Bird, Bird)]) -> Vec<Dea
         let third = settings.ticks / 3;
         let (laptop, saves) = match pair {
             Some((a, b)) if (third..=2 * third).contains(&a.tick) => {
-                (a.laptop.max(b.laptop), a.tick + MEASURING)
+                let wins = match settings.rule {
+                    Rule::Higher => a.laptop.max(b.laptop),
+                    Rule::Lower => a.laptop.min(b.laptop),
+                };
+                (wins, a.tick + MEASURING)
             }
             Some(_) if rng.chance(9, 10) => continue,
             _ => (laptop(rng, settings), third + below(rng, third)),

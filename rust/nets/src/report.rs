@@ -2,7 +2,7 @@
 
 use std::fmt;
 
-use cetskobi::Refusal;
+use cetskobi::{Refusal, Rule};
 
 use crate::air::Air;
 use crate::chain::Told;
@@ -12,11 +12,13 @@ use crate::group::EventCounts;
 use crate::history::Kind;
 use crate::layout::{grouped, line, line_of, seconds};
 use crate::link::LinkCounts;
+use crate::neighbours::Heard;
 use crate::plan::{Death, Plan};
 use crate::ringer::Visits;
 use crate::settings::Settings;
 use crate::settled::Settled;
 use crate::spread::Spread;
+use crate::ties::TiesReport;
 use crate::times::TimesReport;
 use crate::unsettled::Unsettled;
 use crate::Tick;
@@ -30,6 +32,8 @@ pub struct Report {
     pub(crate) visits: Visits,
     pub(crate) air: Air,
     pub(crate) events: EventCounts,
+    pub(crate) ties: TiesReport,
+    pub(crate) neighbours: Heard,
     pub(crate) link: LinkCounts,
     pub(crate) to_the_dead: u64,
     pub(crate) checks: u64,
@@ -123,6 +127,32 @@ impl Report {
         [visits.replaced, visits.crossed, visits.taken]
     }
 
+    /// How often one ring was saved at once, with one version, by two laptops or more;
+    /// how often a laptop that had one of these saves heard of another, so that the
+    /// group's rule decided which of the two stands there.
+    pub fn ties(&self) -> [u64; 2] {
+        [self.ties.all as u64, self.ties.met]
+    }
+
+    /// Saves that lost a tie; how many of these were of the lower half of the numbers;
+    /// and how many of that half had lost by the other rule.
+    pub fn lost_ties(&self) -> [usize; 3] {
+        let ties = &self.ties;
+        [ties.lost, ties.in_charge, ties.otherwise]
+    }
+
+    /// Of the replaced saves whose bird was entered again those of the lower half of the
+    /// numbers.
+    pub fn replaced_in_charge(&self) -> u64 {
+        self.visits.in_charge
+    }
+
+    /// Packets of the other station that a hut heard, all of them refused by 27; and how
+    /// many of these would have changed a record, had they been of this group.
+    pub fn other_station(&self) -> [u64; 2] {
+        [self.neighbours.packets, self.neighbours.otherwise]
+    }
+
     /// Saves of laptops that died or were struck off, of which none that stayed had
     /// heard.
     pub fn lost(&self) -> usize {
@@ -213,12 +243,13 @@ impl Report {
     /// The whole in one line.
     pub fn line(&self) -> String {
         format!(
-            "seed {}: agreed after {} events; {} messages in {} packets of {} bytes; {} given up; {} refused by 26; {} entered again; {} ticks",
+            "seed {}: agreed after {} events; {} messages in {} packets of {} bytes; {} ties; {} given up; {} refused by 26; {} entered again; {} ticks",
             self.settings.seed,
             grouped(self.events()),
             grouped(self.messages()),
             grouped(self.link.packets),
             grouped(self.link.bytes),
+            self.ties.all,
             self.given_up(),
             self.visits.refused,
             self.visits.replaced + self.visits.taken,
@@ -231,9 +262,10 @@ impl Report {
         writeln!(f, "A morning at the nets, seed {}", s.seed)?;
         writeln!(
             f,
-            "  {} laptops of {} records; the link loses {} of 100 packets and repeats {}",
+            "  {} laptops of {} records, ties to the {} number; the link loses {} of 100 packets and repeats {}",
             s.laptops,
             grouped(s.records as u64),
+            s.rule,
             s.loss,
             s.repeat
         )?;
@@ -305,6 +337,7 @@ impl Report {
             self.given_up(),
             "by a replay of the later one, whose laptop was struck off",
         )?;
+        self.ties_met(f)?;
         self.commits_made(f)?;
         self.birds(f)?;
         let (views, longest) = self.views_missed();
@@ -314,6 +347,12 @@ impl Report {
         };
         let remark = format!("heard of by a message's epoch {lead}before the warden's word");
         line(f, "views missed", views as u64, &remark)?;
+        let [packets, otherwise] = self.other_station();
+        let remark =
+            "packets heard of a group with the other rule: all refused by 27, nothing changed";
+        line(f, "other station", packets, remark)?;
+        let remark = "of them would have changed a record here, but for their byte 0";
+        line(f, "  otherwise", otherwise, remark)?;
         self.open(f)?;
         line(
             f,
@@ -331,6 +370,39 @@ impl Report {
 }
 
 impl Report {
+    /// Saves at once, and to whom they went.
+    fn ties_met(&self, f: &mut fmt::Formatter<'_>) -> fmt::Result {
+        let ties = &self.ties;
+        let rule = self.settings.rule;
+        let met = match ties.decided == ties.all {
+            true => String::new(),
+            false => format!("{} met, and ", grouped(ties.decided as u64)),
+        };
+        let remark = format!(
+            "times a ring was saved at once, with one version: {met}all to the {rule} number"
+        );
+        line(f, "ties", ties.all as u64, &remark)?;
+        let remark = "times a laptop that had one of the saves heard of another";
+        line(f, "  met", ties.met, remark)?;
+        let lower = self.lower_half();
+        let [was, other] = [ties.in_charge, ties.otherwise].map(|n| grouped(n as u64));
+        let by = match rule {
+            Rule::Higher => "new",
+            Rule::Lower => "old",
+        };
+        let remark =
+            format!("saves; {was} of ringers in charge ({lower}), by the {by} rule {other}");
+        line(f, "  lost", ties.lost as u64, &remark)
+    }
+
+    /// The numbers of the ringers in charge.
+    fn lower_half(&self) -> String {
+        match self.settings.laptops / 2 {
+            1 => "laptop 0".to_owned(),
+            n => format!("laptops 0 to {}", n - 1),
+        }
+    }
+
     /// What ringers committed, and what was refused.
     fn commits_made(&self, f: &mut fmt::Formatter<'_>) -> fmt::Result {
         let [commits, refused, mended] = self.commits();
@@ -359,8 +431,11 @@ impl Report {
         let birds = grouped(visits.birds);
         let remark = format!("from the slip, as no text told of them: {birds} birds");
         line(f, "  entered again", again, &remark)?;
-        let remark = "by a save of another laptop that had not heard of them";
-        line(f, "    replaced", replaced, remark)?;
+        let (lower, of_lower) = (self.lower_half(), grouped(self.replaced_in_charge()));
+        let remark = format!(
+            "by a save of another laptop that had not heard of them; {of_lower} at {lower}"
+        );
+        line(f, "    replaced", replaced, &remark)?;
         let remark = "of the replaced were finished before";
         line(f, "    crossed", crossed, remark)?;
         let remark = "their laptop died or was struck off: entered at another";

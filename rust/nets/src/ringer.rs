@@ -34,6 +34,8 @@ pub(crate) struct Visits {
     pub replaced: u64,
     pub crossed: u64,
     pub birds: u64,
+    /// Of the replaced ones, those at the lower half of the numbers.
+    pub in_charge: u64,
     /// Saves at a laptop that died or was struck off, whose bird was entered again at
     /// another.
     pub taken: u64,

@@ -1,6 +1,6 @@
 //! What a morning is like.
 
-use cetskobi::Record;
+use cetskobi::{Record, Rule};
 use model::rng::Rng;
 
 use crate::fault::Fault;
@@ -15,6 +15,9 @@ pub struct Settings {
     pub laptops: u8,
     /// Records of each laptop.
     pub records: usize,
+    /// The group's rule of ties, with which all of its laptops start (document 02,
+    /// Wish 6).
+    pub rule: Rule,
     /// Birds ringed: saves to records that were empty.
     pub rings: usize,
     /// Birds met again: saves over a record that was opened.
@@ -36,6 +39,9 @@ pub struct Settings {
     pub repeat: u8,
     /// The most ticks that a packet usually takes; a few take far longer.
     pub delay: Tick,
+    /// Of 100 ticks those in which the other station saves, while birds come: a group
+    /// on the same channel, with the other rule of ties.
+    pub neighbours: u8,
     /// What is deliberately broken, to see the checks at work.
     pub fault: Option<Fault>,
 }
@@ -43,9 +49,11 @@ pub struct Settings {
 impl Default for Settings {
     fn default() -> Settings {
         Settings {
-            seed: 111,
+            seed: 560,
             laptops: 11,
             records: Record::COUNT_MAX,
+            // The season's groups are formed under the new one.
+            rule: Rule::Lower,
             rings: 600,
             recaptures: 40,
             deaths: 1,
@@ -56,6 +64,7 @@ impl Default for Settings {
             loss: 30,
             repeat: 10,
             delay: 6,
+            neighbours: 1,
             fault: None,
         }
     }
@@ -68,6 +77,7 @@ pub(crate) enum Part {
     Link,
     Texts,
     Hands,
+    Neighbours,
 }
 
 impl Settings {
@@ -142,7 +152,38 @@ impl Settings {
         ask(
             (1..=1000).contains(&self.delay),
             "a packet takes 1 to 1000 ticks",
+        )?;
+        ask(
+            self.neighbours <= 100,
+            "the other station saves in at most 100 of 100 ticks",
         )
+    }
+
+    /// The rule that this laptop is started with: the group's, unless the last one is
+    /// to be started with the other.
+    pub(crate) fn started_with(&self, laptop: u8) -> Rule {
+        let odd = matches!(self.fault, Some(Fault::Rule | Fault::Tie));
+        match odd && laptop + 1 == self.laptops {
+            true => other(self.rule),
+            false => self.rule,
+        }
+    }
+
+    /// The rule by which its hut reads and writes packets: its laptop's, unless that
+    /// is to be hidden.
+    pub(crate) fn spoken_at(&self, laptop: u8) -> Rule {
+        match self.fault {
+            Some(Fault::Tie) => self.rule,
+            _ => self.started_with(laptop),
+        }
+    }
+}
+
+/// The other one of the two rules.
+pub(crate) const fn other(rule: Rule) -> Rule {
+    match rule {
+        Rule::Higher => Rule::Lower,
+        Rule::Lower => Rule::Higher,
     }
 }
 

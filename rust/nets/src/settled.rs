@@ -1,10 +1,11 @@
 //! What is left when the link has healed.
 
-use cetskobi::{Laptop, State, Timestamp};
+use cetskobi::{Laptop, State};
 
-use crate::chain::{text_of, Save};
+use crate::chain::text_of;
 use crate::failure::Cause;
 use crate::group::Group;
+use crate::saves::Save;
 
 /// The records as the laptops of the newest view hold them.
 #[derive(Clone, Copy, Debug, Default, PartialEq, Eq)]
@@ -43,18 +44,18 @@ pub(crate) fn same_text(group: &Group, members: &[&Laptop], i: usize) -> Result<
 }
 
 fn lost(group: &Group, members: &[&Laptop]) -> usize {
-    let lost = |((_, saved), save): &(&(usize, Timestamp), &Save)| {
-        let knows = |l: &&Laptop| l.number() == saved.tie || save.heard.contains(l.number());
+    let lost = |(laptop, save): &(u8, &Save)| {
+        let knows = |l: &&Laptop| l.number() == *laptop || save.heard.contains(l.number());
         !members.iter().any(knows)
     };
-    group.saves.iter().filter(lost).count()
+    group.saves.by_laptop().filter(lost).count()
 }
 
 #[cfg(test)]
 mod tests {
     use super::*;
     use crate::settings::Settings;
-    use cetskobi::{Leaving, Members, Record, Replica};
+    use cetskobi::{Leaving, Members, Record, Replica, Rule, Timestamp};
 
     const SAVED: Timestamp = Timestamp { version: 1, tie: 0 };
 
@@ -135,6 +136,7 @@ mod tests {
             };
             let me = Replica {
                 number,
+                settings: Rule::Lower.into(),
                 view: 0b111,
                 epoch: 1,
             };
@@ -150,8 +152,8 @@ mod tests {
         };
         let mut group = Group::start(&settings).expect("a group of three");
         for tie in [0, 1, 2, 5] {
-            let saved = (0, Timestamp { version: 1, tie });
-            group.saves.insert(saved, save(b""));
+            let saved = Timestamp { version: 1, tie };
+            group.saves.insert(0, saved, save(b""));
         }
         look(&group, &members).map(|s| s.settled)
     }
@@ -221,7 +223,7 @@ mod tests {
     #[test]
     fn another_text_than_was_saved_is_noticed() {
         let mut group = finished();
-        group.saves.insert((0, SAVED), save(b"Robin"));
+        group.saves.insert(0, SAVED, save(b"Robin"));
         assert_eq!(looked(&group), Err(OTHER_TEXT));
     }
 
@@ -229,15 +231,15 @@ mod tests {
     fn a_save_that_nobody_heard_is_lost() {
         let mut group = finished();
         let later = Timestamp { version: 2, tie: 3 };
-        group.saves.insert((0, later), save(b"Robin"));
+        group.saves.insert(0, later, save(b"Robin"));
         assert_eq!(looked(&group).map(|s| s.lost), Ok(1));
         // That its bird was saved again since does not bring it back.
         let lesser = Timestamp { version: 1, tie: 3 };
-        group.saves.insert((0, lesser), save(b"Robin"));
+        group.saves.insert(0, lesser, save(b"Robin"));
         assert_eq!(looked(&group).map(|s| s.lost), Ok(2));
         // Whoever is gone as well has not kept it.
         for (laptop, lost) in [(4, 2), (1, 1)] {
-            let save = group.saves.get_mut(&(0, later)).expect("saved");
+            let save = group.saves.get_mut(0, later).expect("saved");
             save.heard(laptop);
             assert_eq!(looked(&group).map(|s| s.lost), Ok(lost));
         }

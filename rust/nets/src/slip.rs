@@ -57,7 +57,7 @@ impl Slip {
 #[cfg(test)]
 mod tests {
     use super::*;
-    use cetskobi::{Laptop, Members, Record, Replica, State};
+    use cetskobi::{Laptop, Members, Record, Replica, Rule, State};
 
     const fn name(number: usize, laptop: u8) -> Name {
         Name { number, laptop }
@@ -81,6 +81,7 @@ mod tests {
         };
         let me = Replica {
             number: 0,
+            settings: Rule::Lower.into(),
             view: 0b11,
             epoch: 0,
         };

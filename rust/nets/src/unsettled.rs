@@ -3,7 +3,7 @@
 //! morning goes on as if nobody had looked.
 
 use cetskobi::{Laptop, Members};
-use settle::{by_packet, follow, held, most, recipe};
+use settle::{by_packet, follow, held, latest, most, recipe};
 
 use crate::failure::Cause;
 use crate::group::Group;
@@ -45,8 +45,8 @@ pub(crate) fn look(group: &Group, view: Members) -> Result<Unsettled, Cause> {
 /// How many events settle a record. None if they do not, or are too many.
 fn settle_one(group: &Group, copies: &mut [Laptop], i: usize) -> Option<usize> {
     let held = held(copies, i);
-    let latest = held.iter().map(|(_, r)| r.timestamp).max()?;
-    let steps = recipe(&held)?;
+    let latest = latest(group.rule(), &held)?;
+    let steps = recipe(group.rule(), &held)?;
     follow(&steps, copies, i, by_packet).ok()?;
     let members: Vec<&Laptop> = copies.iter().collect();
     same_text(group, &members, i).ok()?;
@@ -58,7 +58,7 @@ fn settle_one(group: &Group, copies: &mut [Laptop], i: usize) -> Option<usize> {
 mod tests {
     use super::*;
     use crate::settings::Settings;
-    use cetskobi::Leaving;
+    use cetskobi::{Leaving, Timestamp};
 
     /// Three laptops with two records. 0 has saved the first, 1 has its INV, and all
     /// else is lost.
@@ -124,8 +124,9 @@ mod tests {
     #[test]
     fn another_text_than_was_saved_is_noticed() {
         let mut group = saved();
-        let saves = group.saves.values_mut();
-        saves.for_each(|save| save.text = b"Robin".to_vec());
+        let saved = Timestamp { version: 1, tie: 0 };
+        let save = group.saves.get_mut(0, saved).expect("saved");
+        save.text = b"Robin".to_vec();
         let all = Members::from(0b111);
         assert_eq!(look(&group, all), Err(Cause::NoWay { record: 0 }));
     }

@@ -178,12 +178,13 @@ impl Visit {
 
     /// The bird was entered again, as the save before is in no text that she found.
     fn again(&self, group: &Group, before: Timestamp, counts: &mut Visits) {
-        let finished = group.saves.get(&(self.slip.record, before));
+        let finished = group.saves.get(self.slip.record, before);
         let finished = finished.is_some_and(|s| s.finished);
         match before.tie == self.bird.laptop {
             true => {
                 counts.replaced += 1;
                 counts.crossed += u64::from(finished);
+                counts.in_charge += u64::from(before.tie < group.lower_half());
             }
             false => counts.taken += 1,
         }

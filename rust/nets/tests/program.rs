@@ -22,11 +22,13 @@ fn one_morning() {
     let said = out(&output);
     for part in [
         "seed 3",
+        "ties to the lower number",
         "save to finished",
         "given up",
         "refused by 26",
         "entered again",
         "in the records         80  all",
+        "all refused by 27, nothing changed",
         "wall time",
     ] {
         assert!(said.contains(part), "{part} is missing:\n{said}");
@@ -34,6 +36,20 @@ fn one_morning() {
     assert!(!said.contains("question"), "{said}");
     // No progress unless on a terminal.
     assert!(output.stderr.is_empty());
+}
+
+/// The group's rule, and the numbers that ties went to.
+#[test]
+fn mornings_by_either_rule() {
+    for rule in ["higher", "lower"] {
+        let output = nets(&["--seed", "3", "--rule", rule]);
+        assert_eq!(output.status.code(), Some(0));
+        let said = out(&output);
+        for part in ["records, ties to", "with one version: all to"] {
+            let part = format!("{part} the {rule} number");
+            assert!(said.contains(&part), "{part} is missing:\n{said}");
+        }
+    }
 }
 
 #[test]
@@ -58,6 +74,9 @@ fn many_mornings() {
     assert_eq!(begins[..3], ["seed 8", "seed 9", "seed 10"]);
     let last = said.lines().last().unwrap_or("");
     assert!(last.starts_with("3 mornings"), "{said}");
+    assert!(last.contains("; ties: "), "{said}");
+    assert!(last.contains(", all to the lower number; "), "{said}");
+    assert!(last.contains("; packets of the other station: "), "{said}");
     assert!(last.contains("given up: 0, in 0 mornings"), "{said}");
     assert!(last.contains("commits refused by 26: "), "{said}");
     assert!(last.contains("every bird in the records"), "{said}");
@@ -66,7 +85,7 @@ fn many_mornings() {
 /// In the second of these mornings an overtaken save is given up.
 #[test]
 fn mornings_with_a_save_that_is_given_up() {
-    let output = nets(&["--seed", "44", "--seeds", "3"]);
+    let output = nets(&["--rule", "higher", "--seed", "44", "--seeds", "3"]);
     assert_eq!(output.status.code(), Some(0));
     let said = out(&output);
     let lines: Vec<&str> = said.lines().collect();
@@ -107,6 +126,9 @@ fn wrong_options() {
         &["--loss", "91"],
         &["--loss", "-1"],
         &["--delay", "0"],
+        &["--rule", "middle"],
+        &["--rule"],
+        &["--neighbours", "101"],
         &["--seeds", "0"],
         &["--seed"],
         &["--fault", "rain"],

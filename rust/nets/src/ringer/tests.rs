@@ -4,16 +4,24 @@ use super::*;
 use crate::chain;
 use crate::plan::MEASURING;
 use crate::settings::Settings;
+use cetskobi::Rule;
 
 /// So many laptops with one record, their huts, and ringers with a bird each, who
 /// measure so long.
 fn nets<const N: usize>(measuring: [Tick; N]) -> (Group, Vec<Hut>, Ringers) {
+    nets_with(Rule::Lower, measuring)
+}
+
+/// What they measure.
+const MEASURED: [&str; 3] = ["Wren", "Wren, fat 3", "Wren, moulting"];
+
+fn nets_with<const N: usize>(rule: Rule, measuring: [Tick; N]) -> (Group, Vec<Hut>, Ringers) {
     let settings = Settings {
         laptops: N as u8,
         records: 1,
+        rule,
         ..Settings::default()
     };
-    let measured = ["Wren", "Wren, fat 3", "Wren, moulting"];
     let visit = |(laptop, (measuring, measured)): (u8, (Tick, &str))| {
         let bird = Bird {
             tick: 0,
@@ -24,13 +32,13 @@ fn nets<const N: usize>(measuring: [Tick; N]) -> (Group, Vec<Hut>, Ringers) {
         };
         Visit::new(bird, measured.to_owned())
     };
-    let birds = (0..).zip(measuring.into_iter().zip(measured));
+    let birds = (0..).zip(measuring.into_iter().zip(MEASURED));
     let ringers = Ringers {
         visits: birds.map(visit).collect(),
         last_save: 0,
         counts: Visits::default(),
     };
-    let huts = (0..N as u8).map(|n| Hut::new(n, None)).collect();
+    let huts = (0..N as u8).map(|n| Hut::new(n, rule, None)).collect();
     let group = Group::start(&settings).expect("a group");
     (group, huts, ringers)
 }
@@ -146,75 +154,86 @@ fn two_ringers_of_one_laptop() {
     assert_eq!((ringers.saved(), ringers.counts.moved), (1, 0));
 }
 
-/// Both commit on one timestamp: both are accepted, and the greater one stands
-/// (document 02, Wish 5). 0 is told, and enters hers again.
+/// Who wins and who loses if 0 and 1 save at once (document 02, Wish 6).
+const TIES: [(Rule, usize, usize); 2] = [(Rule::Higher, 1, 0), (Rule::Lower, 0, 1)];
+
+/// Both commit on one timestamp: both are accepted, and the winner's stands (document
+/// 02, Wishes 5 and 6). The other is told, and enters hers again.
 #[test]
 fn two_commits_on_one_timestamp() {
-    let (mut group, mut huts, mut ringers) = nets([3, 3]);
-    let (group, huts) = (&mut group, &mut huts[..]);
-    up_to(4, group, huts, &mut ringers, BOTH);
-    assert_eq!((ringers.waiting(), ringers.counts.refused), (None, 0));
-    heard(1, group, huts);
-    // Replaced, and the record is not valid: she is not troubled yet.
-    up_to(10, group, huts, &mut ringers, BOTH);
-    assert_eq!(ringers.counts.openings, 2);
-    for from in [0, 1] {
-        heard(from, group, huts);
-    }
-    for n in [0, 1] {
-        assert_eq!(group.laptop(n).read(0), Ok(&b"Wren, fat 3"[..]));
-    }
-    assert_eq!(group.counts.overtaken, 1);
-    // Opened at 10, committed at 13.
-    up_to(13, group, huts, &mut ringers, BOTH);
-    assert_eq!(ringers.waiting(), Some(0));
-    up_to(14, group, huts, &mut ringers, BOTH);
-    for from in [0, 1, 0] {
-        heard(from, group, huts);
-    }
-    let again = Visits {
-        openings: 3,
-        replaced: 1,
-        birds: 1,
-        ..Visits::default()
-    };
-    assert_eq!((ringers.waiting(), ringers.counts), (None, again));
-    assert_eq!(ringers.last_save, 3, "both birds had been saved by then");
-    for n in [0, 1] {
-        let text: &[u8] = b"Wren, fat 3; 2: Wren (after 1)";
-        assert_eq!(group.laptop(n).read(0), Ok(text));
-        assert_eq!(told(group, &ringers, n), 2);
+    for (rule, wins, loses) in TIES {
+        let (mut group, mut huts, mut ringers) = nets_with(rule, [3, 3]);
+        let (group, huts) = (&mut group, &mut huts[..]);
+        up_to(4, group, huts, &mut ringers, BOTH);
+        assert_eq!((ringers.waiting(), ringers.counts.refused), (None, 0));
+        heard(wins, group, huts);
+        // Replaced, and the record is not valid: she is not troubled yet.
+        up_to(10, group, huts, &mut ringers, BOTH);
+        assert_eq!(ringers.counts.openings, 2);
+        for from in [loses, wins] {
+            heard(from, group, huts);
+        }
+        for n in [0, 1] {
+            assert_eq!(group.laptop(n).read(0), Ok(MEASURED[wins].as_bytes()));
+        }
+        assert_eq!(group.counts.overtaken, 1);
+        // Opened at 10, committed at 13.
+        up_to(13, group, huts, &mut ringers, BOTH);
+        assert_eq!(ringers.waiting(), Some(0));
+        up_to(14, group, huts, &mut ringers, BOTH);
+        for from in [loses, wins, loses] {
+            heard(from, group, huts);
+        }
+        let again = Visits {
+            openings: 3,
+            replaced: 1,
+            birds: 1,
+            // 0 is the lower half of the two.
+            in_charge: u64::from(loses == 0),
+            ..Visits::default()
+        };
+        assert_eq!((ringers.waiting(), ringers.counts), (None, again));
+        assert_eq!(ringers.last_save, 3, "both birds had been saved by then");
+        let [first, second] = [wins, loses].map(|n| MEASURED[n]);
+        let text = format!("{first}; 2: {second} (after {wins})");
+        for n in [0, 1] {
+            assert_eq!(group.laptop(n).read(0), Ok(text.as_bytes()));
+            assert_eq!(told(group, &ringers, n), 2);
+        }
     }
 }
 
-/// 0's save is finished although 1 has saved too: 1 acknowledges a lesser one. Then the
-/// greater one comes.
+/// The loser's save is finished although the other has saved too, who acknowledges a
+/// lesser one. Then the winner's comes.
 #[test]
 fn a_finished_save_is_crossed() {
-    let (mut group, mut huts, mut ringers) = nets([3, 3]);
-    let (group, huts) = (&mut group, &mut huts[..]);
-    up_to(4, group, huts, &mut ringers, BOTH);
-    let greater = huts[1].packets();
-    for from in [0, 1, 0] {
-        heard(from, group, huts);
+    for (rule, wins, loses) in TIES {
+        let (mut group, mut huts, mut ringers) = nets_with(rule, [3, 3]);
+        let (group, huts) = (&mut group, &mut huts[..]);
+        up_to(4, group, huts, &mut ringers, BOTH);
+        let greater = huts[wins].packets();
+        for from in [loses, wins, loses] {
+            heard(from, group, huts);
+        }
+        let stands = group.laptop(loses as u8).read(0);
+        assert_eq!(stands, Ok(MEASURED[loses].as_bytes()));
+        up_to(8, group, huts, &mut ringers, BOTH);
+        assert_eq!(ringers.counts.openings, 2);
+        for (_, bytes) in greater {
+            huts[loses].packet_came(group, &bytes).expect("agreement");
+        }
+        for from in [loses, wins] {
+            heard(from, group, huts);
+        }
+        up_to(12, group, huts, &mut ringers, BOTH);
+        let counts = &ringers.counts;
+        assert_eq!((counts.replaced, counts.crossed, counts.taken), (1, 1, 0));
+        assert_eq!(group.counts.overtaken, 0);
+        for from in [loses, wins, loses] {
+            heard(from, group, huts);
+        }
+        assert_eq!(told(group, &ringers, wins as u8), 2);
     }
-    assert_eq!(group.laptop(0).read(0), Ok(&b"Wren"[..]));
-    up_to(8, group, huts, &mut ringers, BOTH);
-    assert_eq!(ringers.counts.openings, 2);
-    for (_, bytes) in greater {
-        huts[0].packet_came(group, &bytes).expect("agreement");
-    }
-    for from in [0, 1] {
-        heard(from, group, huts);
-    }
-    up_to(12, group, huts, &mut ringers, BOTH);
-    let counts = &ringers.counts;
-    assert_eq!((counts.replaced, counts.crossed, counts.taken), (1, 1, 0));
-    assert_eq!(group.counts.overtaken, 0);
-    for from in [0, 1, 0] {
-        heard(from, group, huts);
-    }
-    assert_eq!(told(group, &ringers, 1), 2);
 }
 
 /// A record that was opened at a laptop which died is opened anew at the next.
@@ -236,8 +255,8 @@ fn who_cannot_use_a_laptop_goes_to_the_next() {
 
 /// 0 dies right after its save, and is struck off. `spread`: whether 2 had heard of it,
 /// which then replays it. The next laptop, 1, has not.
-fn dies(spread: bool) -> (Group, Ringers) {
-    let (mut group, mut huts, mut ringers) = nets([3, 900, 900]);
+fn dies(rule: Rule, spread: bool) -> (Group, Ringers) {
+    let (mut group, mut huts, mut ringers) = nets_with(rule, [3, 900, 900]);
     let (g, h, left) = (&mut group, &mut huts[..], 0b110);
     up_to(4, g, h, &mut ringers, 0b111);
     if spread {
@@ -267,7 +286,7 @@ fn dies(spread: bool) -> (Group, Ringers) {
 /// Nobody had heard of it: she enters her bird again, from the slip.
 #[test]
 fn a_save_that_died_with_its_laptop_is_entered_again() {
-    let (group, ringers) = dies(false);
+    let (group, ringers) = dies(Rule::Lower, false);
     let counts = &ringers.counts;
     assert_eq!((counts.taken, counts.birds, counts.moved), (1, 1, 0));
     assert_eq!((counts.replaced, counts.found), (0, 0));
@@ -275,14 +294,18 @@ fn a_save_that_died_with_its_laptop_is_entered_again() {
     assert_eq!(r.timestamp.tie, 1);
 }
 
-/// 2 replays it while she enters the bird again at 1: of the two the greater timestamp
-/// stands, which is hers of 1, and the text tells of the bird once.
+/// 2 replays it while she enters the bird again at 1: of the two the winner by the rule
+/// stands, hers of 1 or that of 0, and the text tells of the bird once.
 #[test]
 fn a_save_that_is_replayed_meanwhile_is_told_once() {
-    let (group, ringers) = dies(true);
-    assert_eq!(ringers.slips()[0].saves.len(), 2);
-    for n in [1, 2] {
-        assert_eq!(group.laptop(n).read(0), Ok(&b"Wren"[..]));
-        assert_eq!(group.record(n, 0).map(|r| r.timestamp.tie), Some(1));
+    for (rule, wins, found) in [(Rule::Higher, 1, 0), (Rule::Lower, 0, 1)] {
+        let (group, ringers) = dies(rule, true);
+        assert_eq!(ringers.slips()[0].saves.len(), 2);
+        assert_eq!(ringers.counts.found, found, "{rule}");
+        for n in [1, 2] {
+            assert_eq!(group.laptop(n).read(0), Ok(&b"Wren"[..]));
+            let stands = group.record(n, 0).map(|r| r.timestamp.tie);
+            assert_eq!(stands, Some(wins), "{rule}");
+        }
     }
 }
