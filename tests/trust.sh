@@ -29,7 +29,7 @@ Wish 4|the same, as C calls the functions|export_packets.OnePass.OnePass export_
 Wish 5|what an ask hands out; that a commit saves over what was seen, and is not refused in vain|hermes.Asking.EveryAskGives hermes.Asking.Asking|crates/hermes/proofs/Asking.antt:ask-gives crates/hermes/proofs/Asking.antt:asking
 Wish 5|the same of a commit, as C calls the functions|check_air.Opened.CalledAsking|crates/check_air/proofs/Opened.antt:called-asking
 Wish 6|that each rule orders timestamps strictly and totally, the version first|hermes_record.Order.OrderedAny hermes_record.Order.OrderedBoth|crates/hermes_record/proofs/Order.antt:ordered-by crates/hermes_record/proofs/Order.antt:ordered
-Wish 6|that a packet for one rule is refused by 27 in a group with the other|packet_format.Accepting.AcceptedByOne packet_format.RoundTrip.WrittenOtherRule|crates/packet_format/proofs/Accepting.antt:accepted-by-one crates/packet_format/proofs/RoundTrip.antt:written-other-rule
+Wish 6|that a packet for one rule is refused by 27 in a group with the other|packet_format.Accepting.OtherRuleRefused packet_format.Accepting.AcceptedByOne packet_format.RoundTrip.WrittenOtherRule|crates/packet_format/proofs/Accepting.antt:other-rule-refused crates/packet_format/proofs/Accepting.antt:accepted-by-one crates/packet_format/proofs/RoundTrip.antt:written-other-rule
 Wish 6|the same, as C calls the functions|export_packets.OnePass.OtherRule|crates/export_packets/proofs/OnePass.antt:other-rule
 END
 

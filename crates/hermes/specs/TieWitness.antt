@@ -1,5 +1,6 @@
 -- Wish 6, computed: two laptops of the group of `Played` save at once. By the old rule the higher number's text stands on all three, by the new rule the
--- lower number's; and the promises are claimed under each rule, of a list with every kind of entry too.
+-- lower number's; and the promises are claimed under each rule, of a list with every kind of entry too. `Morning` of check_air has every kind of call, accepted
+-- and refused, with its numbers, by the new rule.
 use Prim.Native.Nat.{ℕ}
 use mathlib.Core.Path.{_≡_}
 use mathlib.Core.List.{List, [], _∷_}

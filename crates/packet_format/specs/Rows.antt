@@ -1,4 +1,4 @@
--- The rows about packets: document 01's own, "From the ringing table"; and the number that each of questions 20 to 25 answers, with both sides
+-- The rows about packets: document 01's own, "From the ringing table"; and the number that each of questions 20 to 25 and 27 answers, with both sides
 -- of every limit in it and the order in which they are asked; Wish 4's, of a packet accepted and its messages taken; Wish 6's, of both rules.
 use Prim.Native.Nat.{ℕ, zero, suc, _+_, _/_, _%_}
 use mathlib.Core.Path.{_≡_}

@@ -27,7 +27,7 @@ fn packets_read_by(rule: Rule) {
         let mut bytes = two(rule);
         change(&mut bytes);
         assert_eq!(number(&packet::fetch(rule, &bytes, index)), no);
-        // 02, Wish 4: the same numbers in the same order, 20 to 22 of the packet
+        // 02, Wish 4: the same numbers in the same order, 20, 27, 21 and 22 of the packet
         // and 23 of the message.
         let accepted = packet::accept(rule, &bytes);
         assert_eq!(number(&accepted), if no == 23 { 0 } else { no });
