@@ -22,7 +22,7 @@
  * measured are some 250 bytes and some 60 KiB, and 3 KiB more where the loader looks for memset or memcpy at the first call (tests/c/stack.c).
  *
  * Versions. A version is major.minor.patch. Within one major version what is here stays: names, numbers, layouts, signatures, and what is
- * accepted and refused. A minor version may add functions, refusals (29 to 37 are announced), kinds and states: have a default for numbers
+ * accepted and refused. A minor version may add functions, refusals (28 to 37 are announced), kinds and states: have a default for numbers
  * that you do not know. While the major version is 0, a minor version may also change what is here; CHANGELOG.md says what. */
 #ifndef CETSKOBI_H
 #define CETSKOBI_H
@@ -30,9 +30,9 @@
 #include <stddef.h>
 #include <stdint.h>
 
-#define CETSKOBI_VERSION "0.9.0"
+#define CETSKOBI_VERSION "0.8.0"
 #define CETSKOBI_VERSION_MAJOR 0
-#define CETSKOBI_VERSION_MINOR 9
+#define CETSKOBI_VERSION_MINOR 8
 #define CETSKOBI_VERSION_PATCH 0
 
 /* Bytes of stack that are enough for a call. */
@@ -60,13 +60,12 @@ enum {
     CETSKOBI_INVALID = 1,       /* a newer value is known, but not that every replica has it */
     CETSKOBI_INVALID_WRITE = 2, /* overtaken while writing: another replica's write has a later timestamp */
     CETSKOBI_WRITE = 3,         /* this replica's write waits for acknowledgements */
-    CETSKOBI_REPLAY = 4         /* this replica's replay, of a write that another left open, waits for acknowledgements */
+    CETSKOBI_REPLAY = 4         /* this replica's replay, for a writer that was struck off, waits for acknowledgements */
 };
 
 /* One record, as its 16 bytes lie in the table. A number of more than a byte has the least significant first, as on x86-64, the archive's
  * only machine: there an array of this struct, passed as (uint8_t *)records, is a table. A state above 4 is no record, and question 5
- * refuses it like an unsound one; every other value of the fields is a record. Byte 15 was nobody's before 0.9.0: in an older table set it
- * to 0 once, or question 5 refuses what lies there. */
+ * refuses it like an unsound one; every other value of the fields is a record. */
 struct cetskobi_record {
     uint8_t state;            /* byte 0: one of the five */
     uint8_t tie;              /* byte 1: the timestamp's tie-breaker */
@@ -76,7 +75,7 @@ struct cetskobi_record {
     uint32_t written_version; /* bytes 8 to 11: the last-write timestamp's version */
     uint16_t acks;            /* bytes 12 and 13: the set of replicas whose acknowledgement has come */
     uint8_t len;              /* byte 14: of the value, in bytes */
-    uint8_t waited;           /* byte 15: the ticks that it has waited: below the group's wait, and 0 while the record is valid */
+    uint8_t unused;           /* byte 15: never read and never changed, not by a fresh start either */
 };
 
 enum { CETSKOBI_RECORD_BYTES = 16, CETSKOBI_VALUE_MAX = 192, CETSKOBI_COUNT_MAX = 4096 };
@@ -92,11 +91,9 @@ enum {
  * whether it is so. The start takes them, a view keeps them, and nothing changes them. */
 struct cetskobi_settings {
     uint8_t rule; /* 2 is CETSKOBI_LOWER; every other value, 0 too, is CETSKOBI_HIGHER */
-    uint8_t wait; /* 1 to 255: after so many ticks a record that waits is helped on (cetskobi_tick). 0 is no wait, and refused by 28 */
 };
 
-/* The identity of a replica, in 12 bytes. Bytes 3, 6 and 7 are gaps: compare its fields, not its bytes. Every event compares timestamps by
- * the rule that stands here; question 5 and a tick go by the wait. */
+/* The identity of a replica, in 8 bytes. Every event compares timestamps by the rule that stands here. */
 struct cetskobi_replica {
     uint8_t number;
     struct cetskobi_settings settings;
@@ -136,7 +133,6 @@ enum {
     CETSKOBI_REFUSED_PACKET_ROOM = 25,     /* the packet would be longer than 1,400 bytes or than its room */
     CETSKOBI_REFUSED_NOT_AS_OPENED = 26,   /* the record is not valid now, or no longer has the timestamp that it was opened with */
     CETSKOBI_REFUSED_OTHER_RULE = 27,      /* the packet is of a group with the other rule of ties */
-    CETSKOBI_REFUSED_NO_WAIT = 28,         /* the settings have no wait: it is 0 */
     CETSKOBI_REFUSED_PLAYER_ROOM = 255     /* the script is longer than 65,536 bytes or lacks room to print */
 };
 
@@ -233,11 +229,11 @@ struct cetskobi_admission {
     uint8_t number;
 };
 
-/* Events on record i. Each asks 28 and 1 to 5 first, in this order. A message that leaves is about record i, from me.number at me.epoch as
- * they were passed: who sends it later keeps them with it, since a view may have changed me. A delivery takes the record's number and the
- * bytes that came with its message: other bytes, or none, are accepted too, and two laptops may then show different texts for one
- * timestamp. cetskobi_deliver_packet and cetskobi_deliver_accepted take both from the packet. What an accepted event sends: write, commit
- * and replay an INV, validate a VAL, resend an INV or a VAL, deliver and tick what stands there. */
+/* Events on record i. A message that leaves is about record i, from me.number at me.epoch as they were passed: who sends it later keeps
+ * them with it, since a view may have changed me. A delivery takes the record's number and the bytes that came with its message: other
+ * bytes, or none, are accepted too, and two laptops may then show different texts for one timestamp. cetskobi_deliver_packet and
+ * cetskobi_deliver_accepted take both from the packet. What an accepted event sends: write, commit and replay an INV, validate a VAL,
+ * resend an INV or a VAL, deliver what stands there. */
 
 /* Saves over whatever stands there: also over a text that nobody has looked at here, and over one that is not valid yet (invalid). For
  * what a ringer saves there is cetskobi_commit. */
@@ -250,34 +246,22 @@ struct cetskobi_answer cetskobi_write(struct cetskobi_replica me, uint8_t *table
 CETSKOBI_MUST_USE
 struct cetskobi_answer cetskobi_deliver(struct cetskobi_replica me, uint8_t *table, size_t table_len, uint8_t *store, size_t store_len,
                                         size_t i, struct cetskobi_message message, const uint8_t *value, size_t value_len);
-/* For a record in state invalid or invalid-write whose last writer was struck off before its VAL came here: to be tried after a view, or
- * left to a tick. This laptop takes that write over, with its timestamp and value: all others in the view are to acknowledge it anew, and
- * the last ACK settles it. From invalid-write too, where it had overtaken a write of this laptop's own: that one is given up. Its value was
- * overwritten when the other's INV came, and its acknowledgements no longer count. */
+/* For a record in state invalid or invalid-write whose last writer was struck off before its VAL came here: to be tried after a view. This
+ * laptop takes that write over, with its timestamp and value: all others in the view are to acknowledge it anew, and the last ACK settles
+ * it. From invalid-write too, where it had overtaken a write of this laptop's own: that one is given up. Its value was overwritten when
+ * the other's INV came, and its acknowledgements no longer count. */
 CETSKOBI_MUST_USE
 struct cetskobi_answer cetskobi_replay(struct cetskobi_replica me, uint8_t *table, size_t table_len, const uint8_t *store, size_t store_len,
                                        size_t i);
-/* For a record whose last missing acknowledgement was that of a laptop since struck off: to be tried after a view, since no tick does this.
- * Any other is validated by the delivery of its last ACK; before it and after it the answer here is 15. */
+/* For a record whose last missing acknowledgement was that of a laptop since struck off: to be tried after a view. Any other is validated by
+ * the delivery of its last ACK; before it and after it the answer here is 15. */
 CETSKOBI_MUST_USE
 struct cetskobi_answer cetskobi_validate(struct cetskobi_replica me, uint8_t *table, size_t table_len, const uint8_t *store,
                                          size_t store_len, size_t i);
-/* The INV or VAL again, at once. No byte of the table changes, although it is lent to be written. */
+/* No byte of the table changes, although it is lent to be written. */
 CETSKOBI_MUST_USE
 struct cetskobi_answer cetskobi_resend(struct cetskobi_replica me, uint8_t *table, size_t table_len, const uint8_t *store, size_t store_len,
                                        size_t i);
-/* One tick of record i (document 02, Wish 7). A clock calls it for every record, once a second say, and sends what leaves:
- *
- *     for (size_t i = 0; i < count; i++) ... cetskobi_tick(me, .., i) ...
- *
- * A valid record stays as it is, and nothing leaves. For any other the count of ticks waited grows by one. On reaching me.settings.wait it
- * returns to 0, and the laptop helps itself: in state write and replay the INV leaves again, and the record is otherwise unchanged; in
- * invalid and invalid-write the record is replayed, as by cetskobi_replay but even if its last writer is still in the view, and the INV
- * leaves. With a wait of 1 every tick does so. A new timestamp sets the count to 0, and so does becoming valid: write, commit, a greater
- * INV, a VAL, validate, the last ACK. All else leaves it: other INVs and ACKs, replay, resend, a view. */
-CETSKOBI_MUST_USE
-struct cetskobi_answer cetskobi_tick(struct cetskobi_replica me, uint8_t *table, size_t table_len, const uint8_t *store, size_t store_len,
-                                     size_t i);
 CETSKOBI_MUST_USE
 struct cetskobi_reading cetskobi_read(struct cetskobi_replica me, const uint8_t *table, size_t table_len, const uint8_t *store,
                                       size_t store_len, size_t i);
@@ -295,11 +279,11 @@ CETSKOBI_MUST_USE
 struct cetskobi_answer cetskobi_commit(struct cetskobi_replica me, uint8_t *table, size_t table_len, uint8_t *store, size_t store_len,
                                        size_t i, uint32_t version, uint8_t tie, const uint8_t *value, size_t value_len);
 
-/* A change of view, which touches no record and keeps the settings: questions 28, 1, 3, 18 and 19. */
+/* A change of view, which touches no record and keeps the settings. */
 CETSKOBI_MUST_USE
 struct cetskobi_admission cetskobi_view(struct cetskobi_replica me, uint32_t epoch, uint16_t set);
-/* A fresh start: epoch 0, every record valid and empty, the store zero; questions 28, 1, 2 and 3. Under both rules a record's first
- * timestamp has the lowest number in the view. view, settings and the count of records are the same on all laptops of the group. */
+/* A fresh start: epoch 0, every record valid and empty, the store zero. Under both rules a record's first timestamp has the lowest number in
+ * the view. view, settings and the count of records are the same on all laptops of the group. */
 CETSKOBI_MUST_USE
 struct cetskobi_admission cetskobi_start(uint8_t number, uint16_t view, struct cetskobi_settings settings, uint8_t *table, size_t table_len,
                                          uint8_t *store, size_t store_len);
@@ -319,7 +303,7 @@ uint16_t cetskobi_recipients(struct cetskobi_replica me, uint8_t kind, uint8_t s
 
 /* Packets. Who reads or writes them passes the group's settings, me.settings of its laptops. Byte 0 is the number of the group's rule:
  * question 20 lets it be 1 or 2, and a packet of a group with the other rule is refused by 27, which is asked right after 20. A message by
- * itself has no rule: cetskobi_deliver does not ask 27. A packet has no wait: of these functions only a delivery asks 28. */
+ * itself has no rule: cetskobi_deliver does not ask 27. */
 
 /* Message i of a packet: questions 20, 27, 21, 22 and 23, in this order. The whole packet is looked at first, at each call: for more than
  * one of its messages, cetskobi_accept once and then cetskobi_fetch_accepted. */
@@ -332,8 +316,8 @@ CETSKOBI_MUST_USE
 struct cetskobi_written cetskobi_pack(struct cetskobi_settings settings, const uint32_t *messages,
                                       size_t messages_len, /* words, 7 for each message: not messages, not bytes */
                                       const uint8_t *bodies, size_t bodies_len, uint8_t *out, size_t out_len);
-/* The delivery of message i of a packet: the questions of cetskobi_fetch by me.settings, then those of cetskobi_deliver, 28 and on; what
- * leaves is as there. The whole packet is looked at first here too: for all of it there is cetskobi_deliver_accepted. */
+/* The delivery of message i of a packet: the questions of cetskobi_fetch by me.settings, then those of cetskobi_deliver; what leaves is as
+ * there. The whole packet is looked at first here too: for all of it there is cetskobi_deliver_accepted. */
 CETSKOBI_MUST_USE
 struct cetskobi_answer cetskobi_deliver_packet(struct cetskobi_replica me, uint8_t *table, size_t table_len, uint8_t *store,
                                                size_t store_len, const uint8_t *packet, size_t packet_len, size_t i);

@@ -35,7 +35,6 @@ static inline const char *cetskobi_meaning(uint8_t number) {
     case CETSKOBI_REFUSED_PACKET_ROOM: return "the packet would be longer than 1,400 bytes or than its room";
     case CETSKOBI_REFUSED_NOT_AS_OPENED: return "the record is not valid now, or no longer has the timestamp that it was opened with";
     case CETSKOBI_REFUSED_OTHER_RULE: return "the packet is of a group with the other rule of ties";
-    case CETSKOBI_REFUSED_NO_WAIT: return "the settings have no wait: it is 0";
     case CETSKOBI_REFUSED_PLAYER_ROOM: return "the script is longer than 65,536 bytes or lacks room to print";
     default: return "unknown refusal";
     }

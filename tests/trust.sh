@@ -31,7 +31,6 @@ Wish 5|the same of a commit, as C calls the functions|check_air.Opened.CalledAsk
 Wish 6|that each rule orders timestamps strictly and totally, the version first|hermes_record.Order.OrderedAny hermes_record.Order.OrderedBoth|crates/hermes_record/proofs/Order.antt:ordered-by crates/hermes_record/proofs/Order.antt:ordered
 Wish 6|that a packet for one rule is refused by 27 in a group with the other|packet_format.Accepting.OtherRuleRefused packet_format.Accepting.AcceptedByOne packet_format.RoundTrip.WrittenOtherRule|crates/packet_format/proofs/Accepting.antt:other-rule-refused crates/packet_format/proofs/Accepting.antt:accepted-by-one crates/packet_format/proofs/RoundTrip.antt:written-other-rule
 Wish 6|the same, as C calls the functions|export_packets.OnePass.OtherRule|crates/export_packets/proofs/OnePass.antt:other-rule
-Wish 7|what becomes of the count of ticks, and that a record that waits helps itself in time|hermes.Waiting.Waiting hermes.Waiting.HelpInTime|crates/hermes/proofs/Waiting.antt:waiting crates/hermes/proofs/Waiting.antt:help-in-time
 END
 
 grep -nE '^(pub )?(struct|enum) ' crates/*/src/*.rt >"$dir/types"

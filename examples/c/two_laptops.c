@@ -1,6 +1,6 @@
-/* Two laptops keep one ring record in step by packets, although two packets are lost and one comes twice: the laptop that waits helps itself,
- * by ticks. Both open the record before either saves: the second save is refused, and made again over the text that stands there by then.
- * Then the other saves too before it has heard of that: a tie, which goes to the lower number.
+/* Two laptops keep one ring record in step by packets, although one packet is lost and one comes twice. Both open it before either saves:
+ * the second save is refused, and made again over the text that stands there by then. Then the other saves too before it has heard of that:
+ * a tie, which goes to the lower number.
  * From the repository's root (rust/cetskobi/examples/two_laptops.rs tells the same in Rust):
  *   sh tools/archive && cc -O2 examples/c/two_laptops.c -Iinclude target/staticlib/libcetskobi.a -o target/two_laptops && target/two_laptops
  */
@@ -14,8 +14,8 @@ enum { RING = 7, COUNT = 8 };
 static const char WING[] = "Blue tit, wing 62", REMARK[] = "Blue tit, female", BOTH[] = "Blue tit, female, wing 62",
                   AGAIN[] = "Blue tit, wing 63";
 
-/* The rule of ties and the wait: the same at all laptops of a group, and fixed at its start. */
-static const struct cetskobi_settings SETTINGS = {.rule = CETSKOBI_LOWER, .wait = 20};
+/* The rule of ties: the same at all laptops of a group, and fixed at its start. */
+static const struct cetskobi_settings SETTINGS = {.rule = CETSKOBI_LOWER};
 
 struct laptop {
     struct cetskobi_replica me;
@@ -105,18 +105,6 @@ static struct cetskobi_answer save(struct laptop *l, struct cetskobi_asked seen,
     return cetskobi_commit(LENT(l), RING, seen.version, seen.tie, (const uint8_t *)text, strlen(text));
 }
 
-/* The clock: the record's ticks until an INV leaves, as it has waited as long as the group's wait. */
-static struct packet tick(struct laptop *l) {
-    struct cetskobi_answer left;
-    int ticks = 0;
-    do {
-        left = cetskobi_tick(LENT(l), RING);
-        ticks++;
-    } while (left.number == 0 && left.kind == CETSKOBI_NONE);
-    printf("laptop %d ticks %d times\n", l->me.number, ticks);
-    return send(l, left, l->me.number);
-}
-
 /* A refused event: nothing has changed. */
 static void refused(struct cetskobi_answer a) {
     if (a.number != 0) printf("  refused: question %d\n", a.number);
@@ -137,7 +125,8 @@ int main(void) {
     printf("the packet is lost\n");
     show(&net);
 
-    struct packet inv = tick(&net);
+    printf("laptop 0 sends again\n");
+    struct packet inv = send(&net, cetskobi_resend(LENT(&net), RING), net.me.number);
     printf("laptop 1 takes the packet\n");
     struct packet ack = reply(&hut, take(&hut, &inv));
     show(&hut);
@@ -171,17 +160,9 @@ int main(void) {
     /* Laptop 1 was overtaken: its last ACK is counted, and nothing leaves. */
     printf("each takes the other's acknowledgement\n");
     accepted(take(&hut, &ack_of_net).answer.number);
-    reply(&net, take(&net, &ack_of_hut));
-    printf("the packet is lost\n");
-    show(&net);
-    show(&hut);
-
-    /* So it takes the other's save over, with its timestamp and text. */
-    inv = tick(&hut);
-    printf("laptop 0 takes the packet\n");
-    ack = reply(&net, take(&net, &inv));
+    val = reply(&net, take(&net, &ack_of_hut));
     printf("laptop 1 takes the packet\n");
-    reply(&hut, take(&hut, &ack));
+    accepted(take(&hut, &val).answer.number);
     show(&net);
     show(&hut);
     return 0;

@@ -36,7 +36,6 @@ int main(void) {
     CALL(struct cetskobi_answer, cetskobi_replay(LENT, 0))
     CALL(struct cetskobi_answer, cetskobi_validate(LENT, 0))
     CALL(struct cetskobi_answer, cetskobi_resend(LENT, 0))
-    CALL(struct cetskobi_answer, cetskobi_tick(LENT, 0))
     CALL(size_t, cetskobi_body(MEMORY, 0, left))
     CALL(uint16_t, cetskobi_recipients(me, CETSKOBI_ACK, 1))
     CALL(struct cetskobi_fetched, cetskobi_fetch(settings, text, LEN, 0))

@@ -19,7 +19,7 @@ AT(version, 4);
 AT(written_version, 8);
 AT(acks, 12);
 AT(len, 14);
-AT(waited, 15);
+AT(unused, 15);
 /* A message has its fields at the words of their order, without gaps. */
 #define WORD(field, word) _Static_assert(offsetof(struct cetskobi_entry, field) == (word) * sizeof(uint32_t), #field)
 _Static_assert(sizeof(struct cetskobi_entry) == CETSKOBI_ENTRY_WORDS * sizeof(uint32_t), "a message");
@@ -31,15 +31,14 @@ WORD(version, 4);
 WORD(tie, 5);
 WORD(len, 6);
 
-/* An identity is 12 bytes, with gaps at 3, 6 and 7. */
+/* An identity is 8 bytes, without gaps. */
 #define IDENTITY(field, byte) _Static_assert(offsetof(struct cetskobi_replica, field) == (byte), #field)
-_Static_assert(sizeof(struct cetskobi_replica) == 12, "an identity");
-_Static_assert(sizeof(struct cetskobi_settings) == 2, "settings");
+_Static_assert(sizeof(struct cetskobi_replica) == 8, "an identity");
+_Static_assert(sizeof(struct cetskobi_settings) == 1, "settings");
 IDENTITY(number, 0);
-IDENTITY(settings.rule, 1);
-IDENTITY(settings.wait, 2);
-IDENTITY(view, 4);
-IDENTITY(epoch, 8);
+IDENTITY(settings, 1);
+IDENTITY(view, 2);
+IDENTITY(epoch, 4);
 
 static int failed;
 
@@ -55,14 +54,14 @@ static void check(int holds, const char *fact, int line) {
 /* A version with four different bytes. */
 #define VERSION UINT32_C(0x01020304)
 
-/* Laptop 2 with view {1,2,5} at epoch 9, of a group with the new rule and a wait of 20, two records. */
-enum { COUNT = 2, STORE = COUNT * CETSKOBI_VALUE_MAX, OLD = 9, WAIT = 20 };
-#define LOWER {.rule = CETSKOBI_LOWER, .wait = WAIT}
-static const struct cetskobi_settings lower = LOWER, higher = {.rule = CETSKOBI_HIGHER, .wait = WAIT};
+/* Laptop 2 with view {1,2,5} at epoch 9, of a group with the new rule, two records. What lies in their byte 15 is to stay. */
+enum { COUNT = 2, STORE = COUNT * CETSKOBI_VALUE_MAX, OLD = 9 };
+#define LOWER {.rule = CETSKOBI_LOWER}
+static const struct cetskobi_settings lower = LOWER, higher = {.rule = CETSKOBI_HIGHER};
 static const struct cetskobi_replica me = {.number = 2, .settings = LOWER, .view = 38, .epoch = 9};
-static const struct cetskobi_record fresh = {.tie = 1, .writer = 1, .written_tie = 1};
+static const struct cetskobi_record fresh = {.tie = 1, .writer = 1, .written_tie = 1, .unused = OLD};
 /* A record with these fields, the others 0. */
-#define RECORD(...) (struct cetskobi_record){__VA_ARGS__}
+#define RECORD(...) (struct cetskobi_record){.unused = OLD, __VA_ARGS__}
 static struct cetskobi_record table[COUNT];
 static uint8_t store[STORE];
 
@@ -99,7 +98,7 @@ static int says(const char *text, const char *words) {
 
 static int admits(struct cetskobi_admission a, int number, struct cetskobi_replica r) {
     return a.number == number && a.replica.number == r.number && a.replica.settings.rule == r.settings.rule &&
-           a.replica.settings.wait == r.settings.wait && a.replica.view == r.view && a.replica.epoch == r.epoch;
+           a.replica.view == r.view && a.replica.epoch == r.epoch;
 }
 
 static void membership(void) {
@@ -125,7 +124,7 @@ static void membership(void) {
 /* Record 1 has (VERSION,2), and an INV comes with this timestamp to laptop r: is it taken? An ACK leaves in any case. */
 static int overtakes(struct cetskobi_replica r, uint32_t version, uint8_t tie) {
     struct cetskobi_record own = RECORD(.state = CETSKOBI_WRITE, .tie = 2, .writer = 2, .written_tie = 2, .version = VERSION,
-                                        .written_version = VERSION, .len = 62, .waited = 9);
+                                        .written_version = VERSION, .len = 62);
     struct cetskobi_message inv = {.kind = CETSKOBI_INV, .sender = 5, .tie = tie, .epoch = 9, .version = version};
     lay(own);
     CHECK(answers(cetskobi_deliver(r, MEMORY, 1, inv, (const uint8_t *)"wing", 4), 0, CETSKOBI_ACK, tie, version));
@@ -139,7 +138,7 @@ static int overtakes(struct cetskobi_replica r, uint32_t version, uint8_t tie) {
 /* Every value of the rule's byte: 2 is the new rule, and all others are the old one (02, Wish 6). */
 static void rules(void) {
     for (int rule = 0; rule <= UINT8_MAX; rule++) {
-        struct cetskobi_settings settings = {.rule = (uint8_t)rule, .wait = WAIT};
+        struct cetskobi_settings settings = {.rule = (uint8_t)rule};
         int is_lower = rule == CETSKOBI_LOWER;
         struct cetskobi_replica r = me, want = me;
         r.settings = settings;
@@ -173,9 +172,6 @@ static void writing(void) {
     r = cetskobi_read(LENT, COUNT);
     CHECK(r.number == 4 && r.len == 0);
     CHECK(answers(cetskobi_write(LENT, 1, value, sizeof value), 8, CETSKOBI_NONE, 0, 0));
-    /* The new timestamp sets the count to 0. */
-    table[1].state = CETSKOBI_INVALID;
-    table[1].waited = 9;
     CHECK(answers(cetskobi_write(LENT, 1, value, 4), 0, CETSKOBI_INV, 2, VERSION));
     CHECK(is(RECORD(.state = CETSKOBI_WRITE, .tie = 2, .writer = 2, .written_tie = 2, .version = VERSION,
                     .written_version = VERSION, .len = 4)));
@@ -319,7 +315,7 @@ static void delivery(void) {
     struct cetskobi_message inv = {.kind = CETSKOBI_INV, .sender = 5, .tie = 4, .epoch = 9, .version = VERSION};
     struct cetskobi_message other = inv;
     lay(RECORD(.state = CETSKOBI_WRITE, .tie = 2, .writer = 2, .written_tie = 2, .version = 6, .written_version = 6, .acks = 2,
-               .len = 62, .waited = 9));
+               .len = 62));
     other.epoch = 4;
     CHECK(cetskobi_deliver(LENT, 1, other, value, 6).number == 10);
     other = inv;
@@ -352,7 +348,7 @@ static void delivery(void) {
  * leaves to both. Then there is nothing to validate. */
 static void acknowledged(uint8_t state) {
     struct cetskobi_record record = RECORD(.state = state, .tie = 4, .writer = 2, .written_tie = 4, .version = VERSION,
-                                           .written_version = VERSION, .len = 62, .waited = 9);
+                                           .written_version = VERSION, .len = 62);
     struct cetskobi_message ack = {.kind = CETSKOBI_ACK, .sender = 1, .tie = 4, .epoch = 9, .version = VERSION};
     lay(record);
     CHECK(answers(cetskobi_deliver(LENT, 1, ack, NULL, 0), 0, CETSKOBI_NONE, 0, 0));
@@ -364,7 +360,6 @@ static void acknowledged(uint8_t state) {
     CHECK(along(1, val) == 0 && cetskobi_recipients(me, val.kind, ack.sender) == 34);
     record.state = CETSKOBI_VALID;
     record.acks = 34;
-    record.waited = 0;
     CHECK(is(record));
     CHECK(answers(cetskobi_validate(LENT, 1), CETSKOBI_REFUSED_NOT_FINISHED, CETSKOBI_NONE, 0, 0));
     CHECK(answers(cetskobi_deliver(LENT, 1, ack, NULL, 0), CETSKOBI_REFUSED_STRAY_ACK, CETSKOBI_NONE, 0, 0));
@@ -377,7 +372,7 @@ static void acknowledged(uint8_t state) {
  * given up (02, Wish 2). */
 static void taken_over(uint8_t state) {
     struct cetskobi_record record = RECORD(.state = state, .tie = 5, .writer = 5, .written_tie = 2, .version = VERSION,
-                                           .written_version = 6, .acks = 2, .len = 62, .waited = 9);
+                                           .written_version = 6, .acks = 2, .len = 62);
     lay(record);
     CHECK(answers(cetskobi_replay(LENT, 1), CETSKOBI_REFUSED_NOT_REPLAYABLE, CETSKOBI_NONE, 0, 0));
     CHECK(is(record));
@@ -387,7 +382,7 @@ static void taken_over(uint8_t state) {
     CHECK(answers(inv, 0, CETSKOBI_INV, 5, VERSION));
     CHECK(along(1, inv) == 62 && cetskobi_recipients(a.replica, inv.kind, 0) == 2);
     record = RECORD(.state = CETSKOBI_REPLAY, .tie = 5, .writer = 2, .written_tie = 5, .version = VERSION, .written_version = VERSION,
-                    .len = 62, .waited = 9);
+                    .len = 62);
     CHECK(is(record));
     CHECK(answers(cetskobi_replay(a.replica, MEMORY, 1), CETSKOBI_REFUSED_NOT_REPLAYABLE, CETSKOBI_NONE, 0, 0));
 
@@ -400,7 +395,6 @@ static void taken_over(uint8_t state) {
     CHECK(answers(cetskobi_deliver(a.replica, MEMORY, 1, ack, NULL, 0), 0, CETSKOBI_VAL, 5, VERSION));
     record.state = CETSKOBI_VALID;
     record.acks = 2;
-    record.waited = 0;
     CHECK(is(record));
     struct cetskobi_reading r = cetskobi_read(a.replica, MEMORY, 1);
     CHECK(r.number == 0 && r.len == 62);
@@ -418,9 +412,9 @@ static void not_taken_over(uint8_t state) {
 
 static void ending(void) {
     struct cetskobi_record replayed = RECORD(.state = CETSKOBI_REPLAY, .tie = 4, .writer = 2, .written_tie = 4, .version = VERSION,
-                                             .written_version = VERSION, .len = 62, .waited = 9);
+                                             .written_version = VERSION, .len = 62);
     lay(RECORD(.state = CETSKOBI_INVALID, .tie = 4, .writer = 4, .written_tie = 2, .version = VERSION, .written_version = 6, .acks = 2,
-               .len = 62, .waited = 9));
+               .len = 62));
     CHECK(answers(cetskobi_replay(LENT, 0), 16, CETSKOBI_NONE, 0, 0));
     CHECK(answers(cetskobi_replay(LENT, 1), 0, CETSKOBI_INV, 4, VERSION));
     CHECK(is(replayed));
@@ -438,90 +432,14 @@ static void ending(void) {
     struct cetskobi_record valid = replayed;
     valid.state = CETSKOBI_VALID;
     valid.acks = 0x8102;
-    valid.waited = 0;
     CHECK(is(valid));
     CHECK(answers(cetskobi_resend(LENT, 1), 0, CETSKOBI_VAL, 4, VERSION));
 }
 
-/* This laptop in a group with this wait. */
-static struct cetskobi_replica of_wait(int wait) {
-    struct cetskobi_replica r = me;
-    r.settings.wait = (uint8_t)wait;
-    return r;
-}
-
-/* Record 1 in this state, 5's text with (VERSION,5), after so many ticks; of this laptop's own write, (6,2), 1 has acknowledged. */
-static struct cetskobi_record waiting(uint8_t state, int waited) {
-    return RECORD(.state = state, .tie = 5, .writer = 5, .written_tie = 2, .version = VERSION, .written_version = 6, .acks = 2, .len = 62,
-                  .waited = (uint8_t)waited);
-}
-
-/* Below the wait only the count grows. On reaching it write and replay send their INV again; invalid and invalid-write are replayed, although
- * 5 is in the view (02, Wish 7). */
-static void ticking(int wait) {
-    struct cetskobi_replica r = of_wait(wait);
-    for (uint8_t state = CETSKOBI_INVALID; state <= CETSKOBI_REPLAY; state++) {
-        lay(waiting(state, 0));
-        for (int waited = 1; waited < wait; waited++) {
-            CHECK(answers(cetskobi_tick(r, MEMORY, 1), 0, CETSKOBI_NONE, 0, 0));
-            CHECK(is(waiting(state, waited)));
-        }
-        struct cetskobi_answer inv = cetskobi_tick(r, MEMORY, 1);
-        CHECK(answers(inv, 0, CETSKOBI_INV, 5, VERSION) && along(1, inv) == 62 && cetskobi_recipients(r, inv.kind, 0) == 34);
-        if (state == CETSKOBI_WRITE || state == CETSKOBI_REPLAY)
-            CHECK(is(waiting(state, 0)));
-        else
-            CHECK(is(RECORD(.state = CETSKOBI_REPLAY, .tie = 5, .writer = 2, .written_tie = 5, .version = VERSION,
-                            .written_version = VERSION, .len = 62)));
-    }
-    lay(waiting(CETSKOBI_VALID, 0));
-    for (int n = 0; n < 300; n++) CHECK(answers(cetskobi_tick(r, MEMORY, 1), 0, CETSKOBI_NONE, 0, 0));
-    CHECK(is(waiting(CETSKOBI_VALID, 0)));
-    CHECK(answers(cetskobi_tick(r, MEMORY, COUNT), 4, CETSKOBI_NONE, 0, 0));
-    for (size_t n = 0; n < STORE; n++) CHECK(store[n] == 7);
-}
-
-/* Question 5: the count is below the wait, and 0 in a valid record. Software of 0.8.0 left anything in that byte. */
-static void counts(int wait) {
-    for (int waited = 0; waited <= UINT8_MAX; waited++)
-        for (uint8_t state = CETSKOBI_VALID; state <= CETSKOBI_REPLAY; state++) {
-            int sound = state == CETSKOBI_VALID ? waited == 0 : waited < wait;
-            lay(waiting(state, waited));
-            CHECK((cetskobi_tick(of_wait(wait), MEMORY, 1).number == 5) == !sound && (sound || is(waiting(state, waited))));
-            lay(waiting(state, waited));
-            CHECK(cetskobi_read(of_wait(wait), MEMORY, 1).number == (!sound ? 5 : state == CETSKOBI_VALID ? 0 : 6));
-        }
-}
-
-/* 28, before all other questions: this laptop, and one that is none; no record, no lengths. Packets ask their own questions first, and have no
- * wait. */
-static void without_a_wait(void) {
-    struct cetskobi_replica nobody = of_wait(0);
-    nobody.number = 16;
-    const struct cetskobi_replica all[] = {of_wait(0), nobody};
-    const struct cetskobi_message inv = {.kind = CETSKOBI_INV, .sender = 5, .tie = 4, .epoch = 9, .version = VERSION};
-    lay(waiting(CETSKOBI_INVALID, 9));
-    for (size_t k = 0; k < 2; k++) {
-        struct cetskobi_replica r = all[k], newcomer = all[k];
-        newcomer.epoch = 0;
-        CHECK(answers(cetskobi_write(r, NULL, 0, NULL, 0, 7, NULL, 0), CETSKOBI_REFUSED_NO_WAIT, CETSKOBI_NONE, 0, 0));
-        CHECK(answers(cetskobi_commit(r, NULL, 0, NULL, 0, 7, 0, 0, NULL, 0), 28, CETSKOBI_NONE, 0, 0));
-        CHECK(answers(cetskobi_deliver(r, MEMORY, 1, inv, NULL, 0), 28, CETSKOBI_NONE, 0, 0));
-        CHECK(answers(cetskobi_replay(r, MEMORY, 1), 28, CETSKOBI_NONE, 0, 0));
-        CHECK(answers(cetskobi_validate(r, MEMORY, 1), 28, CETSKOBI_NONE, 0, 0));
-        CHECK(answers(cetskobi_resend(r, MEMORY, 1), 28, CETSKOBI_NONE, 0, 0));
-        CHECK(answers(cetskobi_tick(r, MEMORY, 1), 28, CETSKOBI_NONE, 0, 0));
-        CHECK(cetskobi_read(r, MEMORY, 0).number == 28 && opens(cetskobi_ask(r, MEMORY, 0), 28, 0, 0, 0));
-        CHECK(admits(cetskobi_view(r, 9, 0), 28, r));
-        CHECK(admits(cetskobi_start(r.number, r.view, r.settings, MEMORY), 28, newcomer));
-        CHECK(is(waiting(CETSKOBI_INVALID, 9)) && store[0] == 7);
-    }
-}
-
 /* A table by its bytes, at an odd address; a byte too few and one too many; a state that is none. */
 static void bytes(void) {
-    static const uint8_t before[] = {1, 4, 3, 5, 4, 3, 2, 1, 8, 7, 6, 5, 0x22, 0x81, 62, 9};
-    static const uint8_t after[] = {4, 4, 2, 4, 4, 3, 2, 1, 4, 3, 2, 1, 0, 0, 62, 9};
+    static const uint8_t before[] = {1, 4, 3, 5, 4, 3, 2, 1, 8, 7, 6, 5, 0x22, 0x81, 62, OLD};
+    static const uint8_t after[] = {4, 4, 2, 4, 4, 3, 2, 1, 4, 3, 2, 1, 0, 0, 62, OLD};
     uint8_t room[1 + CETSKOBI_RECORD_BYTES + 1] = {0}, *record = room + 1;
     memcpy(record, before, sizeof before);
     CHECK(cetskobi_replay(me, record, sizeof before - 1, store, CETSKOBI_VALUE_MAX, 0).number == 2);
@@ -601,7 +519,7 @@ static void packets_by_the_rule(void) {
     packet[40] = 0;
     const struct cetskobi_entry ack = {.kind = CETSKOBI_ACK, .sender = 5, .index = 7, .version = 1, .tie = 2};
     for (int rule = 0; rule <= UINT8_MAX; rule++) {
-        struct cetskobi_settings settings = {.rule = (uint8_t)rule, .wait = WAIT};
+        struct cetskobi_settings settings = {.rule = (uint8_t)rule};
         for (int byte = 0; byte <= UINT8_MAX; byte++) {
             packet[0] = (uint8_t)byte;
             packet_answers(settings, packet, 40, of_byte_0(rule, byte));
@@ -619,14 +537,6 @@ static void packets_by_the_rule(void) {
     packet_answers(higher, packet, 40, 21);
     packet[1] = 65;
     packet_answers(lower, packet, 40, 20);
-    /* 28 stands behind them. A packet has no wait. */
-    struct cetskobi_accepted all = cetskobi_accept(of_wait(0).settings, two_messages, 40);
-    CHECK(all.number == 0 && all.count == 2 && cetskobi_fetch(of_wait(0).settings, two_messages, 40, 0).number == 0);
-    lay(fresh);
-    CHECK(cetskobi_deliver_packet(of_wait(0), MEMORY, two_messages, 40, 0).number == 28 && is(fresh));
-    CHECK(cetskobi_deliver_packet(of_wait(0), MEMORY, two_messages, 40, 2).number == 23);
-    CHECK(cetskobi_deliver_packet(of_wait(0), MEMORY, packet, 40, 0).number == 20);
-    CHECK(cetskobi_deliver_accepted(of_wait(0), MEMORY, two_messages, 40, all, 0).answer.number == 28 && is(fresh));
 }
 
 static int same_fetch(struct cetskobi_fetched f, struct cetskobi_fetched g) {
@@ -771,7 +681,7 @@ static void texts(void) {
     CHECK(says(cetskobi_state_name(CETSKOBI_INVALID_WRITE), "invalid-write"));
     CHECK(says(cetskobi_kind_name(CETSKOBI_NONE), "none") && says(cetskobi_kind_name(CETSKOBI_ACK), "ACK"));
     for (int n = 0; n <= UINT8_MAX; n++) {
-        int known = n <= CETSKOBI_REFUSED_NO_WAIT || n == CETSKOBI_REFUSED_PLAYER_ROOM;
+        int known = n <= CETSKOBI_REFUSED_OTHER_RULE || n == CETSKOBI_REFUSED_PLAYER_ROOM;
         CHECK(says(cetskobi_meaning((uint8_t)n), "unknown refusal") == !known);
         CHECK(says(cetskobi_state_name((uint8_t)n), "unknown state") == (n > CETSKOBI_REPLAY));
         CHECK(says(cetskobi_kind_name((uint8_t)n), "unknown kind") == (n > CETSKOBI_VAL));
@@ -797,12 +707,6 @@ int main(void) {
     not_taken_over(CETSKOBI_WRITE);
     not_taken_over(CETSKOBI_REPLAY);
     ending();
-    static const int some[] = {1, 2, WAIT, 254, 255};
-    for (size_t n = 0; n < sizeof some / sizeof *some; n++) {
-        ticking(some[n]);
-        counts(some[n]);
-    }
-    without_a_wait();
     bytes();
     packets();
     packets_by_the_rule();

@@ -1,4 +1,4 @@
-/* Plays the guide's worked morning with the guide's C code, then what the guide says of saves, ticks and packets.
+/* Plays the guide's worked morning with the guide's C code, then what the guide says of saves, waits and packets.
  * rust/cetskobi/tests/guide.rs does the same in Rust. Run by tests/c.sh, which takes guide_code.c out of docs/GUIDE.md. */
 #include "guide_code.c"
 #include <stdio.h>
@@ -60,8 +60,8 @@ static int carries(struct packet p, uint8_t kind, uint32_t version, uint8_t tie)
     return p.bytes[1] == 1 && m.number == 0 && m.kind == kind && m.version == version && m.tie == tie;
 }
 
-/* The ring of the morning, the group's wait, and sets. */
-enum { RING = 7, WAIT = 20 };
+/* The ring of the morning, and sets. */
+enum { RING = 7 };
 enum { SET_1 = 2, SET_2 = 4, SET_5 = 32, ALL = 38 };
 static struct hut one, two, five;
 
@@ -97,12 +97,11 @@ static struct stamp saves(struct hut *h, const char *text) {
 
 static void fresh(void) {
     CHECK(begin(&one, 1, ALL) == 0 && begin(&two, 2, ALL) == 0 && begin(&five, 5, ALL) == 0);
-    CHECK(SETTINGS.wait == WAIT);
 }
 
 /* The same of a group with this rule: of one that was formed earlier, say. */
 static void fresh_by(uint8_t rule) {
-    struct cetskobi_settings settings = {.rule = rule, .wait = WAIT};
+    struct cetskobi_settings settings = {.rule = rule};
     struct hut *huts[] = {&one, &two, &five};
     fresh();
     for (size_t k = 0; k < 3; k++) {
@@ -131,8 +130,7 @@ static void a_worked_morning(void) {
     CHECK(cetskobi_validate(two.me, LENT(&two), RING).number == 15);
 
     /* Sent again, both hear it, and 2 finishes; 1 does not hear that. */
-    ticks(&two, WAIT - 1);
-    ticks(&one, WAIT - 1);
+    ticks(&two, 7);
     silent();
     tick(&two);
     inv = sent(SET_1 | SET_5);
@@ -151,51 +149,39 @@ static void a_worked_morning(void) {
     /* 1's ringer would save over what she saw. Her text is kept, and once the other's is shown, it says more than hers. */
     CHECK(saves_over(&one, &seen_at_one, "robin", &none) == 26);
     CHECK(open_ring(&one, seen_at_one.ring, &seen_at_one) == 6 && has(&seen_at_one, "", 0, 1));
-    /* By its next tick it has waited long enough, and takes the save over. */
-    tick(&one);
-    inv = sent(SET_2 | SET_5);
-    CHECK(carries(inv, CETSKOBI_INV, 1, 2) && is(&one, CETSKOBI_REPLAY, 1, 2, 0));
-    came(&two, inv);
-    came(&one, sent(SET_1));
-    came(&five, inv);
-    came(&one, sent(SET_1));
-    val = sent(SET_2 | SET_5);
-    CHECK(carries(val, CETSKOBI_VAL, 1, 2) && is(&one, CETSKOBI_VALID, 1, 2, SET_2 | SET_5));
-    CHECK(cetskobi_deliver_packet(two.me, LENT(&two), val.bytes, val.len, 0).number == 14 && shows(&two, "robin, wing 73"));
-    CHECK(open_ring(&one, RING, &seen_at_one) == 0 && has(&seen_at_one, "robin, wing 73", 1, 2));
+    ticks(&two, 8);
+    val = sent(SET_1 | SET_5);
+    came(&one, val);
+    silent();
+    CHECK(is(&one, CETSKOBI_VALID, 1, 2, 0) && open_ring(&one, RING, &seen_at_one) == 0 && has(&seen_at_one, "robin, wing 73", 1, 2));
 
     /* 5 saves, only 1 hears it, and 5 dies. */
     saves(&five, "robin, wing 74");
     inv = sent(SET_1 | SET_2);
     came(&one, inv);
-    CHECK(carries(sent(SET_5), CETSKOBI_ACK, 2, 5) && is(&one, CETSKOBI_INVALID, 2, 5, SET_2 | SET_5));
+    CHECK(carries(sent(SET_5), CETSKOBI_ACK, 2, 5) && is(&one, CETSKOBI_INVALID, 2, 5, 0));
     CHECK(cetskobi_replay(one.me, LENT(&one), RING).number == 16);
 
-    /* By its ticks 1 takes the save over; 5 is missing. */
-    ticks(&one, WAIT - 1);
-    silent();
-    tick(&one);
-    inv = sent(SET_2 | SET_5);
+    /* The warden strikes it off: 1 replays, and 2 hears of the view later. */
+    CHECK(view_came(&one, 1, SET_1 | SET_2) == 0);
+    inv = sent(SET_2);
     CHECK(carries(inv, CETSKOBI_INV, 2, 5) && is(&one, CETSKOBI_REPLAY, 2, 5, 0));
+    CHECK(cetskobi_deliver_packet(two.me, LENT(&two), inv.bytes, inv.len, 0).number == 10);
+    CHECK(missed_view(&two) == 0);
     came(&two, inv);
+    silent();
+    CHECK(missed_view(&two) == 1 && is(&two, CETSKOBI_VALID, 1, 2, SET_1 | SET_5));
+    CHECK(view_came(&two, 1, SET_1 | SET_2) == 0 && is(&two, CETSKOBI_VALID, 1, 2, SET_1 | SET_5));
+    CHECK(missed_view(&two) == 0);
     came(&one, sent(SET_1));
     silent();
-    CHECK(is(&one, CETSKOBI_REPLAY, 2, 5, SET_2) && is(&two, CETSKOBI_INVALID, 2, 5, SET_1 | SET_5));
-
-    /* The warden strikes it off: 1 finishes it, and 2 hears of the view later. */
-    CHECK(view_came(&one, 1, SET_1 | SET_2) == 0);
+    ticks(&one, 8);
+    came(&two, sent(SET_2));
+    CHECK(is(&two, CETSKOBI_INVALID, 2, 5, SET_1 | SET_5));
+    came(&one, sent(SET_1));
     val = sent(SET_2);
     CHECK(carries(val, CETSKOBI_VAL, 2, 5) && is(&one, CETSKOBI_VALID, 2, 5, SET_2));
-    CHECK(cetskobi_deliver_packet(two.me, LENT(&two), val.bytes, val.len, 0).number == 10);
-    CHECK(missed_view(&two) == 0);
     came(&two, val);
-    CHECK(missed_view(&two) == 1 && view_came(&two, 1, SET_1 | SET_2) == 0 && missed_view(&two) == 0);
-    silent();
-    CHECK(is(&two, CETSKOBI_INVALID, 2, 5, SET_1 | SET_5));
-    ticks(&two, WAIT);
-    came(&one, sent(SET_1));
-    came(&two, sent(SET_2));
-    came(&one, sent(SET_1));
     silent();
     CHECK(shows(&one, "robin, wing 74") && shows(&two, "robin, wing 74"));
 
@@ -210,8 +196,6 @@ static void a_view_that_was_missed(void) {
     saves(&one, "robin");
     struct packet first = sent(SET_2);
     CHECK(view_came(&one, 4, SET_1 | SET_2) == 0);
-    silent();
-    ticks(&one, WAIT);
     struct packet second = sent(SET_2);
     struct hut *late[] = {&two, &five};
     for (size_t k = 0; k < 2; k++) {
@@ -293,7 +277,7 @@ static void a_packet_of_the_other_rule(void) {
     fresh();
     saves(&two, "robin");
     struct packet ours = sent(SET_1 | SET_5), theirs;
-    struct cetskobi_settings old = {.rule = CETSKOBI_HIGHER, .wait = WAIT};
+    struct cetskobi_settings old = {.rule = CETSKOBI_HIGHER};
     one.me = cetskobi_start(1, ALL, old, LENT(&one)).replica;
     CHECK(packet_came(&one, ours.bytes, ours.len) == 27 && is(&one, CETSKOBI_VALID, 0, 1, 0));
     saves(&one, "wren");
@@ -301,7 +285,7 @@ static void a_packet_of_the_other_rule(void) {
     CHECK(ours.bytes[0] == 2 && theirs.bytes[0] == 1);
     CHECK(packet_came(&two, theirs.bytes, theirs.len) == 27 && is(&two, CETSKOBI_WRITE, 1, 2, 0) && missed_view(&two) == 0);
     silent();
-    ticks(&two, WAIT);
+    ticks(&two, 8);
     ours = sent(SET_1 | SET_5);
     /* Started anew, with its group's rule, it takes what comes. */
     CHECK(begin(&one, 1, ALL) == 0);
@@ -337,11 +321,10 @@ static void replayed(struct packet inv) {
     CHECK(shows(&one, "two's") && shows(&five, "two's") && fate_of(&five, RING, (struct stamp){1, 5}) == REPLACED);
 }
 
-/* Only 5 has the winner's text. As long as 2 is in the view nothing helps by hand; once 2 is struck off 5 replays that text, at once and then
- * by its ticks (02, Wishes 2 and 7). */
+/* Only 5 has the winner's text. As long as 2 is in the view it waits; once 2 is struck off it replays that text (02, Wish 2). */
 static void an_overtaken_laptop_replays(void) {
     the_winner_dies();
-    ticks(&five, WAIT - 1);
+    ticks(&five, 3000);
     go_over(&five);
     silent();
     CHECK(cetskobi_read(five.me, LENT(&five), RING).number == 6 && cetskobi_write(five.me, LENT(&five), RING, NULL, 0).number == 7);
@@ -352,22 +335,10 @@ static void an_overtaken_laptop_replays(void) {
     CHECK(fate_of(&five, RING, (struct stamp){1, 5}) == REPLACED);
     /* That was lost. 1, which had heard nothing, has the view when it comes again. */
     CHECK(view_came(&one, 1, SET_1 | SET_5) == 0 && is(&one, CETSKOBI_VALID, 0, 1, 0));
+    ticks(&five, 7);
     silent();
     tick(&five);
     replayed(sent(SET_1));
-
-    /* The warden takes longer than the wait: by then 5 has handed the text on, and only 2 is missing. */
-    the_winner_dies();
-    ticks(&five, WAIT);
-    came(&one, sent(SET_1 | SET_2));
-    came(&five, sent(SET_5));
-    silent();
-    CHECK(is(&one, CETSKOBI_INVALID, 1, 2, 0) && is(&five, CETSKOBI_REPLAY, 1, 2, SET_1) && view_came(&five, 1, SET_1 | SET_5) == 0);
-    struct packet val = sent(SET_1);
-    CHECK(carries(val, CETSKOBI_VAL, 1, 2) && view_came(&one, 1, SET_1 | SET_5) == 0);
-    came(&one, val);
-    silent();
-    CHECK(shows(&one, "two's") && shows(&five, "two's"));
 
     /* 1 has the text that was overtaken, and cannot help as 5 lives. What it acknowledged is late. */
     struct packet of_five = the_winner_dies();
@@ -381,43 +352,16 @@ static void an_overtaken_laptop_replays(void) {
     CHECK(cetskobi_deliver_packet(five.me, LENT(&five), late.bytes, late.len, 0).number == 10);
     replayed(inv);
 
-    /* 5 took the view and replayed nothing. Its ticks find the record. */
+    /* 5 took the view and replayed nothing, as with an engine without Wish 2. Its clock is gone; going over once finds the record. */
     the_winner_dies();
     CHECK(view_came(&one, 1, SET_1 | SET_5) == 0);
     five.me = cetskobi_view(five.me, 1, SET_1 | SET_5).replica;
-    ticks(&five, WAIT - 1);
+    memset(five.ticks, 0, sizeof five.ticks);
+    ticks(&five, 3000);
     silent();
     CHECK(is(&five, CETSKOBI_INVALID_WRITE, 1, 2, 0));
-    tick(&five);
+    go_over(&five);
     replayed(sent(SET_1));
-}
-
-/* 1 takes 2's save over and shows it; 2, which 1 acknowledged before, does not hear that. Then 5, which 2 still waits for, is struck off. 2 asks
- * 1 again and again, and counts nothing new: no tick cures this, and going over does. */
-static void ticks_do_not_finish_what_was_not_gone_over(void) {
-    fresh();
-    saves(&two, "robin");
-    came(&one, sent(SET_1 | SET_5));
-    came(&two, sent(SET_2));
-    ticks(&one, WAIT);
-    struct packet inv = sent(SET_2 | SET_5);
-    came(&two, inv);
-    came(&one, sent(SET_1));
-    came(&five, inv);
-    came(&one, sent(SET_1));
-    sent(SET_2 | SET_5);
-    CHECK(view_came(&one, 1, SET_1 | SET_2) == 0 && shows(&one, "robin"));
-    two.me = cetskobi_view(two.me, 1, SET_1 | SET_2).replica;
-    for (int n = 0; n < 50; n++) {
-        ticks(&one, WAIT);
-        ticks(&two, WAIT);
-        came(&one, sent(SET_1));
-        came(&two, sent(SET_2));
-        silent();
-        CHECK(is(&two, CETSKOBI_WRITE, 1, 2, SET_1));
-    }
-    go_over(&two);
-    CHECK(carries(sent(SET_1), CETSKOBI_VAL, 1, 2) && shows(&two, "robin"));
 }
 
 /* 1's ringer opens the ring and measures the bird; 2's save comes between. Hers is refused, and kept: she sees both texts, and saves what
@@ -520,27 +464,14 @@ static void waits(void) {
     fresh();
     saves(&two, "robin");
     struct packet inv = sent(SET_1 | SET_5);
-    leaves_at(&two, (const int[]){20, 40, 60, 80, 100, 120, 0}, 130);
+    leaves_at(&two, (const int[]){8, 24, 56, 88, 120, 0}, 130);
     came(&one, inv);
     came(&two, sent(SET_2));
     came(&five, inv);
     came(&two, sent(SET_2));
     sent(SET_1 | SET_5);
-    /* Who shows it is silent; who misses the VAL helps itself. Struck off, it is silent. */
-    leaves_at(&two, (const int[]){0}, 1000);
-    leaves_at(&one, (const int[]){20, 40, 60, 80, 100, 120, 0}, 130);
-    CHECK(is(&one, CETSKOBI_REPLAY, 1, 2, 0) && view_came(&one, 1, SET_2 | SET_5) == 0);
-    leaves_at(&one, (const int[]){0}, 1000);
-}
-
-/* So many packets are in the air, with so many messages each. */
-static void shared(const uint8_t *counts, size_t packets) {
-    CHECK(in_air == packets);
-    for (size_t n = 0; n < in_air && n < packets; n++) {
-        CHECK(air[n].bytes[1] == counts[n] && air[n].to == SET_2);
-        CHECK(air[n].len == air[n].bytes[2] * 256u + air[n].bytes[3]);
-    }
-    in_air = 0;
+    leaves_at(&two, (const int[]){8, 24, 56, 120, 248, 504, 1016, 2040, 3064, 4088, 0}, 5000);
+    leaves_at(&one, (const int[]){0}, 100);
 }
 
 static void packets_are_shared(void) {
@@ -551,17 +482,22 @@ static void packets_are_shared(void) {
     for (size_t i = 0; i < 200; i++) {
         CHECK(open_ring(&one, i, &seen) == 0 && save(&one, &seen, text, i < 20 ? sizeof text : 0, &saved) == 0);
         struct packet inv = sent(SET_2 | SET_5);
-        if (i < 20) continue; /* nobody hears these */
+        if (i < 20) continue; /* stay in state write */
         came(&two, inv);
         came(&one, sent(SET_1));
-        silent();
+        came(&five, inv);
+        came(&one, sent(SET_1));
+        sent(SET_2 | SET_5);
     }
-    /* The view finishes the 180 that waited for 5 alone; the 20 INVs go again by ticks, six full texts in a packet. */
-    static const uint8_t vals[] = {64, 64, 52}, invs[] = {6, 6, 6, 2};
+    /* 20 INVs with full texts, six in a packet, then 180 VALs: 2 and 61 share the fourth. */
+    static const uint8_t counts[] = {6, 6, 6, 63, 64, 55};
     CHECK(view_came(&one, 1, SET_1 | SET_2) == 0);
-    shared(vals, sizeof vals);
-    ticks(&one, WAIT);
-    shared(invs, sizeof invs);
+    CHECK(in_air == sizeof counts);
+    for (size_t n = 0; n < in_air && n < sizeof counts; n++) {
+        CHECK(air[n].bytes[1] == counts[n] && air[n].to == SET_2);
+        CHECK(air[n].len == air[n].bytes[2] * 256u + air[n].bytes[3]);
+    }
+    in_air = 0;
 }
 
 /* Those of the poor link. The last one dies, to which every tie goes. */
@@ -610,35 +546,38 @@ static int settled(size_t i) {
 /* 1 dies amid saves of the same rings by all three. */
 static void ticks_alone_settle_every_record(void) {
     fresh();
-    for (int now = 0; now < 3000; now++) {
-        if (now == 1901) CHECK(overtaken_by_one(&five) > 0 && overtaken_by_one(&two) > 0);
-        if (now == 2000) CHECK(view_came(&five, 1, SET_2 | SET_5) == 0);
-        if (now == 2100) CHECK(missed_view(&two) == 1 && view_came(&two, 1, SET_2 | SET_5) == 0); /* 5's messages have told it */
+    for (int now = 0; now < 6000; now++) {
+        if (now == 2000) CHECK(overtaken_by_one(&five) > 0 && view_came(&five, 1, SET_2 | SET_5) == 0);
+        if (now == 2100) {
+            CHECK(missed_view(&two) == 1); /* 5's messages have told it */
+            CHECK(overtaken_by_one(&two) > 0 && view_came(&two, 1, SET_2 | SET_5) == 0);
+        }
         a_tick(now, now < 1900 ? 3 : 2);
     }
     for (size_t i = 0; i < 30; i++) CHECK(settled(i));
     CHECK(memcmp(five.store, two.store, sizeof five.store) == 0);
 }
 
-/* The same, but the morning breaks off there. 5 and 2 take the view, and what is in the air by then is lost. From then on no packet is: as many
- * ticks as the wait settle every record. */
-static void one_wait_settles_every_record(void) {
+/* The same, but the morning breaks off there, and what is in the air is lost. 5 and 2 take the view and try nothing at first. Then each goes
+ * over once, and no packet is lost any more. */
+static void going_over_once_settles_every_record(void) {
     fresh();
     for (int now = 0; now < 1900; now++) a_tick(now, 3);
     in_air = 0;
-    for (size_t k = 0; k < 2; k++) CHECK(view_came(huts[k], 1, SET_2 | SET_5) == 0);
-    in_air = 0;
+    for (size_t k = 0; k < 2; k++) {
+        struct cetskobi_admission a = cetskobi_view(huts[k]->me, 1, SET_2 | SET_5);
+        CHECK(a.number == 0);
+        huts[k]->me = a.replica;
+    }
     size_t open = 0;
     for (size_t i = 0; i < 30; i++) open += !settled(i);
     CHECK(open > 0);
-    for (int n = 0; n < WAIT; n++) {
-        for (size_t k = 0; k < 2; k++) tick(huts[k]);
-        while (in_air > 0) {
-            struct packet p = air[0];
-            memmove(air, air + 1, --in_air * sizeof *air);
-            for (size_t k = 0; k < 2; k++)
-                if (p.to >> huts[k]->me.number & 1) came(huts[k], p);
-        }
+    for (size_t k = 0; k < 2; k++) go_over(huts[k]);
+    while (in_air > 0) {
+        struct packet p = air[0];
+        memmove(air, air + 1, --in_air * sizeof *air);
+        for (size_t k = 0; k < 2; k++)
+            if (p.to >> huts[k]->me.number & 1) came(huts[k], p);
     }
     for (size_t i = 0; i < 30; i++) CHECK(settled(i));
     CHECK(memcmp(five.store, two.store, sizeof five.store) == 0);
@@ -651,13 +590,12 @@ int main(void) {
     two_saves_at_once(CETSKOBI_LOWER, &two, &five);
     a_packet_of_the_other_rule();
     an_overtaken_laptop_replays();
-    ticks_do_not_finish_what_was_not_gone_over();
     a_save_since_the_ring_was_opened();
     a_save_that_waits_for_a_struck_off_laptop();
     a_save_that_waits_at_a_struck_off_laptop();
     waits();
     packets_are_shared();
     ticks_alone_settle_every_record();
-    one_wait_settles_every_record();
+    going_over_once_settles_every_record();
     return failed;
 }

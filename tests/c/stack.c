@@ -11,9 +11,9 @@ enum { STACK = 1 << 20, PAINT = 0xa5, SCRIPT = 65536, PRINTED = 25 * SCRIPT + 2 
 /* Two records are saved. */
 enum { COUNT = CETSKOBI_COUNT_MAX, LAST = COUNT - 1, OPEN = LAST - 1 };
 
-static struct cetskobi_replica me = {.number = 2, .settings = {.rule = CETSKOBI_LOWER, .wait = 1}, .view = 38, .epoch = 0};
+static struct cetskobi_replica me = {.number = 2, .settings = {.rule = CETSKOBI_LOWER}, .view = 38, .epoch = 0};
 /* After laptop 5 was struck off. */
-static const struct cetskobi_replica later = {.number = 2, .settings = {.rule = CETSKOBI_LOWER, .wait = 1}, .view = 6, .epoch = 1};
+static const struct cetskobi_replica later = {.number = 2, .settings = {.rule = CETSKOBI_LOWER}, .view = 6, .epoch = 1};
 static uint8_t table[COUNT * CETSKOBI_RECORD_BYTES], store[COUNT * CETSKOBI_VALUE_MAX];
 static const uint8_t text[CETSKOBI_VALUE_MAX];
 static struct cetskobi_entry entries[CETSKOBI_MESSAGES_MAX];
@@ -57,12 +57,6 @@ static void resend(void) {
     number = cetskobi_resend(LENT, LAST).number;
 }
 
-/* Of a record that waits: with a wait of 1 every tick sends its INV. */
-static void tick(void) {
-    struct cetskobi_answer inv = cetskobi_tick(LENT, LAST);
-    number = inv.number | (inv.kind != CETSKOBI_INV);
-}
-
 /* By laptop 1 both saves; by 5, the last, one of them, whose VAL leaves. */
 static void acknowledged(void) {
     struct cetskobi_message ack = {.kind = CETSKOBI_ACK, .sender = 1, .tie = 2, .epoch = 0, .version = 1};
@@ -101,14 +95,6 @@ static void invalidated(void) {
 
 static void replay(void) {
     number = cetskobi_replay(later, MEMORY, 0).number;
-}
-
-/* The same for record 1, whose last writer is in the view. */
-static void tick_replay(void) {
-    struct cetskobi_message inv = {.kind = CETSKOBI_INV, .sender = 5, .tie = 5, .epoch = 0, .version = 7};
-    number = cetskobi_deliver(LENT, 1, inv, text, sizeof text).number;
-    struct cetskobi_answer left = cetskobi_tick(LENT, 1);
-    number |= left.number | (left.kind != CETSKOBI_INV);
 }
 
 /* The most messages, in the most bytes. */
@@ -186,7 +172,6 @@ int main(int argc, char **argv) {
         {"body", body, CETSKOBI_STACK},
         {"recipients", recipients, CETSKOBI_STACK},
         {"resend", resend, CETSKOBI_STACK},
-        {"tick", tick, CETSKOBI_STACK},
         {"deliver, ACK", acknowledged, CETSKOBI_STACK},
         {"validate", validate, CETSKOBI_STACK},
         {"read", shown, CETSKOBI_STACK},
@@ -194,7 +179,6 @@ int main(int argc, char **argv) {
         {"commit", commit, CETSKOBI_STACK},
         {"deliver, INV", invalidated, CETSKOBI_STACK},
         {"replay", replay, CETSKOBI_STACK},
-        {"tick, replay", tick_replay, CETSKOBI_STACK},
         {"pack", pack, CETSKOBI_STACK},
         {"fetch", fetch, CETSKOBI_STACK},
         {"deliver_packet", deliver_packet, CETSKOBI_STACK},

@@ -1,7 +1,6 @@
 -- What left a call, packed and delivered from the packet, is the delivery of the message that left.
 use Prim.Native.Nat.{ℕ, zero, suc, ◌+◌, ◌*◌, ◌<◌}
 use mathlib.Core.Path.{◌≡◌, refl, sym, ap, subst, ◌∙◌}
-use mathlib.Core.Logic.{◌⊎◌, inl, inr}
 use mathlib.Core.Bool.{Bool, true, false}
 use mathlib.Core.List.{List, [], ◌∷◌, ◌++◌, append_assoc}
 use native.Mathlib.Omega.{arith}
@@ -20,13 +19,12 @@ use Rattle.hermes.specs.declared.event.Replica.{Replica}
 use Rattle.hermes.specs.declared.event.Answer.{Answer}
 use Rattle.hermes.specs.declared.event.Answer.TheVariants.{Accepted, Refused}
 use Rattle.hermes.specs.declared.event.Event.{Event}
-use Rattle.hermes.specs.declared.event.Event.TheVariants.{Read, Ask, Write, Commit, Replay, Deliver, Validate, Resend, Tick}
+use Rattle.hermes.specs.declared.event.Event.TheVariants.{Read, Ask, Write, Commit, Replay, Deliver, Validate, Resend}
 use Rattle.hermes_record.specs.Order.{ties, later}
 use Rattle.hermes.specs.Settings.{under}
 use Rattle.hermes.specs.Kind.{message_of}
 use Rattle.hermes.proofs.Kind.{message-back}
-use Rattle.hermes.proofs.Steps.{tick-does}
-use Rattle.hermes.specs.Event.{sent_by, send, step, deliver_step, inv_step, ack_step, completes, resent}
+use Rattle.hermes.specs.Event.{sent_by, step, deliver_step, inv_step, ack_step, completes, resent}
 use Rattle.hermes.specs.Node.{Node, Outcome, record_of, leaving, apply}
 use Rattle.hermes.specs.Run.{Logged, logged}
 use Rattle.hermes.proofs.Apply.{Applied, refused, accepted, applied}
@@ -77,10 +75,6 @@ module _ (me : Replica) (i : ℕ) (r : Record) (v : List ℕ) where
       go false = tt
   delivered sender (Val t) = tt
 
-  ticked : (o : Outgoing) → (o ≡ None) ⊎ (o ≡ send me i (Inv r.timestamp)) → Headed me i o
-  ticked o (inl e) = rw e tt
-  ticked o (inr e) = rw e refl
-
   headed : (e : Event) → Headed me i (step ties me i r e v).sent
   headed Read = tt
   headed Ask = tt
@@ -90,7 +84,6 @@ module _ (me : Replica) (i : ℕ) (r : Record) (v : List ℕ) where
   headed (Deliver m) = delivered m.sender m.message
   headed Validate = refl
   headed Resend = again r.state r.timestamp
-  headed Tick = ticked _ (tick-does ties me i r v).sends
 
 -- the answer crosses as this message, and the log has it with its header and the bytes that it takes along
 record Crosses (me : Replica) (i : ℕ) (a : Answer) (n : Node) (x : Logged) : Type 0 where

@@ -14,7 +14,7 @@ use Rattle.hermes.specs.declared.event.Answer.TheVariants.{Accepted, Refused}
 use Rattle.hermes.specs.declared.event.Admission.{Admission}
 use Rattle.hermes.specs.declared.event.Admission.TheVariants as admission
 use Rattle.hermes.specs.declared.event.Event.{Event}
-use Rattle.hermes.specs.declared.event.Event.TheVariants.{Read, Ask, Write, Commit, Replay, Deliver, Validate, Resend, Tick}
+use Rattle.hermes.specs.declared.event.Event.TheVariants.{Read, Ask, Write, Commit, Replay, Deliver, Validate, Resend}
 use Rattle.hermes.specs.declared.event.Moved.{Moved}
 use Rattle.hermes_record.specs.Order.{ties}
 use Rattle.hermes.specs.Store.{value_at}
@@ -45,7 +45,7 @@ use Rattle.export_accepted.specs.Arrival.{arrival_of, taken_receipt, Came}
 use Rattle.export_packets.proofs.RoundTrip.{packed-for-others}
 use Rattle.export_numbers.specs.Crossing.{group_rule}
 use Rattle.check_air.specs.Air.{words_sent, bodies_sent}
-use Rattle.check_air.specs.Callers.{Laptop, node, FromAir, read, ask, write, commit, replay, deliver, deliver_packet, deliver_accepted, validate, resend, tick, view, Moves, Returns, Broken, Untaken, validates, acknowledges}
+use Rattle.check_air.specs.Callers.{Laptop, node, FromAir, read, ask, write, commit, replay, deliver, deliver_packet, deliver_accepted, validate, resend, view, Moves, Returns, Broken, Untaken, validates, acknowledges}
 use Rattle.check_air.specs.Answered.{call_number, ask_answer, after_event, after_taken, after_call, EveryCallMayFollow, EveryCallFinishes, EveryCallAnswers}
 use Rattle.check_air.proofs.Callers.{number-out, is_found}
 
@@ -153,7 +153,6 @@ every-call-answers (deliver_packet p i) l = arrives l p i
 every-call-answers (deliver_accepted p a i) l = takes l p a i
 every-call-answers (validate i) l = moves l i Validate []
 every-call-answers (resend i) l = moves l i Resend []
-every-call-answers (tick i) l = moves l i Tick []
 every-call-answers (view epoch set) l = views l epoch set
 
 -- a broken packet's own facts
@@ -187,7 +186,6 @@ every-call-may-follow issued log rule = record {
   unaccepted = λ p i h. inr (untaken rule p i h);
   validations = λ i. tt;
   resends = λ i. tt;
-  ticks = λ i. tt;
   views = λ epoch. refl;
 }
 

@@ -17,7 +17,7 @@ use Rattle.hermes.specs.declared.event.Admission.TheVariants as admission
 use Rattle.hermes.specs.declared.event.Replica.{Replica}
 use Rattle.hermes.specs.declared.event.Settings.{Settings}
 use Rattle.hermes.specs.declared.event.Event.{Event}
-use Rattle.hermes.specs.declared.event.Event.TheVariants.{Read, Ask, Write, Commit, Replay, Deliver, Validate, Resend, Tick}
+use Rattle.hermes.specs.declared.event.Event.TheVariants.{Read, Ask, Write, Commit, Replay, Deliver, Validate, Resend}
 use Rattle.hermes.specs.declared.message.Outgoing.{Outgoing}
 use Rattle.hermes.specs.declared.message.Outgoing.TheVariants.{None, Sent}
 use Rattle.hermes.specs.declared.message.Message.{Message}
@@ -65,7 +65,7 @@ use Rattle.export_arrival.specs.Arrival.{numbers_of}
 use Rattle.export_accepted.specs.Arrival.{Delivered, taken_receipt}
 use Rattle.export_numbers.specs.Crossing.{group_rule}
 use Rattle.export_accepted.proofs.OnePass.{own-receipt}
-use Rattle.check_air.specs.Callers.{Laptop, node, Call, read, ask, write, commit, replay, deliver, deliver_packet, deliver_accepted, validate, resend, tick, view, Moves, Returns, Hut, Turn, outcome, log_of, next, after, FromAir, Fair, Follows, Begun, AllBegun, laptop, Delivers, Finishes, validates, acknowledges, CallsAgree, CalledDemand3}
+use Rattle.check_air.specs.Callers.{Laptop, node, Call, read, ask, write, commit, replay, deliver, deliver_packet, deliver_accepted, validate, resend, view, Moves, Returns, Hut, Turn, outcome, log_of, next, after, FromAir, Fair, Follows, Begun, AllBegun, laptop, Delivers, Finishes, validates, acknowledges, CallsAgree, CalledDemand3}
 use Rattle.check_air.proofs.Air.{found_left}
 
 -- ---- the log
@@ -106,7 +106,6 @@ action issued log rule (deliver_accepted p a i) (inl (packing, f)) = taken-actio
 action issued log rule (deliver_accepted p a i) (inr f) = run.deliver (length log)
 action issued log rule (validate i) f = run.validate i
 action issued log rule (resend i) f = run.resend i
-action issued log rule (tick i) f = run.tick i
 action issued log rule (view epoch set) f = run.view epoch set
 
 as-issued : (issued : ℕ → ℕ) (log : List Logged) (rule : Rule) (c : Call) (f : Fair issued log rule c) → AsIssued issued (action issued log rule c f)
@@ -128,7 +127,6 @@ as-issued issued log rule (deliver_accepted p a i) (inl (packing, f)) = by (take
 as-issued issued log rule (deliver_accepted p a i) (inr f) = tt
 as-issued issued log rule (validate i) f = tt
 as-issued issued log rule (resend i) f = tt
-as-issued issued log rule (tick i) f = tt
 as-issued issued log rule (view epoch set) f = f
 
 -- the entry does what the call's event comes to
@@ -218,7 +216,6 @@ module _ (issued : ℕ → ℕ) (log : List Logged) where
   does (deliver_accepted p a i) n (inr f) = nothing-does log n f.number (taken_receipt n p (taken p (accepted_in a) i)) (ap (taken_receipt n p) f.refused)
   does (validate i) n f = event-does log n (run.validate i) _ refl
   does (resend i) n f = event-does log n (run.resend i) _ refl
-  does (tick i) n f = event-does log n (run.tick i) _ refl
   does (view epoch set) n f = event-does log n (run.view epoch set) _ refl
 
 -- the laptop that a call leaves is the one that its event leaves
@@ -245,7 +242,7 @@ receipt-keeps n p (fetch.Refused k) = refl
 
 -- an identity that went out comes back: its rule has a number
 pub replica-back : (x : Replica) → replica_of (identity_of x) ≡ x
-replica-back x = ap (λ (r : Rule). record { number = x.number; epoch = x.epoch; view = x.view; settings = record { rule = r; wait = x.settings.wait } }) (back x.settings.rule)
+replica-back x = ap (λ (r : Rule). record { number = x.number; epoch = x.epoch; view = x.view; settings = record { rule = r } }) (back x.settings.rule)
   where
     back : (r : Rule) → crossing.rule_of (rule_number r) ≡ r
     back Higher = refl
@@ -273,7 +270,6 @@ lands (deliver_accepted p a i) l l' number (r, d, q, same) = by (taken p (accept
     by (take.Refused k) (s, t, u) = λ j. record { me = replica_of (same j); table = table_of (t j); store = u j }
 lands (validate i) l l' number r = moves l l' i Validate [] number r
 lands (resend i) l l' number r = moves l l' i Resend [] number r
-lands (tick i) l l' number r = moves l l' i Tick [] number r
 lands (view epoch set) l l' number (a, e, q, same) =
     let me : replica_of a.replica ≡ identity (hermes.view (replica_of l.me) epoch set) (replica_of l.me) =
     ap (λ (x : CetskobiAdmission). replica_of x.replica) e ∙ admits (hermes.view (replica_of l.me) epoch set) l.me in

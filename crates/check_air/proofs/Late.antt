@@ -17,7 +17,7 @@ use Rattle.hermes.specs.declared.message.Message.TheVariants.{Inv, Ack, Val}
 use Rattle.hermes.specs.declared.event.Replica.{Replica}
 use Rattle.hermes.specs.declared.event.Settings.{Settings}
 use Rattle.hermes.specs.declared.event.Event.{Event}
-use Rattle.hermes.specs.declared.event.Event.TheVariants.{Read, Ask, Write, Commit, Replay, Deliver, Validate, Resend, Tick}
+use Rattle.hermes.specs.declared.event.Event.TheVariants.{Read, Ask, Write, Commit, Replay, Deliver, Validate, Resend}
 use Rattle.hermes_record.specs.Order.{TieOrder, ties, later, same_timestamp, NotAfter, equal, rises}
 use Rattle.hermes_record.proofs.Tests.{both}
 use Rattle.hermes_record.proofs.Order.{ties-order, same-equal, greater-later, later-apart, not_after-trans, not_after-antisym}
@@ -30,7 +30,7 @@ use Rattle.hermes.specs.Node.{Node, Outcome, record_of, apply, viewed}
 use Rattle.hermes.specs.Frame.{bytes_after, Changed}
 use Rattle.hermes.proofs.Frame.{view-frame}
 use Rattle.hermes.proofs.Guards.{slot-fits}
-use Rattle.hermes.proofs.Steps.{next-version, tick-does}
+use Rattle.hermes.proofs.Steps.{next-version}
 use Rattle.hermes.proofs.Store.{slot-elsewhere, value-slot}
 use Rattle.hermes.proofs.Apply.{step_of, done, first-five, its_own, Applied, refused, accepted, applied}
 use Rattle.packet_format.specs.declared.answer.Fetched.{Fetched}
@@ -48,7 +48,7 @@ use Rattle.export_numbers.specs.Crossing.{received_in}
 use Rattle.export_calls.specs.Calls.{node_of}
 use Rattle.export_outgoing.specs.Leaving.{Along, along, gone, along_if, stamp_of, holds, along_of, AlongAt}
 use Rattle.export_outgoing.proofs.Sent.{nothing-along, asked-body}
-use Rattle.check_air.specs.Callers.{Laptop, node, Call, read, ask, write, commit, replay, deliver, deliver_packet, deliver_accepted, validate, resend, tick, view, Hut, Turn, Returns, outcome, next, after, Follows, laptop}
+use Rattle.check_air.specs.Callers.{Laptop, node, Call, read, ask, write, commit, replay, deliver, deliver_packet, deliver_accepted, validate, resend, view, Hut, Turn, Returns, outcome, next, after, Follows, laptop}
 use Rattle.check_air.specs.Late.{OneText, LateIsCalled}
 use Rattle.check_air.proofs.Callers.{lands}
 use Rattle.check_air.proofs.Answered.{own-length}
@@ -127,7 +127,6 @@ module _ (me : Replica) (k : ℕ) (r : Record) (v : List ℕ) where
   steps (Deliver m) y = delivered m.sender m.message
   steps Validate y = inl (refl, refl, refl)
   steps Resend y = inl (refl, refl, refl)
-  steps Tick y = let d = tick-does ties me k r v in inl (d.stamp, d.len, d.stays)
 
 -- an event on record k, as record i sees it
 event-since : (i : ℕ) (n : Node) (k : ℕ) (e : Event) (v : List ℕ) → Since i n (apply ties n k e v).node
@@ -186,7 +185,6 @@ module _ (i : ℕ) where
   call-since (deliver_accepted p a k) n = taken-since n p (taken p (accepted_in a) k)
   call-since (validate k) n = event-since i n k Validate []
   call-since (resend k) n = event-since i n k Resend []
-  call-since (tick k) n = event-since i n k Tick []
   call-since (view epoch set) n = stays i n _ (view_fixes n epoch set) refl refl refl
 
   module _ (k : ℕ) where

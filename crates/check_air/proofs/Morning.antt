@@ -38,7 +38,7 @@ use Rattle.check_air.specs.Air.{Sending, words_sent, bodies_sent, Leaves, Called
 use Rattle.check_air.specs.Callers.{Laptop, node, laptop, Broken, Untaken, AsNumbers, Begun, AllBegun, Hut, Fair, Follows, FromAir, next, after, validates, acknowledges}
 use Rattle.check_air.specs.Callers as callers
 use Rattle.export_numbers.specs.Crossing.{group_rule}
-use Rattle.check_air.specs.Morning.{val, val_numbers, inv2, ack2, val2, inv3, ack3, val3, three, issued, lent_table, lent_store, fresh, hut, inv, ack, packet_by, packet_of, Plan, turn, plans, turns_of, morning, a1, asking, committing, by, Morning}
+use Rattle.check_air.specs.Morning.{val, val_numbers, inv2, ack2, val2, three, issued, lent_table, lent_store, fresh, hut, inv, ack, packet_by, packet_of, Plan, turn, plans, turns_of, morning, a1, asking, committing, by, Morning}
 use Rattle.check_air.specs.Answered.{ask_answer, after_event, after_call}
 use Rattle.check_air.specs.Opened as callers-opened
 use Rattle.check_air.specs.Opened.{Hands, CallsApart, CallsOpened}
@@ -51,9 +51,9 @@ admitted k = record { number = 0; replica = identity_of (newcomer k 7 new_settin
 
 begins : (k : ℕ) → three k ≡ true → Begun 1 issued new_settings k (fresh k)
 unfolding start has size lowest decode table_of
-begins zero e = record { given = record { rule = 2; wait = 3 }; fixed = refl; table = lent_table; store = lent_store; records = refl; admission = admitted 0; started = record { admission = refl; bytes = refl; table = refl; store = refl }; accepted = refl; identity = refl }
-begins (suc zero) e = record { given = record { rule = 2; wait = 3 }; fixed = refl; table = lent_table; store = lent_store; records = refl; admission = admitted 1; started = record { admission = refl; bytes = refl; table = refl; store = refl }; accepted = refl; identity = refl }
-begins (suc (suc zero)) e = record { given = record { rule = 2; wait = 3 }; fixed = refl; table = lent_table; store = lent_store; records = refl; admission = admitted 2; started = record { admission = refl; bytes = refl; table = refl; store = refl }; accepted = refl; identity = refl }
+begins zero e = record { given = record { rule = 2 }; fixed = refl; table = lent_table; store = lent_store; records = refl; admission = admitted 0; started = record { admission = refl; bytes = refl; table = refl; store = refl }; accepted = refl; identity = refl }
+begins (suc zero) e = record { given = record { rule = 2 }; fixed = refl; table = lent_table; store = lent_store; records = refl; admission = admitted 1; started = record { admission = refl; bytes = refl; table = refl; store = refl }; accepted = refl; identity = refl }
+begins (suc (suc zero)) e = record { given = record { rule = 2 }; fixed = refl; table = lent_table; store = lent_store; records = refl; admission = admitted 2; started = record { admission = refl; bytes = refl; table = refl; store = refl }; accepted = refl; identity = refl }
 begins (suc (suc (suc k))) e = absurd (omega (arith, ltb-true (suc (suc (suc k))) 3 e))
 
 -- the messages that left, as the run of a group logs them
@@ -74,15 +74,6 @@ ack2_logged = record { header = record { sender = 0; epoch = 1; index = 0 }; mes
 
 abbrev val2_logged : Logged
 val2_logged = record { header = record { sender = 1; epoch = 1; index = 0 }; message = Val (record { version = 2; tie = 1 }); body = [] }
-
-abbrev inv3_logged : Logged
-inv3_logged = record { header = record { sender = 1; epoch = 1; index = 0 }; message = Inv (record { version = 3; tie = 1 }); body = 67 ∷ [] }
-
-abbrev ack3_logged : Logged
-ack3_logged = record { header = record { sender = 0; epoch = 1; index = 0 }; message = Ack (record { version = 3; tie = 1 }); body = [] }
-
-abbrev val3_logged : Logged
-val3_logged = record { header = record { sender = 1; epoch = 1; index = 0 }; message = Val (record { version = 3; tie = 1 }); body = [] }
 
 -- the calls that they left: each on a laptop, with an event and a value
 record Leaving (x : Logged) (s : Sending) (l : Laptop) (e : Event) (v : List ℕ) : Type 0 where
@@ -187,19 +178,6 @@ ack2-numbers = record { message = ack2_logged; earlier = fifth (Memᴰ.tail (Mem
 val2-numbers : AsNumbers (inv_logged ∷ ack_logged ∷ val_logged ∷ val_logged ∷ inv2_logged ∷ ack2_logged ∷ val2_logged ∷ []) 0 val2 []
 val2-numbers = record { message = val2_logged; earlier = fifth (Memᴰ.tail (Memᴰ.tail (Memᴰ.head refl))); index = refl; same = refl; bytes = refl }
 
--- those of its next one: what the tick sent stands behind what the write sent
-eighth : {x : Logged} {more : List Logged} → Memᴰ x more → Memᴰ x (inv_logged ∷ ack_logged ∷ val_logged ∷ val_logged ∷ inv2_logged ∷ ack2_logged ∷ val2_logged ∷ inv3_logged ∷ more)
-eighth m = fifth (Memᴰ.tail (Memᴰ.tail (Memᴰ.tail (Memᴰ.tail m))))
-
-inv3-numbers : AsNumbers (inv_logged ∷ ack_logged ∷ val_logged ∷ val_logged ∷ inv2_logged ∷ ack2_logged ∷ val2_logged ∷ inv3_logged ∷ inv3_logged ∷ []) 0 inv3 (67 ∷ [])
-inv3-numbers = record { message = inv3_logged; earlier = eighth (Memᴰ.head refl); index = refl; same = refl; bytes = refl }
-
-ack3-numbers : AsNumbers (inv_logged ∷ ack_logged ∷ val_logged ∷ val_logged ∷ inv2_logged ∷ ack2_logged ∷ val2_logged ∷ inv3_logged ∷ inv3_logged ∷ ack3_logged ∷ []) 0 ack3 []
-ack3-numbers = record { message = ack3_logged; earlier = eighth (Memᴰ.tail (Memᴰ.head refl)); index = refl; same = refl; bytes = refl }
-
-val3-numbers : AsNumbers (inv_logged ∷ ack_logged ∷ val_logged ∷ val_logged ∷ inv2_logged ∷ ack2_logged ∷ val2_logged ∷ inv3_logged ∷ inv3_logged ∷ ack3_logged ∷ val3_logged ∷ []) 0 val3 []
-val3-numbers = record { message = val3_logged; earlier = eighth (Memᴰ.tail (Memᴰ.tail (Memᴰ.head refl))); index = refl; same = refl; bytes = refl }
-
 broken : Broken Lower (1 ∷ 1 ∷ 0 ∷ []) 0
 unfolding fetched fetch_refusal walk
 broken = record { number = 20; refused = refl }
@@ -230,7 +208,7 @@ follow h (t ∷ rest) m (fair, f) =
 fair : AllFair hut plans
 unfolding has size lowest within others_in with later same_timestamp padded place refusal effect start apply view viewed good entry_bytes walk fetch_refusal fetched accept_refusal accepted take_refusal taken summed contents packet_bytes all_good write_refusal packet_written output_of entry_in word_messages receipt decode table_of
 fair =
-    (tt, (tt, (tt, (tt, (inl inv-came, (inr broken, (inr untaken, (tt, (inl (Lower, ack-came), (tt, (refl, (tt, (tt, (tt, (refl, (refl, (inl (Lower, val-came), (inl val-numbers, (inr refl, (tt, (tt, (tt, (tt, (tt, (tt, (inl inv2-numbers, (inl ack2-numbers, (inl val2-numbers, (tt, (inr of_others, (tt, (tt, (tt, (tt, (tt, (tt, (inl inv3-numbers, (inl ack3-numbers, (inl val3-numbers, tt)))))))))))))))))))))))))))))))))))))))
+    (tt, (tt, (tt, (tt, (inl inv-came, (inr broken, (inr untaken, (tt, (inl (Lower, ack-came), (tt, (refl, (tt, (tt, (tt, (refl, (refl, (inl (Lower, val-came), (inl val-numbers, (inr refl, (tt, (tt, (tt, (tt, (tt, (tt, (inl inv2-numbers, (inl ack2-numbers, (inl val2-numbers, (tt, (inr of_others, tt))))))))))))))))))))))))))))))
 
 followed : Follows three issued hut morning
 unfolding members
@@ -292,8 +270,6 @@ morning-holds = record {
   shown = refl;
   by_validate = record { split = refl; finishes = validates refl; number = refl; then = refl; shown = refl };
   by_ack = record { split = refl; finishes = acknowledges tt (record { version = 2; tie = 1 }) refl; number = refl; then = refl; shown = refl };
-  by_tick = record { split = refl; finishes = acknowledges tt (record { version = 3; tie = 1 }) refl; number = refl; then = refl; shown = refl };
-  urged = refl;
   asked = asked;
   saves = saves;
   stamp_kept = kept.0;

@@ -5,7 +5,7 @@ use Rattle.hermes_record.specs.declared.timestamp.Timestamp.{Timestamp}
 use Rattle.hermes_record.specs.declared.timestamp.Rule.{Rule}
 use Rattle.hermes.specs.declared.message.Message.TheVariants.{Val}
 use Rattle.hermes.specs.declared.event.Event.{Event}
-use Rattle.hermes.specs.declared.event.Event.TheVariants.{Write, Commit, Replay, Deliver, Validate, Resend, Tick}
+use Rattle.hermes.specs.declared.event.Event.TheVariants.{Write, Commit, Replay, Deliver, Validate, Resend}
 use Rattle.hermes_record.specs.Order.{ties}
 use Rattle.hermes.specs.Kind.{known}
 use Rattle.hermes.specs.Event as event
@@ -27,7 +27,7 @@ use Rattle.export_fields.specs.Answers.{accepted_in}
 use Rattle.export_packets.specs.Calls.{accept_answer}
 use Rattle.export_arrival.specs.Arrival.{numbers_of, bytes_arrived}
 use Rattle.export_numbers.specs.Crossing.{group_rule}
-use Rattle.check_air.specs.Callers.{Laptop, node, Call, read, ask, write, commit, replay, deliver, deliver_packet, deliver_accepted, validate, resend, tick, view, Returns, outcome, FromAir, Broken, AsNumbers, Fair, Finishes}
+use Rattle.check_air.specs.Callers.{Laptop, node, Call, read, ask, write, commit, replay, deliver, deliver_packet, deliver_accepted, validate, resend, view, Returns, outcome, FromAir, Broken, AsNumbers, Fair, Finishes}
 
 -- the number of the answer
 abbrev pub call_number : Call → Laptop → ℕ
@@ -71,7 +71,6 @@ after_call (deliver_packet p i) l = record {
 after_call (deliver_accepted p a i) l = after_taken l p (taken p (accepted_in a) i)
 after_call (validate i) l = after_event l i Validate []
 after_call (resend i) l = after_event l i Resend []
-after_call (tick i) l = after_event l i Tick []
 after_call (view epoch set) l = record {
   me = (admission_out (hermes.view (replica_of l.me) epoch set) l.me).replica;
   table = l.table;
@@ -96,7 +95,6 @@ pub record AnyCall (issued : ℕ → ℕ) (log : List Logged) (rule : Rule) : Ty
   pub unaccepted : (p : List ℕ) (i : ℕ) → Broken rule p i → Fair issued log rule (deliver_accepted p (accept_answer rule p) i)
   pub validations : (i : ℕ) → Fair issued log rule (validate i)
   pub resends : (i : ℕ) → Fair issued log rule (resend i)
-  pub ticks : (i : ℕ) → Fair issued log rule (tick i)
   pub views : (epoch : ℕ) → Fair issued log rule (view epoch (issued epoch))
 
 abbrev pub EveryCallMayFollow : Type 0

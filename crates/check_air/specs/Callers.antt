@@ -6,7 +6,7 @@ use Rattle.hermes_record.specs.declared.timestamp.Rule.{Rule}
 use Rattle.hermes.specs.declared.message.Message.TheVariants.{Val}
 use Rattle.hermes.specs.declared.event.Settings.{Settings}
 use Rattle.hermes.specs.declared.event.Event.{Event}
-use Rattle.hermes.specs.declared.event.Event.TheVariants.{Read, Ask, Write, Commit, Replay, Deliver, Validate, Resend, Tick}
+use Rattle.hermes.specs.declared.event.Event.TheVariants.{Read, Ask, Write, Commit, Replay, Deliver, Validate, Resend}
 use Rattle.hermes_record.specs.Order.{ties, NotAfter}
 use Rattle.hermes.specs.Settings.{under}
 use Rattle.hermes.specs.Kind.{known}
@@ -67,7 +67,6 @@ pub data Call : Type 0 where
   deliver_accepted : List ℕ → CetskobiAccepted → ℕ → Call
   validate : ℕ → Call
   resend : ℕ → Call
-  tick : ℕ → Call
   view : ℕ → ℕ → Call
 
 -- the number that an event's function answers, and the laptop after it. A function that is lent the store to read leaves it as it is
@@ -89,7 +88,6 @@ Returns (deliver_accepted p a i) l number l' =
     (r : CetskobiArrival) × Came (node l) l.table p (taken p (accepted_in a) i) r l'.table l'.store × (r.answer.number ≡ number) × (l'.me ≡ l.me)
 Returns (validate i) l number l' = Moves l i Validate [] number l'
 Returns (resend i) l number l' = Moves l i Resend [] number l'
-Returns (tick i) l number l' = Moves l i Tick [] number l'
 Returns (view epoch set) l number l' =
     (a : CetskobiAdmission) × (a ≡ admission_out (hermes.view (replica_of l.me) epoch set) l.me) × (a.number ≡ number)
     × (l' ≡ record { me = a.replica; table = l.table; store = l.store })
@@ -120,7 +118,6 @@ outcome (deliver_packet p i) n = receipt ties n p i
 outcome (deliver_accepted p a i) n = taken_receipt n p (taken p (accepted_in a) i)
 outcome (validate i) n = apply ties n i Validate []
 outcome (resend i) n = apply ties n i Resend []
-outcome (tick i) n = apply ties n i Tick []
 outcome (view epoch set) n = viewed n epoch set
 
 -- the messages with what left the call
@@ -184,7 +181,6 @@ Fair issued log rule (deliver_packet p i) = FromAir rule log p i ⊎ Broken rule
 Fair issued log rule (deliver_accepted p a i) = ((packing : Rule) × FromAir packing log p i) ⊎ Untaken p a i
 Fair issued log rule (validate i) = Unit
 Fair issued log rule (resend i) = Unit
-Fair issued log rule (tick i) = Unit
 Fair issued log rule (view epoch set) = set ≡ issued epoch
 
 -- each call is of a laptop of the group, which it finds as that laptop's last call left it
@@ -225,7 +221,6 @@ Delivers (deliver_packet p i) = Unit
 Delivers (deliver_accepted p a i) = Unit
 Delivers (validate i) = ⊥
 Delivers (resend i) = ⊥
-Delivers (tick i) = ⊥
 Delivers (view epoch set) = ⊥
 
 -- a call that finishes record i of laptop n: 01, "A validation is an accepted Validate step"; 02, Wish 1, "that too is a validation": a delivery

@@ -4,15 +4,14 @@ use Rattle.std.specs.Prelude.{ℕ, zero, suc, ◌≡◌, Bool, true, List, [], �
 use Rattle.hermes_record.specs.declared.timestamp.Timestamp.{Timestamp}
 use Rattle.hermes_record.specs.declared.timestamp.Rule.{Rule}
 use Rattle.hermes_record.specs.declared.timestamp.Rule.TheVariants.{Higher, Lower}
-use Rattle.hermes.specs.declared.event.Event.TheVariants.{Tick}
 use Rattle.hermes_record.specs.Order.{ties, later}
 use Rattle.hermes.specs.Settings.{under, new_settings}
-use Rattle.hermes.specs.Node.{newcomer, start, record_of, apply}
+use Rattle.hermes.specs.Node.{newcomer, start, record_of}
 use Rattle.hermes.specs.Agreement.{Sees, Shows, Alike}
 use Rattle.export_records.specs.Layout.{table_of}
 use Rattle.export_numbers.specs.declared.numbers.CetskobiMessage.{CetskobiMessage}
 use Rattle.export_numbers.specs.declared.numbers.CetskobiAsked.{CetskobiAsked}
-use Rattle.export_numbers.specs.Crossing.{identity_of, answering, answer_out}
+use Rattle.export_numbers.specs.Crossing.{identity_of, answering}
 use Rattle.export_membership.specs.Admission.{filled_by}
 use Rattle.export_packets.specs.Calls.{accept_answer, pack_answer, pack_output}
 use Rattle.check_air.specs.Air.{Sending, words_sent, bodies_sent}
@@ -31,7 +30,6 @@ use Rattle.check_air.specs.Callers.{
   deliver_accepted,
   validate,
   resend,
-  tick,
   view,
   Hut,
   Turn,
@@ -136,16 +134,6 @@ ack2 = record { kind = 2; sender = 0; tie = 1; epoch = 1; version = 2 }
 abbrev pub val2 : CetskobiMessage
 val2 = record { kind = 3; sender = 1; tie = 1; epoch = 1; version = 2 }
 
--- and those of its next one
-abbrev pub inv3 : CetskobiMessage
-inv3 = record { kind = 1; sender = 1; tie = 1; epoch = 1; version = 3 }
-
-abbrev pub ack3 : CetskobiMessage
-ack3 = record { kind = 2; sender = 0; tie = 1; epoch = 1; version = 3 }
-
-abbrev pub val3 : CetskobiMessage
-val3 = record { kind = 3; sender = 1; tie = 1; epoch = 1; version = 3 }
-
 -- numbers of no message
 abbrev pub unknown : CetskobiMessage
 unknown = record { kind = 9; sender = 0; tie = 0; epoch = 1; version = 1 }
@@ -184,15 +172,6 @@ plans =
     ∷ by 0 (deliver 0 val2 [])
     ∷ by 0 (read 0)
     ∷ by 1 (deliver_packet (packet_by Higher (inv ∷ [])) 0)  -- 27: one of a station with the old rule
-    ∷ by 0 (tick 0)  -- a valid record rests
-    ∷ by 0 (tick 1)  -- 4: there is one record
-    ∷ by 1 (write 0 (67 ∷ []))  -- C: the INV leaves, and is lost
-    ∷ by 1 (tick 0)
-    ∷ by 1 (tick 0)
-    ∷ by 1 (tick 0)  -- the wait is reached: the INV leaves again
-    ∷ by 0 (deliver 0 inv3 (67 ∷ []))  -- the ACK leaves
-    ∷ by 1 (deliver 0 ack3 [])  -- it was the last: the VAL leaves
-    ∷ by 0 (deliver 0 val3 [])
     ∷ []
 
 abbrev pub morning : List Turn
@@ -224,7 +203,7 @@ pub record Morning : Type 0 where
   pub follows : Follows three issued hut morning
   pub agrees : CallsAgree three 1 new_settings hut morning
   pub numbers : numbers_of morning
-      ≡ 0 ∷ 0 ∷ 7 ∷ 6 ∷ 0 ∷ 20 ∷ 21 ∷ 17 ∷ 0 ∷ 15 ∷ 0 ∷ 0 ∷ 0 ∷ 16 ∷ 18 ∷ 0 ∷ 0 ∷ 14 ∷ 12 ∷ 0 ∷ 0 ∷ 26 ∷ 0 ∷ 6 ∷ 26 ∷ 0 ∷ 0 ∷ 0 ∷ 0 ∷ 27 ∷ 0 ∷ 4 ∷ 0 ∷ 0 ∷ 0 ∷ 0 ∷ 0 ∷ 0 ∷ 0 ∷ []
+      ≡ 0 ∷ 0 ∷ 7 ∷ 6 ∷ 0 ∷ 20 ∷ 21 ∷ 17 ∷ 0 ∷ 15 ∷ 0 ∷ 0 ∷ 0 ∷ 16 ∷ 18 ∷ 0 ∷ 0 ∷ 14 ∷ 12 ∷ 0 ∷ 0 ∷ 26 ∷ 0 ∷ 6 ∷ 26 ∷ 0 ∷ 0 ∷ 0 ∷ 0 ∷ 27 ∷ []
   -- the premises of `alike`
   pub sees : Sees (laptop hut morning 0) 1
   pub seen : Sees (laptop hut morning 1) 0
@@ -233,9 +212,6 @@ pub record Morning : Type 0 where
   -- and those of `lasting`, of a Validate and of a last ACK
   pub by_validate : FinishedCall 11 0 (validate 0) 1
   pub by_ack : FinishedCall 26 1 (deliver 0 ack2 []) 0
-  -- Wish 7: C is heard by what 1's third tick sent, and is finished so
-  pub by_tick : FinishedCall 37 1 (deliver 0 ack3 []) 0
-  pub urged : answer_out (apply ties (laptop hut (take 35 morning) 1) 0 Tick []).answer ≡ answering 0 1 1 3
   -- Wish 5: 1 asks, by call 19, and is handed A1
   pub asked : Hands (laptop hut (take 19 morning) 1) (ask 0) 0 a1 (65 ∷ 49 ∷ [])
   -- its commit over it, by call 22, is accepted: until then it showed A1, also after the refused commit between

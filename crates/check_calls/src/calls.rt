@@ -134,10 +134,3 @@ fn resend(me: CetskobiReplica, table: &mut [u8], store: &[u8], i: usize) -> Cets
 {
     export_events::cetskobi_resend(me, table, store, i)
 }
-
-// Tick.
-fn tick(me: CetskobiReplica, table: &mut [u8], store: &[u8], i: usize) -> CetskobiAnswer
-    ensures { Returns (callers.tick i) (held me table.old store.now) result.number (held me table.new store.now) }
-{
-    export_ticking::cetskobi_tick(me, table, store, i)
-}

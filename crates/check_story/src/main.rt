@@ -77,10 +77,7 @@ fn reads(me: Replica, last: Turned, what: &[u8]) {
 
 fn main() {
     let blank = [Record::fresh(0); 1];
-    let settings = Settings {
-        rule: Rule::Lower,
-        wait: 20,
-    };
+    let settings = Settings { rule: Rule::Lower };
     let s0 = laptop::start(0, 3, settings, blank, [0; 192]);
     let a0 = s0.admission;
     let Admission::Admitted(zero) = a0 else {

@@ -12,7 +12,7 @@ use Rattle.hermes_record.specs.declared.record.Record.{Record}
 use Rattle.hermes.specs.declared.event.Answer.TheVariants as answer
 use Rattle.hermes.specs.declared.event.Replica.{Replica}
 use Rattle.hermes.specs.declared.event.Event.{Event}
-use Rattle.hermes.specs.Guards.{Question, ask, first_no, question1, question2, question3, question4, question5, question28}
+use Rattle.hermes.specs.Guards.{Question, ask, first_no, question1, question2, question3, question4, question5}
 use Rattle.hermes_record.specs.Record.{fresh_record}
 use Rattle.hermes.specs.Event.{own, refusal, moved, effect}
 use Rattle.hermes.specs.Node.{record_at, apply}
@@ -31,7 +31,7 @@ use Rattle.export_numbers.specs.declared.numbers.CetskobiAnswer.{CetskobiAnswer}
 use Rattle.export_numbers.specs.Crossing.{replica_of, answer_out}
 use Rattle.export_calls.specs.Calls.{node_of, with_record, beginning, Done}
 
--- the beginning, by what its parts gave: a no of questions 28 and 1 to 4, or what was found
+-- the beginning, by what its parts gave: a no of questions 1 to 4, or what was found
 module _ (me : Replica) (bytes : List ℕ) (n i : ℕ) (u : Record) (a : Asked) (none : u ≡ unsound) (asks : a ≡ asked (beforehand me (count_of (length bytes)) n i) u) where
   pub begun-refuses : (k : ℕ) → a ≡ Refused k → Refused k ≡ beginning me bytes n i
   begun-refuses k e = ap (λ (x : Asked). with_record x (found_at bytes i)) (sym e ∙ asks ∙ ap (asked (beforehand me (count_of (length bytes)) n i)) none)
@@ -48,16 +48,15 @@ begun-passed me bytes n i r e = go (asked (beforehand me (count_of (length bytes
     go (Passed x) (Here s) h g = found_here bytes i r (h ∙ ap Here (the-record g))
     go (Passed x) Missing h g = absurd (never (sym g))
 
--- a no of the beginning is the first no of questions 28 and 1 to 5 and of all that follow
-five : (w a b c d e : Bool) (u : Record) (f : Found) (rest : List Question) (k : ℕ) → with_record (asked (ask 28 w ∷ ask 1 a ∷ ask 2 b ∷ ask 3 c ∷ ask 4 d ∷ []) u) f ≡ Refused k
-    → (f ≡ Missing → d ≡ true → e ≡ false) → (first_no (ask 28 w ∷ ask 1 a ∷ ask 2 b ∷ ask 3 c ∷ ask 4 d ∷ ask 5 e ∷ rest) ≡ k) × (0 < k)
-five false a b c d e u f rest k h g = (the_number h, omega (arith, the_number h))
-five true false b c d e u f rest k h g = (the_number h, omega (arith, the_number h))
-five true true false c d e u f rest k h g = (the_number h, omega (arith, the_number h))
-five true true true false d e u f rest k h g = (the_number h, omega (arith, the_number h))
-five true true true true false e u f rest k h g = (the_number h, omega (arith, the_number h))
-five true true true true true e u (Here s) rest k h g = absurd (never h)
-five true true true true true e u Missing rest k h g = rw (g refl refl) (the_number h, omega (arith, the_number h))
+-- a no of the beginning is the first no of questions 1 to 5 and of all that follow
+five : (a b c d e : Bool) (u : Record) (f : Found) (rest : List Question) (k : ℕ) → with_record (asked (ask 1 a ∷ ask 2 b ∷ ask 3 c ∷ ask 4 d ∷ []) u) f ≡ Refused k
+    → (f ≡ Missing → d ≡ true → e ≡ false) → (first_no (ask 1 a ∷ ask 2 b ∷ ask 3 c ∷ ask 4 d ∷ ask 5 e ∷ rest) ≡ k) × (0 < k)
+five false b c d e u f rest k h g = (the_number h, omega (arith, the_number h))
+five true false c d e u f rest k h g = (the_number h, omega (arith, the_number h))
+five true true false d e u f rest k h g = (the_number h, omega (arith, the_number h))
+five true true true false e u f rest k h g = (the_number h, omega (arith, the_number h))
+five true true true true e u (Here s) rest k h g = absurd (never h)
+five true true true true e u Missing rest k h g = rw (g refl refl) (the_number h, omega (arith, the_number h))
 
 module _ (me : CetskobiReplica) (bytes store : List ℕ) (i k : ℕ) (who : Replica) (a : Asked) (identity : who ≡ replica_of me) (begins : a ≡ beginning who bytes (length store) i) (no : a ≡ Refused k) where
   -- where no record stands question 5 says no
@@ -76,7 +75,7 @@ module _ (me : CetskobiReplica) (bytes store : List ℕ) (i k : ℕ) (who : Repl
   unfolding refusal
   refused-by e n =
       rw (length-table bytes)
-      (five (question28 (replica_of me)).yes (question1 (replica_of me)).yes (question2 (count_of (length bytes)) (length store)).yes (question3 (replica_of me)).yes (question4 i (count_of (length bytes))).yes
+      (five (question1 (replica_of me)).yes (question2 (count_of (length bytes)) (length store)).yes (question3 (replica_of me)).yes (question4 i (count_of (length bytes))).yes
       (question5 (replica_of me) (record_at (table_of bytes) i)).yes unsound (found_at bytes i) (own (replica_of me) (record_at (table_of bytes) i) e n) k begun-no unstated)
 
   pub refused-done : (e : Event) (v : List ℕ) (out : CetskobiAnswer) → out ≡ answer_out (stopped_by a unsound).answer → Done (node_of me bytes store) bytes i e v out bytes store

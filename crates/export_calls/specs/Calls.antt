@@ -21,13 +21,13 @@ use Rattle.export_storing.specs.Storing.{bytes_after, table_after}
 abbrev pub node_of : CetskobiReplica → List ℕ → List ℕ → Node
 node_of me bytes store = lent (replica_of me) (table_of bytes) store
 
--- after questions 28 and 1 to 4 the record that was found; where there is none, its bytes have no state, and question 5 says no
+-- after questions 1 to 4 the record that was found; where there is none, its bytes have no state, and question 5 says no
 abbrev pub with_record : Asked → Found → Asked
 with_record (Refused k) f = Refused k
 with_record (Passed r) (Here s) = Passed s
 with_record (Passed r) Missing = Refused 5
 
--- the beginning of an event on number i, with a store of n bytes: questions 28 and 1 to 4, and then the record that the bytes hold there
+-- the beginning of an event on number i, with a store of n bytes: questions 1 to 4, and then the record that the bytes hold there
 abbrev pub beginning : Replica → List ℕ → ℕ → ℕ → Asked
 beginning me bytes n i = with_record (asked (beforehand me (count_of (length bytes)) n i) unsound) (found_at bytes i)
 

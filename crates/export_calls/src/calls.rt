@@ -11,7 +11,7 @@ use export_records::{Found, SIZE};
 use hermes::{Moved, Record, Replica};
 use replica_asking::Asked;
 
-// Questions 28 and 1 to 4 for a table of so many bytes: two calls, so that the count is one value in each, and no choice of two.
+// Questions 1 to 4 for a table of so many bytes: two calls, so that the count is one value in each, and no choice of two.
 fn beforehand(me: Replica, len: usize, bytes: usize, i: usize, r: Record) -> Asked
     ensures { result ≡ asked (beforehand me (count_of len) bytes i) r }
 {
@@ -22,7 +22,7 @@ fn beforehand(me: Replica, len: usize, bytes: usize, i: usize, r: Record) -> Ask
     }
 }
 
-// The beginning of an event on record i, with so many bytes of store: questions 28 and 1 to 4, and only then the record out of its bytes: with the
+// The beginning of an event on record i, with so many bytes of store: questions 1 to 4, and only then the record out of its bytes: with the
 // record first there are two ways to each of these questions, and every call saves registers for the second.
 pub fn begin(me: Replica, table: &[u8], bytes: usize, i: usize) -> Asked
     ensures { result ≡ beginning me table.now bytes i }

@@ -1,5 +1,5 @@
 -- A record as sixteen bytes: 0 state, 1 tie-breaker, 2 last writer, 3 last-write tie-breaker, 4 to 7 version, 8 to 11 last-write version,
--- 12 and 13 acknowledgements, 14 value length, 15 ticks waited.
+-- 12 and 13 acknowledgements, 14 value length. Byte 15 is nobody's.
 use Rattle.std.specs.Prelude.{ℕ, ◌+◌, ◌*◌, Bool, true, false, ltb, eqb}
 use Rattle.hermes_record.specs.declared.record.Record.{Record}
 use Rattle.hermes_record.specs.declared.record.State.{State}
@@ -28,7 +28,7 @@ state_of k = pick_state (eqb k 0) Valid (pick_state (eqb k 1) Invalid (pick_stat
 
 -- what bytes with no state stand for: a length above 192, so that question 5 refuses it
 abbrev pub unsound : Record
-unsound = record { state = Valid; timestamp = record { version = 0; tie = 0 }; writer = 0; written = record { version = 0; tie = 0 }; acks = 0; len = 255; waited = 0 }
+unsound = record { state = Valid; timestamp = record { version = 0; tie = 0 }; writer = 0; written = record { version = 0; tie = 0 }; acks = 0; len = 255 }
 
 -- a record, unless its bytes have no state
 abbrev pub or_unsound : Bool → Record → Record
@@ -36,8 +36,8 @@ or_unsound true r = unsound
 or_unsound false r = r
 
 -- the numbers of a record, as they stand in its bytes
-unfoldable pub decode : ℕ → ℕ → ℕ → ℕ → ℕ → ℕ → ℕ → ℕ → ℕ → Record
-decode state tie writer writtenTie version writtenVersion acks len waited =
+unfoldable pub decode : ℕ → ℕ → ℕ → ℕ → ℕ → ℕ → ℕ → ℕ → Record
+decode state tie writer writtenTie version writtenVersion acks len =
     or_unsound (ltb 4 state)
     (record {
       state = state_of state;
@@ -46,5 +46,4 @@ decode state tie writer writtenTie version writtenVersion acks len waited =
       written = record { version = writtenVersion; tie = writtenTie };
       acks = acks;
       len = len;
-      waited = waited;
     })

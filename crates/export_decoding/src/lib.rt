@@ -34,7 +34,6 @@ pub fn none() -> Record
         written: zero,
         acks: 0,
         len: 255,
-        waited: 0,
     }
 }
 
@@ -62,9 +61,8 @@ pub fn decoded(
     written: u32,
     acks: u16,
     len: u8,
-    waited: u8,
 ) -> Record
-    ensures { result ≡ decode state tie writer writtentie version written acks len waited }
+    ensures { result ≡ decode state tie writer writtentie version written acks len }
 {
     if 4 < state {
         return none();
@@ -85,6 +83,5 @@ pub fn decoded(
         written: last,
         acks: acks,
         len: len,
-        waited: waited,
     }
 }

@@ -26,12 +26,12 @@ use Rattle.export_numbers.specs.declared.numbers.CetskobiMessage.{CetskobiMessag
 abbrev pub rule_of : ℕ → Rule
 rule_of byte = cond (eqb byte 2) Lower Higher
 
--- settings that came from outside, and on their way out: the rule as 1 or 2, the wait as it is
+-- settings that came from outside, and on their way out: 1 or 2
 abbrev pub settings_of : CetskobiSettings → Settings
-settings_of x = record { rule = rule_of x.rule; wait = x.wait }
+settings_of x = record { rule = rule_of x.rule }
 
 abbrev pub settings_out : Settings → CetskobiSettings
-settings_out x = record { rule = rule_number x.rule; wait = x.wait }
+settings_out x = record { rule = rule_number x.rule }
 
 -- an identity that came from outside
 abbrev pub replica_of : CetskobiReplica → Replica

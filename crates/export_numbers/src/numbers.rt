@@ -4,12 +4,11 @@ ghost use Rattle.export_numbers.specs.Crossing.{rule_of, settings_of, settings_o
 
 use hermes::{Admission, Answer, Message, Outgoing, Received, Replica, Rule, Settings, Timestamp};
 
-// What is fixed at a group's start. The rule of ties is one of hermes's numbers; any other is taken for the old rule. A wait of 0 is one that question 28 refuses.
+// What is fixed at a group's start. The rule of ties is one of hermes's numbers; any other is taken for the old rule.
 #[repr(C)]
 #[derive(Drop)]
 pub struct CetskobiSettings {
     pub rule: u8,
-    pub wait: u8,
 }
 
 // The identity of a replica.
@@ -82,11 +81,7 @@ pub fn settings_of(settings: CetskobiSettings) -> Settings
     ensures { result ≡ settings_of settings }
 {
     let rule = rule_of(settings.rule);
-    let wait = settings.wait;
-    Settings {
-        rule: rule,
-        wait: wait,
-    }
+    Settings { rule: rule }
 }
 
 pub fn settings_out(settings: Settings) -> CetskobiSettings
@@ -95,7 +90,6 @@ pub fn settings_out(settings: Settings) -> CetskobiSettings
     let rule = settings.rule;
     CetskobiSettings {
         rule: rule.number(),
-        wait: settings.wait,
     }
 }
 

@@ -1,7 +1,6 @@
 -- What the exported functions say of a kind is what hermes says of the message that left: who gets it, and the bytes that it takes along.
 use Prim.Native.Nat.{ℕ, zero, suc, ◌+◌, ◌*◌, ◌/◌, ◌<◌, ◌≤◌}
 use mathlib.Core.Path.{◌≡◌, refl, sym, ap, ◌∙◌}
-use mathlib.Core.Logic.{◌⊎◌, inl, inr}
 use mathlib.Core.Bool.{Bool, true, false, cond, not, ◌&&◌, ◌||◌}
 use mathlib.Core.List.{List}
 use native.Mathlib.Omega.{arith}
@@ -20,7 +19,7 @@ use Rattle.hermes.specs.declared.event.Replica.{Replica}
 use Rattle.hermes.specs.declared.event.Answer.{Answer}
 use Rattle.hermes.specs.declared.event.Answer.TheVariants.{Accepted}
 use Rattle.hermes.specs.declared.event.Event.{Event}
-use Rattle.hermes.specs.declared.event.Event.TheVariants.{Read, Ask, Write, Commit, Replay, Deliver, Validate, Resend, Tick}
+use Rattle.hermes.specs.declared.event.Event.TheVariants.{Read, Ask, Write, Commit, Replay, Deliver, Validate, Resend}
 use Rattle.hermes_record.specs.Members.{with, without}
 use Rattle.hermes_record.specs.Order.{ties, later}
 use Rattle.hermes.specs.Settings.{under}
@@ -33,7 +32,6 @@ use Rattle.export_records.proofs.Lent.{length-table}
 use Rattle.export_numbers.specs.declared.numbers.CetskobiAnswer.{CetskobiAnswer}
 use Rattle.export_numbers.specs.Crossing.{answer_out}
 use Rattle.hermes.specs.declared.message.Outgoing.{Outgoing}
-use Rattle.hermes.proofs.Steps.{TickDoes, tick-does}
 use Rattle.hermes_record.specs.Order.{same_timestamp}
 use Rattle.hermes.specs.Node.{Outcome}
 use Rattle.hermes_record.proofs.Tests.{both}
@@ -123,10 +121,6 @@ module _ (me : Replica) (i sender : ℕ) where
   again state.Write t = inv Resend t
   again state.Replay t = inv Resend t
 
-  ticked : (o : Outgoing) (t : Timestamp) → (o ≡ None) ⊎ (o ≡ send me i (Inv t)) → Tells me Tick sender i (Accepted o)
-  ticked o t (inl e) = rw e (nothing Tick)
-  ticked o t (inr e) = rw e (inv Tick t)
-
   module _ (r : Record) (m : Received) (v : List ℕ) (from : sender ≡ m.sender) where
     ack : (b : Bool) (t : Timestamp) → Tells me (Deliver m) sender i (Accepted (inv_step b me i r t m.sender v).sent)
     ack true t = (ap (with 0) from, λ table store. refl)
@@ -150,7 +144,6 @@ module _ (me : Replica) (i sender : ℕ) where
   steps r (Deliver m) v d = delivered r m v d m.message
   steps r Validate v d = val Validate r.timestamp
   steps r Resend v d = again r.state r.timestamp
-  steps r Tick v d = ticked _ r.timestamp (tick-does ties me i r v).sends
 
   answers : (k : ℕ) (r : Record) (e : Event) (s : Step) → Tells me e sender i (Accepted s.sent) → Tells me e sender i (moved_by k r s).answer
   answers zero r e s h = h
@@ -186,13 +179,6 @@ module _ (me : Replica) (i : ℕ) (r : Record) (v : List ℕ) where
       go false = tt
   delivered-stamped sender (Val t) = tt
 
-  tick-stamped : (s : Step) → TickDoes me i r s → Stamped s.sent s.after
-  tick-stamped s d = go s.sent d.sends
-    where
-      go : (o : Outgoing) → (o ≡ None) ⊎ (o ≡ send me i (Inv r.timestamp)) → Stamped o s.after
-      go o (inl e) = rw e tt
-      go o (inr e) = rw e (sym d.stamp)
-
   stamped : (e : Event) → Stamped (step ties me i r e v).sent (step ties me i r e v).after
   stamped Read = tt
   stamped Ask = tt
@@ -202,7 +188,6 @@ module _ (me : Replica) (i : ℕ) (r : Record) (v : List ℕ) where
   stamped (Deliver m) = delivered-stamped m.sender m.message
   stamped Validate = tt
   stamped Resend = again-stamped r.state
-  stamped Tick = tick-stamped (step ties me i r Tick v) (tick-does ties me i r v)
 
 -- what left is no INV, or the memory holds its text
 abbrev Held : Answer → ℕ → List Record → List ℕ → Type 0
@@ -240,7 +225,6 @@ someone Replay = 0
 someone (Deliver m) = m.sender
 someone Validate = 0
 someone Resend = 0
-someone Tick = 0
 
 from-someone : (e : Event) → Delivered e (someone e)
 unfolding someone
@@ -252,7 +236,6 @@ from-someone Replay = tt
 from-someone (Deliver m) = refl
 from-someone Validate = tt
 from-someone Resend = tt
-from-someone Tick = tt
 
 pub asked-who-gets : AskedWhoGets
 asked-who-gets n i e v before a bytes' store' sender d' d =

@@ -8,7 +8,7 @@ use Rattle.hermes.specs.declared.message.Outgoing.TheVariants.{None, Sent}
 use Rattle.hermes.specs.declared.message.Received.{Received}
 use Rattle.hermes.specs.declared.event.Replica.{Replica}
 use Rattle.hermes.specs.declared.event.Event.{Event}
-use Rattle.hermes.specs.declared.event.Event.TheVariants.{Read, Ask, Write, Commit, Replay, Deliver, Validate, Resend, Tick}
+use Rattle.hermes.specs.declared.event.Event.TheVariants.{Read, Ask, Write, Commit, Replay, Deliver, Validate, Resend}
 use Rattle.hermes_record.specs.Order.{same_timestamp}
 use Rattle.hermes.specs.Kind.{inv, known, message_of}
 use Rattle.hermes.specs.Event.{leaving_body, recipients}
@@ -42,7 +42,6 @@ Delivered Replay sender = Unit
 Delivered (Deliver m) sender = sender ≡ m.sender
 Delivered Validate sender = Unit
 Delivered Resend sender = Unit
-Delivered Tick sender = Unit
 
 -- ---- the bytes that it takes along
 

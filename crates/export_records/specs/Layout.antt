@@ -18,7 +18,6 @@ decode_at bytes at =
     (four (get_or bytes (at + 8) 0) (get_or bytes (at + 9) 0) (get_or bytes (at + 10) 0) (get_or bytes (at + 11) 0))
     (two (get_or bytes (at + 12) 0) (get_or bytes (at + 13) 0))
     (get_or bytes (at + 14) 0)
-    (get_or bytes (at + 15) 0)
 
 -- n records from a place on
 abbrev pub records : ℕ → ℕ → List ℕ → List Record

@@ -65,6 +65,5 @@ fn record_in(bytes: &[u8], i: usize) -> Record
         written,
         acks,
         bytes[at + 14],
-        bytes[at + 15],
     )
 }

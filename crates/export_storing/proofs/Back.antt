@@ -30,18 +30,18 @@ code-back (suc (suc (suc (suc zero)))) h = refl
 code-back (suc (suc (suc (suc (suc k))))) h = absurd (omega arith)
 
 -- the numbers of a record whose length question 5 finds sound come back from it: they have a state
-state-known : (s t w ot v ov a l q : ℕ) → (decode s t w ot v ov a l q).len ≤ 192 → s ≤ 4
+state-known : (s t w ot v ov a l : ℕ) → (decode s t w ot v ov a l).len ≤ 192 → s ≤ 4
 unfolding decode
-state-known s t w ot v ov a l q h = go (ltb 4 s) refl _ h
+state-known s t w ot v ov a l h = go (ltb 4 s) refl _ h
   where
     go : (b : Bool) → ltb 4 s ≡ b → (r : Record) → (or_unsound b r).len ≤ 192 → s ≤ 4
     go true e r g = absurd (omega arith)
     go false e r g = ltb-false 4 s e
 
-encode-decode : (s t w ot v ov a l q : ℕ) → s ≤ 4
-    → record_bytes (decode s t w ot v ov a l q) ≡ s ∷ t ∷ w ∷ ot ∷ (in_four v ++ (in_four ov ++ (in_two a ++ (l ∷ q ∷ []))))
+encode-decode : (s t w ot v ov a l : ℕ) → s ≤ 4
+    → record_bytes (decode s t w ot v ov a l) ≡ s ∷ t ∷ w ∷ ot ∷ (in_four v ++ (in_four ov ++ (in_two a ++ (l ∷ []))))
 unfolding decode
-encode-decode s t w ot v ov a l q h = simp (le-ltb 4 s h, code-back s h)
+encode-decode s t w ot v ov a l h = simp (le-ltb 4 s h, code-back s h)
 
 -- bytes come back from the number that they spell
 in_two-two : (a b : ℕ) → a < 256 → in_two (two a b) ≡ a ∷ b ∷ []
@@ -76,18 +76,18 @@ again bytes at j (suc n) =
     (λ i. sets (set-get_or bytes (at + j) 0 i) (sym (add-suc at j) i) (run bytes at (suc j) n)) ∙ again bytes at (suc j) n
 
 -- the bytes of the record that they are
-spelt : (bytes : List ℕ) (at : ℕ) → Bytes bytes → (decode_at bytes at).len ≤ 192 → record_bytes (decode_at bytes at) ≡ get_or bytes at 0 ∷ run bytes at 1 15
+spelt : (bytes : List ℕ) (at : ℕ) → Bytes bytes → (decode_at bytes at).len ≤ 192 → record_bytes (decode_at bytes at) ≡ get_or bytes at 0 ∷ run bytes at 1 14
 spelt bytes at b h =
     let v = in_four-four _ _ _ (get_or bytes (at + 7) 0) (b (at + 4)) (b (at + 5)) (b (at + 6)) in
     let o = in_four-four _ _ _ (get_or bytes (at + 11) 0) (b (at + 8)) (b (at + 9)) (b (at + 10)) in
     let a = in_two-two _ (get_or bytes (at + 13) 0) (b (at + 12)) in
-    encode-decode _ _ _ _ _ _ _ _ _ (state-known _ _ _ _ _ _ _ _ _ h)
-    ∙ (λ i. get_or bytes at 0 ∷ get_or bytes (at + 1) 0 ∷ get_or bytes (at + 2) 0 ∷ get_or bytes (at + 3) 0 ∷ (v i ++ (o i ++ (a i ++ (get_or bytes (at + 14) 0 ∷ get_or bytes (at + 15) 0 ∷ [])))))
+    encode-decode _ _ _ _ _ _ _ _ (state-known _ _ _ _ _ _ _ _ h)
+    ∙ (λ i. get_or bytes at 0 ∷ get_or bytes (at + 1) 0 ∷ get_or bytes (at + 2) 0 ∷ get_or bytes (at + 3) 0 ∷ (v i ++ (o i ++ (a i ++ (get_or bytes (at + 14) 0 ∷ [])))))
 
 stored_back : (bytes : List ℕ) (at : ℕ) → Bytes bytes → (decode_at bytes at).len ≤ 192 → sets bytes at (record_bytes (decode_at bytes at)) ≡ bytes
 stored_back bytes at b h =
     let here : at ≡ at + 0 = omega arith in
-    ap (sets bytes at) (spelt bytes at b h) ∙ (λ i. sets bytes (here i) (get_or bytes (here i) 0 ∷ run bytes at 1 15)) ∙ again bytes at 0 16
+    ap (sets bytes at) (spelt bytes at b h) ∙ (λ i. sets bytes (here i) (get_or bytes (here i) 0 ∷ run bytes at 1 14)) ∙ again bytes at 0 15
 
 pub put_back : PutBack
 put_back bytes i b l h = rw (record-in bytes i l) (stored_back bytes (16 * i) b (rw (record-in bytes i l) at h))

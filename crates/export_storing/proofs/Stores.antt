@@ -13,10 +13,10 @@ use Rattle.export_records.specs.Layout.{count_of}
 use Rattle.export_storing.specs.Storing.{in_two, in_four, put, bytes_after}
 
 -- the stores of a record, one after another, are one run
-pub stores : (bytes : List ℕ) (at a b c d v w x y z : ℕ)
-    → set (set (sets (sets (sets (set (set (set (set bytes at a) (at + 1) b) (at + 2) c) (at + 3) d) (at + 4) (in_four v)) (at + 8) (in_four w)) (at + 12) (in_two x)) (at + 14) y) (at + 15) z
-    ≡ sets bytes at (a ∷ b ∷ c ∷ d ∷ (in_four v ++ (in_four w ++ (in_two x ++ (y ∷ z ∷ [])))))
-stores bytes at a b c d v w x y z =
+pub stores : (bytes : List ℕ) (at a b c d v w x y : ℕ)
+    → set (sets (sets (sets (set (set (set (set bytes at a) (at + 1) b) (at + 2) c) (at + 3) d) (at + 4) (in_four v)) (at + 8) (in_four w)) (at + 12) (in_two x)) (at + 14) y
+    ≡ sets bytes at (a ∷ b ∷ c ∷ d ∷ (in_four v ++ (in_four w ++ (in_two x ++ (y ∷ [])))))
+stores bytes at a b c d v w x y =
     let e1 : at + 1 ≡ suc at = omega arith in
     let e2 : at + 2 ≡ suc (suc at) = omega arith in
     let e3 : at + 3 ≡ suc (suc (suc at)) = omega arith in
@@ -24,8 +24,7 @@ stores bytes at a b c d v w x y z =
     let e8 : at + 8 ≡ suc (suc (suc (suc (suc (suc (suc (suc at))))))) = omega arith in
     let e12 : at + 12 ≡ suc (suc (suc (suc (suc (suc (suc (suc (suc (suc (suc (suc at))))))))))) = omega arith in
     let e14 : at + 14 ≡ suc (suc (suc (suc (suc (suc (suc (suc (suc (suc (suc (suc (suc (suc at))))))))))))) = omega arith in
-    let e15 : at + 15 ≡ suc (suc (suc (suc (suc (suc (suc (suc (suc (suc (suc (suc (suc (suc (suc at)))))))))))))) = omega arith in
-    rw (e1, e2, e3, e4, e8, e12, e14, e15)
+    rw (e1, e2, e3, e4, e8, e12, e14)
 
 -- the bytes of a number, by stores
 pub two-stores : (bytes : List ℕ) (at a b : ℕ) → set (set bytes at a) (at + 1) b ≡ sets bytes at (a ∷ b ∷ [])

@@ -46,7 +46,7 @@ sets-inside (v ∷ vs) l at (suc k) h g =
     ap (λ (p : ℕ). get_or (sets (set l at v) (suc at) vs) p 0) e ∙ sets-inside vs (set l at v) (suc at) k (omega arith) (omega (arith, length-set l at v))
 
 -- the same bytes are the same record
-same_bytes : (xs ys : List ℕ) (a b : ℕ) → ((k : ℕ) → k < 16 → get_or xs (a + k) 0 ≡ get_or ys (b + k) 0) → decode_at xs a ≡ decode_at ys b
+same_bytes : (xs ys : List ℕ) (a b : ℕ) → ((k : ℕ) → k < 15 → get_or xs (a + k) 0 ≡ get_or ys (b + k) 0) → decode_at xs a ≡ decode_at ys b
 same_bytes xs ys a b h =
     let ea : a ≡ a + 0 = omega arith in
     let eb : b + 0 ≡ b = omega arith in
@@ -55,7 +55,7 @@ same_bytes xs ys a b h =
     (four (h 4 (lit< tt) i) (h 5 (lit< tt) i) (h 6 (lit< tt) i) (h 7 (lit< tt) i))
     (four (h 8 (lit< tt) i) (h 9 (lit< tt) i) (h 10 (lit< tt) i) (h 11 (lit< tt) i))
     (two (h 12 (lit< tt) i) (h 13 (lit< tt) i))
-    (h 14 (lit< tt) i) (h 15 (lit< tt) i)
+    (h 14 (lit< tt) i)
 
 -- ---- a record put
 
@@ -65,7 +65,7 @@ module _ (bytes : List ℕ) (i : ℕ) (r : Record) (l : i < count_of (length byt
 
   there : decode_at (put bytes i r) (16 * i) ≡ r
   there =
-      let room : 16 * i + 16 ≤ length bytes = omega (arith, inside (length bytes) i l) in
+      let room : 16 * i + 15 ≤ length bytes = omega (arith, inside (length bytes) i l) in
       same_bytes (put bytes i r) (record_bytes r) (16 * i) 0 (λ k h. sets-inside (record_bytes r) bytes (16 * i) k h room ∙ ap (λ (p : ℕ). get_or (record_bytes r) p 0) (z k)) ∙ decode-encode r
     where
       z : (k : ℕ) → k ≡ 0 + k
@@ -74,7 +74,7 @@ module _ (bytes : List ℕ) (i : ℕ) (r : Record) (l : i < count_of (length byt
   elsewhere : (j : ℕ) → j ≢ i → decode_at (put bytes i r) (16 * j) ≡ decode_at bytes (16 * j)
   elsewhere j d = same_bytes (put bytes i r) bytes (16 * j) (16 * j) (go (dec_lt j i))
     where
-      go : Dec (j < i) → (k : ℕ) → k < 16 → get_or (put bytes i r) (16 * j + k) 0 ≡ get_or bytes (16 * j + k) 0
+      go : Dec (j < i) → (k : ℕ) → k < 15 → get_or (put bytes i r) (16 * j + k) 0 ≡ get_or bytes (16 * j + k) 0
       go (yes b) k h = sets-before (record_bytes r) bytes (16 * i) (16 * j + k) (omega arith)
       go (no b) k h = sets-after (record_bytes r) bytes (16 * i) (16 * j + k) (omega arith)
 

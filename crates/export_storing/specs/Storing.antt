@@ -15,10 +15,10 @@ in_two n = n % 256 ∷ n / 256 ∷ []
 abbrev pub in_four : ℕ → List ℕ
 in_four n = n % 256 ∷ n / 256 % 256 ∷ n / 65536 % 256 ∷ n / 16777216 ∷ []
 
--- a record as its sixteen bytes
+-- a record as its fifteen bytes
 abbrev pub record_bytes : Record → List ℕ
 record_bytes r =
-    code r.state ∷ r.timestamp.tie ∷ r.writer ∷ r.written.tie ∷ (in_four r.timestamp.version ++ (in_four r.written.version ++ (in_two r.acks ++ (r.len ∷ r.waited ∷ []))))
+    code r.state ∷ r.timestamp.tie ∷ r.writer ∷ r.written.tie ∷ (in_four r.timestamp.version ++ (in_four r.written.version ++ (in_two r.acks ++ (r.len ∷ []))))
 
 -- ---- the bytes after an event on record i
 

@@ -55,7 +55,6 @@ pub(crate) fn put_record(bytes: &mut [u8], i: usize, r: Record)
     put_four(bytes, at + 8, r.written.version);
     put_two(bytes, at + 12, r.acks);
     bytes[at + 14] = r.len;
-    bytes[at + 15] = r.waited;
 }
 
 // An event's end: an accepted one puts its record back, a refused one leaves every byte.

@@ -182,7 +182,7 @@ module _ (wins : Orders) (settings : Settings) (ord : TieOrder (under wins setti
             p = rw (f.table_after, b.table_after) (get_or-replicate (length f.table) i _ _ (omega (arith, f.records)))
 
             q : slot i (g.at k).store ≡ zeros 192
-            q = rw (f.store_after, b.store_after) (slot-zero i (length f.store) (omega (arith, f.records, sized (length f.table) (length f.store) b.asked.1.1.0)))
+            q = rw (f.store_after, b.store_after) (slot-zero i (length f.store) (omega (arith, f.records, sized (length f.table) (length f.store) b.asked.1.0)))
 
     pub start-ok : Ok g
     unfolding absent padded

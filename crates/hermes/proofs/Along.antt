@@ -1,7 +1,7 @@
 -- What every accepted event keeps of its record holds along every list of entries. Here is what an event makes of its record, case by case, and the
 -- record that a list begins with; who has shown that the cases keep something need not look at lists.
 use Prim.Native.Nat.{ℕ, zero, suc, ◌+◌, ◌<◌}
-use mathlib.Core.Path.{◌≡◌, refl, sym, subst, ◌∙◌}
+use mathlib.Core.Path.{◌≡◌, refl, sym, subst}
 use mathlib.Core.Bool.{Bool, true, false, false≢true}
 use mathlib.Core.Logic.{◌≢◌}
 use mathlib.Core.List.{List, [], ◌∷◌}
@@ -18,19 +18,18 @@ use Rattle.hermes.specs.declared.message.Message.TheVariants.{Inv, Ack, Val}
 use Rattle.hermes.specs.declared.event.Replica.{Replica}
 use Rattle.hermes.specs.declared.event.Settings.{Settings}
 use Rattle.hermes.specs.declared.event.Event.{Event}
-use Rattle.hermes.specs.declared.event.Event.TheVariants.{Read, Ask, Write, Commit, Replay, Deliver, Validate, Resend, Tick}
+use Rattle.hermes.specs.declared.event.Event.TheVariants.{Read, Ask, Write, Commit, Replay, Deliver, Validate, Resend}
 use Rattle.hermes_record.specs.Members.{lowest}
 use Rattle.hermes_record.specs.Order.{Orders, later}
 use Rattle.hermes.specs.Settings.{under}
 use Rattle.hermes_record.specs.Record.{one_of, next_version, written_by, replayed, invalidated, acknowledged, validated, fresh_record}
 use Rattle.hermes.specs.Guards.{AllYes, first_no, question1}
-use Rattle.hermes.specs.Event.{Step, own, inv_step, ack_step, completes, sends_again, tick_step, reaches, deliver_step, step}
+use Rattle.hermes.specs.Event.{Step, own, inv_step, ack_step, completes, deliver_step, step}
 use Rattle.hermes.specs.Node.{Node, Outcome, record_of, apply, identity, admission_of, view_questions, view, viewed}
 use Rattle.hermes.specs.Run as run
 use Rattle.hermes.specs.Run.{Action, Entry, Group, Found, find, received, node_after, perform, delivery, result, advance}
 use Rattle.hermes.specs.Agreement.{FreshStart, Started, after}
 use Rattle.hermes.proofs.Guards.{deliver-own, replay-own}
-use Rattle.hermes.proofs.Words.{state-is}
 use Rattle.hermes.proofs.Steps.{next-version}
 use Rattle.hermes.proofs.Apply.{step_of, done, Applied, refused, accepted, applied, its_own}
 use Rattle.hermes.proofs.Start.{Begun, begun}
@@ -49,16 +48,11 @@ fresh-record member count issued settings g s i k l m = rw (f.table_after, b.tab
 
 -- ---- one event
 
--- the record with this count of ticks
-abbrev pub with_count : Record → ℕ → Record
-with_count r n = record { state = r.state; timestamp = r.timestamp; writer = r.writer; written = r.written; acks = r.acks; len = r.len; waited = n }
-
 -- what an accepted event of replica me makes of its record r; `wins` is the order of ties of its group
 pub data Becomes (wins : ℕ → ℕ → Bool) (me : Replica) (r b : Record) : Type 0 where
   same : b ≡ r → Becomes wins me r b
   writes : (n : ℕ) → next_version r.timestamp.version ≡ r.timestamp.version + 1 → b ≡ written_by r me.number n → Becomes wins me r b
-  ticks : (n : ℕ) → r.state ≢ state.Valid → b ≡ with_count r n → Becomes wins me r b
-  replays : (n : ℕ) → r.state ≢ state.Valid → b ≡ replayed (with_count r n) me.number → Becomes wins me r b
+  replays : r.state ≢ state.Valid → b ≡ replayed r me.number → Becomes wins me r b
   invalidates : (t : Timestamp) (sender n : ℕ) → later wins t r.timestamp ≡ true → sender ≢ me.number → b ≡ invalidated r t sender n → Becomes wins me r b
   counts : (sender : ℕ) → completes me r sender ≡ false → b ≡ acknowledged r sender → Becomes wins me r b
   settles : (sender : ℕ) → b ≡ validated (acknowledged r sender) → Becomes wins me r b
@@ -81,23 +75,16 @@ module _ (wins : Orders) (me : Replica) (i : ℕ) (r : Record) (v : List ℕ) wh
       go false c = counts sender c refl
   delivered sender (Val t) d = validates refl
 
-  ticked-becomes : (u b w : Bool) → one_of r.state (state.Valid ∷ []) ≡ u → sends_again r.state ≡ w → Becomes order me r (tick_step u b me i r).after
-  ticked-becomes true b w p q = same refl
-  ticked-becomes false false w p q = ticks _ (λ e. false≢true (sym p ∙ state-is r.state state.Valid e)) refl
-  ticked-becomes false true true p q = rw q (ticks _ (λ e. false≢true (sym p ∙ state-is r.state state.Valid e)) refl)
-  ticked-becomes false true false p q = rw q (replays _ (λ e. false≢true (sym p ∙ state-is r.state state.Valid e)) refl)
-
   becomes : (e : Event) → AllYes (own me r e (length v)) → Becomes order me r (step wins me i r e v).after
   becomes Read y = same refl
   becomes Ask y = same refl
   becomes Write y = writes (length v) (next-version r.timestamp.version y.1.1.0) refl
   becomes (Commit t) y = writes (length v) (next-version r.timestamp.version y.1.1.0) refl
   becomes Replay y =
-      replays r.waited (λ e. false≢true (subst (λ (s : State). one_of s (state.Invalid ∷ state.InvalidWrite ∷ []) ≡ true) e (replay-own me r (length v) y).invalidated)) refl
+      replays (λ e. false≢true (subst (λ (s : State). one_of s (state.Invalid ∷ state.InvalidWrite ∷ []) ≡ true) e (replay-own me r (length v) y).invalidated)) refl
   becomes (Deliver m) y = delivered m.sender m.message (eqb-false _ _ (deliver-own me r m (length v) y).other)
   becomes Validate y = validates refl
   becomes Resend y = same refl
-  becomes Tick y = ticked-becomes (one_of r.state (state.Valid ∷ [])) (reaches me r) (sends_again r.state) refl refl
 
 -- ---- lists of entries
 
@@ -121,7 +108,7 @@ module _ (wins : Orders) (i : ℕ) (P : Replica → Record → Type 0)
       go o (accepted y c q) = rw q (side (ℕ_discrete i j))
         where
           side : Dec (i ≡ j) → Holds (done n j s)
-          side (yes d) = rw (d, c.here) (steps n.me (record_of j n) s.after y.1.0 (becomes wins n.me j (record_of j n) v e (its_own n j e v y)) (rw d at before))
+          side (yes d) = rw (d, c.here) (steps n.me (record_of j n) s.after y.0 (becomes wins n.me j (record_of j n) v e (its_own n j e v y)) (rw d at before))
           side (no d) = rw (c.others i d) before
 
   entry-keeps : (a : Action) (log : List run.Logged) (n : Node) → Fine a → Holds n → Holds (node_after (perform wins a log n) n)
@@ -137,7 +124,6 @@ module _ (wins : Orders) (i : ℕ) (P : Replica → Record → Type 0)
       go (run.found x) = event-keeps n x.header.index (Deliver (received x)) x.body
   entry-keeps (run.validate j) log n f = event-keeps n j Validate []
   entry-keeps (run.resend j) log n f = event-keeps n j Resend []
-  entry-keeps (run.tick j) log n f = event-keeps n j Tick []
   entry-keeps (run.view epoch set) log n f = views n epoch set f
 
   pub along : (k : ℕ) (May : List Entry → Type 0) → ((a : Entry) (rest : List Entry) → May (a ∷ rest) → (a.who ≡ k → Fine a.what) × May rest)

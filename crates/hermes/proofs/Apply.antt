@@ -40,13 +40,13 @@ passed-zero n i e v y = none-refuses n.me (length n.table) (length n.store) i (r
 abbrev pub done : Node → ℕ → Step → Node
 done n i s = record { me = n.me; table = set n.table i s.after; store = storing i s.stored n.store }
 
--- questions 28 and 1 to 5 of a passed event
+-- questions 1 to 5 of a passed event
 pub first-five : (n : Node) (i : ℕ) (e : Event) (v : List ℕ) → AllYes (questions_of n i e v) → Common n.me (length n.table) (length n.store) i (record_of i n)
 first-five n i e v y = common-passed n.me (length n.table) (length n.store) i (record_of i n) (own_of n i e v) y
 
 -- its own questions
 pub its_own : (n : Node) (i : ℕ) (e : Event) (v : List ℕ) → AllYes (questions_of n i e v) → AllYes (own_of n i e v)
-its_own n i e v y = y.1.1.1.1.1.1
+its_own n i e v y = y.1.1.1.1.1
 
 -- its step leaves a sound record and stores what fits
 pub sound-step : (wins : Orders) (n : Node) (i : ℕ) (e : Event) (v : List ℕ) → AllYes (questions_of n i e v) → SoundStep n.me (step_of wins n i e v)

@@ -33,7 +33,7 @@ use Rattle.hermes.proofs.Apply.{refusal_of, passed-zero, questions_of, Applied, 
 use Rattle.hermes.proofs.Refine.{Cell, copy}
 use Rattle.hermes.proofs.Agreement.{Ok, copies, copies-member, start-ok, run_ok, run-rises, run-cells, run-append, entries-append}
 use Rattle.hermes.proofs.Sound.{read-gives, stay-sound}
-use Rattle.hermes.proofs.Along.{Becomes, same, writes, ticks, replays, invalidates, counts, settles, validates, always}
+use Rattle.hermes.proofs.Along.{Becomes, same, writes, replays, invalidates, counts, settles, validates, always}
 
 -- ---- one ask
 
@@ -115,7 +115,7 @@ not-in-vain wins n i t v h e = go (apply wins n i (Commit t) v) (applied wins n 
             inr (λ z. omega arith),
             (
               inr (λ z. omega arith),
-              (inr (λ z. omega arith), (inl (and_both _ _ (state-is (record_of i n).state state.Valid h) (equal-same t (record_of i n).timestamp e)), (inr (λ z. omega arith), (inr (λ z. omega arith), tt)))),
+              (inl (and_both _ _ (state-is (record_of i n).state state.Valid h) (equal-same t (record_of i n).timestamp e)), (inr (λ z. omega arith), (inr (λ z. omega arith), tt))),
             ),
           ),
         ),
@@ -145,8 +145,7 @@ module _ (wins : ℕ → ℕ → Bool) (ord : TieOrder wins) (t : Timestamp) whe
       p : NotAfter wins t (next_timestamp r.timestamp me.number) × (next_timestamp r.timestamp me.number ≡ t → ⊥)
       p = past r.timestamp (next_timestamp r.timestamp me.number) h.onward
           (greater-later wins (next_timestamp r.timestamp me.number) r.timestamp (inl (omega (arith, more))))
-  current-keeps me r b (ticks n d e) h = rw e (record { onward = h.onward; valid = h.valid })
-  current-keeps me r b (replays n d e) h = rw e (record { onward = h.onward; valid = λ z. absurd (d (h.valid z)) })
+  current-keeps me r b (replays d e) h = rw e (record { onward = h.onward; valid = λ z. absurd (d (h.valid z)) })
   current-keeps me r b (invalidates new sender n l d e) h = rw e (record { onward = p.0; valid = λ z. absurd (p.1 z) })
     where
       p : NotAfter wins t new × (new ≡ t → ⊥)

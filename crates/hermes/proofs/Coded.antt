@@ -56,7 +56,7 @@ timestamp_code = record { numbers = λ t. t.version ∷ t.tie ∷ []; back = λ 
 
 unfoldable pub record_numbers : Record → List ℕ
 record_numbers r =
-    code r.state ∷ r.timestamp.version ∷ r.timestamp.tie ∷ r.writer ∷ r.written.version ∷ r.written.tie ∷ r.acks ∷ r.len ∷ r.waited ∷ []
+    code r.state ∷ r.timestamp.version ∷ r.timestamp.tie ∷ r.writer ∷ r.written.version ∷ r.written.tie ∷ r.acks ∷ r.len ∷ []
 
 record_back : List ℕ → Record
 record_back l = record {
@@ -66,7 +66,6 @@ record_back l = record {
   written = record { version = get_or l 4 0; tie = get_or l 5 0 };
   acks = get_or l 6 0;
   len = get_or l 7 0;
-  waited = get_or l 8 0;
 }
 
 unfoldable pub record_code : Coded Record
@@ -74,7 +73,7 @@ unfolding record_numbers record_back
 record_code = record {
   numbers = record_numbers;
   back = record_back;
-  had = λ r i. record { state = sym (coded-code r.state) i; timestamp = r.timestamp; writer = r.writer; written = r.written; acks = r.acks; len = r.len; waited = r.waited };
+  had = λ r i. record { state = sym (coded-code r.state) i; timestamp = r.timestamp; writer = r.writer; written = r.written; acks = r.acks; len = r.len };
 }
 
 pub rule_back : ℕ → Rule
@@ -92,9 +91,9 @@ rule_code = record { numbers = λ rule. rule_number rule ∷ []; back = λ l. ru
 
 unfoldable pub replica_code : Coded Replica
 replica_code = record {
-  numbers = λ m. m.number ∷ m.epoch ∷ m.view ∷ rule_number m.settings.rule ∷ m.settings.wait ∷ [];
-  back = λ l. record { number = get_or l 0 0; epoch = get_or l 1 0; view = get_or l 2 0; settings = record { rule = rule_back (get_or l 3 0); wait = get_or l 4 0 } };
-  had = λ m i. record { number = m.number; epoch = m.epoch; view = m.view; settings = record { rule = rule-had m.settings.rule i; wait = m.settings.wait } };
+  numbers = λ m. m.number ∷ m.epoch ∷ m.view ∷ rule_number m.settings.rule ∷ [];
+  back = λ l. record { number = get_or l 0 0; epoch = get_or l 1 0; view = get_or l 2 0; settings = record { rule = rule_back (get_or l 3 0) } };
+  had = λ m i. record { number = m.number; epoch = m.epoch; view = m.view; settings = record { rule = rule-had m.settings.rule i } };
 }
 
 unfoldable pub message_numbers : Message → List ℕ

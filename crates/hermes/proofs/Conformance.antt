@@ -1,14 +1,14 @@
 -- Demand 2: every event is the source's action. The idea: its questions are document 01's own and the action's guard, one by one; and its
 -- step, read as the source's variables, is the action's effect.
-use Prim.Native.Nat.{ℕ, zero, suc, ◌+◌, ◌≤◌, ◌<◌}
+use Prim.Native.Nat.{ℕ, zero, suc, ◌≤◌, ◌<◌}
 use mathlib.Core.Path.{◌≡◌, refl, sym, ap, subst₃, ◌∙◌}
 use mathlib.Core.Bool.{Bool, true, false, not, ◌&&◌, ◌||◌, false≢true}
-use mathlib.Core.Logic.{◌⊎◌, inl, inr, ◌≢◌, ◌↔◌}
+use mathlib.Core.Logic.{inl, inr, ◌≢◌, ◌↔◌}
 use mathlib.Core.List.{List, [], ◌∷◌}
 use native.Mathlib.Omega.{arith}
 use lib.Dec.{eqb}
 use lib.ListN.{length, take, get_or-replicate}
-use borrow.Author.Tests.{eqb-false, leb-true, le-leb, lt-ltb, eq-eqb, ne_eqb}
+use borrow.Author.Tests.{eqb-false, lt-ltb, eq-eqb, ne_eqb}
 use Rattle.hermes_record.specs.declared.timestamp.Timestamp.{Timestamp}
 use Rattle.hermes_record.specs.declared.record.Record.{Record}
 use Rattle.hermes_record.specs.declared.record.State.{State}
@@ -19,21 +19,21 @@ use Rattle.hermes.specs.declared.message.Outgoing.TheVariants.{None}
 use Rattle.hermes.specs.declared.event.Replica.{Replica}
 use Rattle.hermes.specs.declared.event.Settings.{Settings}
 use Rattle.hermes.specs.declared.event.Event.{Event}
-use Rattle.hermes.specs.declared.event.Event.TheVariants.{Read, Ask, Write, Commit, Replay, Deliver, Validate, Resend, Tick}
+use Rattle.hermes.specs.declared.event.Event.TheVariants.{Read, Ask, Write, Commit, Replay, Deliver, Validate, Resend}
 use Rattle.hermes.specs.declared.event.Admission.TheVariants.{Admitted}
 use Rattle.hermes_record.specs.Members.{has, lowest, others_in}
 use Rattle.hermes_record.specs.Order.{Orders, ties, later, same_timestamp}
 use Rattle.hermes.specs.Settings.{under}
 use Rattle.hermes_record.specs.Record.{one_of, invalidated_state, acknowledged, fresh_record}
 use Rattle.hermes.specs.Store.{slot}
-use Rattle.hermes.specs.Guards.{Question, AllYes, ask, first_no, question28, question1, question3, question8, question9, question12, question15, question16}
-use Rattle.hermes.specs.Event.{Step, write_step, inv_step, ack_step, completes, tick_step, reaches, resent, number_of, answer_of, sent_by}
+use Rattle.hermes.specs.Guards.{Question, AllYes, ask, first_no, question1, question3, question8, question9, question12, question15, question16}
+use Rattle.hermes.specs.Event.{Step, write_step, inv_step, ack_step, completes, resent, number_of, answer_of, sent_by}
 use Rattle.hermes.specs.Node.{Node, Outcome, record_of, leaving, apply, newcomer, start_questions, start, view, viewed, view_questions, admission_of, admission_number}
 use Rattle.hermes.specs.Frame.{bytes_after, Changed}
 use Rattle.hermes.specs.Locality.{body}
 use Rattle.hermes.specs.Source as source
-use Rattle.hermes.specs.Source.{Vars, Sending, In, HInit, HReadGuard, HWriteGuard, HCommitGuard, HReplayWriteWidenedGuard, HRcvInvGuard, HRcvInv, HRcvAckGuard, HRcvAckThenSendVals, HRcvValGuard, HSendValsGuard, NodeFailureGuard, ResendGuard, Resent, Ticked, send_inv}
-use Rattle.hermes.specs.Conformance.{vars_of, common_and, delivered, message, Follows, ViewFollows, StartFollows, Demand2By, Demand2}
+use Rattle.hermes.specs.Source.{Vars, Sending, In, HInit, HReadGuard, HWriteGuard, HCommitGuard, HReplayWriteWidenedGuard, HRcvInvGuard, HRcvInv, HRcvAckGuard, HRcvAckThenSendVals, HRcvValGuard, HSendValsGuard, NodeFailureGuard, ResendGuard, Resent, send_inv}
+use Rattle.hermes.specs.Conformance.{vars_of, five_and, delivered, message, Follows, ViewFollows, StartFollows, Demand2By, Demand2}
 use Rattle.hermes_record.proofs.Tests.{both, and_both, is_false, or-true}
 use Rattle.hermes.proofs.Members.{has-zero, within-members, members-within, every-other, others-every, adds-sender}
 use Rattle.hermes_record.proofs.Order.{later-greater, greater-later}
@@ -113,12 +113,12 @@ module _ (wins : Orders) (n : Node) (i : ℕ) (e : Event) (v : List ℕ) where
       stays o (refused k z q) a = (ap (λ (x : Outcome). x.node) q, ap (λ (x : Outcome). sent_by x.answer) q)
       stays o (accepted y c q) a = absurd (a (ap number q))
 
-  -- questions 28 and 1 to 5, with others, of a passed event; and back
-  five : (more : List Question) → AllYes (questions_of n i e v) → AllYes more → AllYes (common_and n i more)
-  five more y m = (y.0, (y.1.0, (y.1.1.0, (y.1.1.1.0, (y.1.1.1.1.0, (y.1.1.1.1.1.0, m))))))
+  -- questions 1 to 5, with others, of a passed event; and back
+  five : (more : List Question) → AllYes (questions_of n i e v) → AllYes more → AllYes (five_and n i more)
+  five more y m = (y.0, (y.1.0, (y.1.1.0, (y.1.1.1.0, (y.1.1.1.1.0, m)))))
 
-  back : (more : List Question) → AllYes (common_and n i more) → AllYes (own_of n i e v) → AllYes (questions_of n i e v)
-  back more f m = (f.0, (f.1.0, (f.1.1.0, (f.1.1.1.0, (f.1.1.1.1.0, (f.1.1.1.1.1.0, m))))))
+  back : (more : List Question) → AllYes (five_and n i more) → AllYes (own_of n i e v) → AllYes (questions_of n i e v)
+  back more f m = (f.0, (f.1.0, (f.1.1.0, (f.1.1.1.0, (f.1.1.1.1.0, m)))))
 
 -- ---- the actions
 
@@ -173,77 +173,49 @@ write-does me i r b v h = record {
   send = refl;
 }
 
--- 02, Wish 7
-abbrev ticks : Replica → ℕ → Record → Step
-ticks me i r = tick_step (one_of r.state (state.Valid ∷ [])) (reaches me r) me i r
-
-tick-does : (me : Replica) (i : ℕ) (r : Record) (b : List ℕ) → Ticked me i (me.settings.wait ≤ r.waited + 1) (seen r b) (step_vars (ticks me i r) b) (step_sends (ticks me i r) b)
-tick-does me i r b = record { replays = replays; resends = resends; waits = waits }
-  where
-    reached : me.settings.wait ≤ r.waited + 1 → reaches me r ≡ true
-    reached d = le-leb me.settings.wait (r.waited + 1) d
-
-    replays : me.settings.wait ≤ r.waited + 1 → In r.state (state.Invalid ∷ state.InvalidWrite ∷ []) → source.HReplayWrite me i (seen r b) (step_vars (ticks me i r) b) (step_sends (ticks me i r) b)
-    replays d (inl e) = rw (e, reached d) (record { node_last_writer = refl; node_state = refl; node_rcvd_acks = has-zero; node_last_write_ts = refl; node_ts = refl; value = refl; send = refl })
-    replays d (inr (inl e)) = rw (e, reached d) (record { node_last_writer = refl; node_state = refl; node_rcvd_acks = has-zero; node_last_write_ts = refl; node_ts = refl; value = refl; send = refl })
-    replays d (inr (inr e)) = absurd e
-
-    resends : me.settings.wait ≤ r.waited + 1 → In r.state (state.Write ∷ state.Replay ∷ []) → (step_vars (ticks me i r) b ≡ seen r b) × (step_sends (ticks me i r) b ≡ send_inv me i (seen r b))
-    resends d (inl e) = rw (e, reached d) (refl, refl)
-    resends d (inr (inl e)) = rw (e, reached d) (refl, refl)
-    resends d (inr (inr e)) = absurd e
-
-    still : (v : Bool) → (step_vars (tick_step v false me i r) b ≡ seen r b) × (step_sends (tick_step v false me i r) b ≡ source.silent)
-    still true = (refl, refl)
-    still false = (refl, refl)
-
-    waits : (me.settings.wait ≤ r.waited + 1 → ⊥) ⊎ (r.state ≡ state.Valid) → (step_vars (ticks me i r) b ≡ seen r b) × (step_sends (ticks me i r) b ≡ source.silent)
-    waits (inl n) = rw (is_false (reaches me r) (λ h. n (leb-true _ _ h))) (still (one_of r.state (state.Valid ∷ [])))
-    waits (inr e) = rw e (refl, refl)
-
 module _ (wins : Orders) (n : Node) (i : ℕ) (v : List ℕ) where
-  follows-read : Follows wins n i Read v (common_and n i []) HReadGuard source.HRead
-  follows-read = follows wins n i Read v (common_and n i []) HReadGuard source.HRead
+  follows-read : Follows wins n i Read v (five_and n i []) HReadGuard source.HRead
+  follows-read = follows wins n i Read v (five_and n i []) HReadGuard source.HRead
       (λ y. (five wins n i Read v [] y tt, is_state (record_of i n).state state.Valid (read-own n.me (record_of i n) (length v) (its_own n i Read v y))))
       (λ g. back wins n i Read v [] g.0 (state-is (record_of i n).state state.Valid g.1, tt))
       (λ y. record { unchanged = refl; send = refl })
 
-  follows-write : Follows wins n i Write v (common_and n i (question8 (length v) ∷ [])) HWriteGuard (source.HWrite n.me i v)
-  follows-write = follows wins n i Write v (common_and n i (question8 (length v) ∷ [])) HWriteGuard (source.HWrite n.me i v)
+  follows-write : Follows wins n i Write v (five_and n i (question8 (length v) ∷ [])) HWriteGuard (source.HWrite n.me i v)
+  follows-write = follows wins n i Write v (five_and n i (question8 (length v) ∷ [])) HWriteGuard (source.HWrite n.me i v)
       (λ y. let o = write-own n.me (record_of i n) (length v) (its_own n i Write v y) in
       (five wins n i Write v (question8 (length v) ∷ []) y ((its_own n i Write v y).1.0, tt), (one_in (record_of i n).state (state.Valid ∷ state.Invalid ∷ []) o.idle, o.below)))
       (λ g. back wins n i Write v (question8 (length v) ∷ []) g.0
-      (in_one (record_of i n).state (state.Valid ∷ state.Invalid ∷ []) g.1.0, (g.0.1.1.1.1.1.1.0, (lt-ltb (record_of i n).timestamp.version 4294967295 g.1.1, tt))))
+      (in_one (record_of i n).state (state.Valid ∷ state.Invalid ∷ []) g.1.0, (g.0.1.1.1.1.1.0, (lt-ltb (record_of i n).timestamp.version 4294967295 g.1.1, tt))))
       (λ y. write-does n.me i (record_of i n) (slot i n.store) v (its_own n i Write v y).1.1.0)
 
-  follows-ask : Follows wins n i Ask v (common_and n i []) HReadGuard source.HRead
-  follows-ask = follows wins n i Ask v (common_and n i []) HReadGuard source.HRead
+  follows-ask : Follows wins n i Ask v (five_and n i []) HReadGuard source.HRead
+  follows-ask = follows wins n i Ask v (five_and n i []) HReadGuard source.HRead
       (λ y. (five wins n i Ask v [] y tt, is_state (record_of i n).state state.Valid (its_own n i Ask v y).0))
       (λ g. back wins n i Ask v [] g.0 (state-is (record_of i n).state state.Valid g.1, tt))
       (λ y. record { unchanged = refl; send = refl })
 
-  follows-commit : (t : Timestamp) → Follows wins n i (Commit t) v (common_and n i (question8 (length v) ∷ [])) (HCommitGuard t) (source.HWrite n.me i v)
-  follows-commit t = follows wins n i (Commit t) v (common_and n i (question8 (length v) ∷ [])) (HCommitGuard t) (source.HWrite n.me i v)
+  follows-commit : (t : Timestamp) → Follows wins n i (Commit t) v (five_and n i (question8 (length v) ∷ [])) (HCommitGuard t) (source.HWrite n.me i v)
+  follows-commit t = follows wins n i (Commit t) v (five_and n i (question8 (length v) ∷ [])) (HCommitGuard t) (source.HWrite n.me i v)
       (λ y. let o = commit-own n.me (record_of i n) t (length v) (its_own n i (Commit t) v y) in
       (five wins n i (Commit t) v (question8 (length v) ∷ []) y ((its_own n i (Commit t) v y).1.0, tt), (is_state (record_of i n).state state.Valid o.valid, equal-ts o.current, o.below)))
       (λ g. back wins n i (Commit t) v (question8 (length v) ∷ []) g.0
-      (and_both _ _ (state-is (record_of i n).state state.Valid g.1.0) (ts-same t (record_of i n).timestamp g.1.1), (g.0.1.1.1.1.1.1.0, (lt-ltb (record_of i n).timestamp.version 4294967295 g.1.2, tt))))
+      (and_both _ _ (state-is (record_of i n).state state.Valid g.1.0) (ts-same t (record_of i n).timestamp g.1.1), (g.0.1.1.1.1.1.0, (lt-ltb (record_of i n).timestamp.version 4294967295 g.1.2, tt))))
       (λ y. write-does n.me i (record_of i n) (slot i n.store) v (its_own n i (Commit t) v y).1.1.0)
 
-  follows-replay : Follows wins n i Replay v (common_and n i []) (HReplayWriteWidenedGuard n.me) (source.HReplayWrite n.me i)
-  follows-replay = follows wins n i Replay v (common_and n i []) (HReplayWriteWidenedGuard n.me) (source.HReplayWrite n.me i)
+  follows-replay : Follows wins n i Replay v (five_and n i []) (HReplayWriteWidenedGuard n.me) (source.HReplayWrite n.me i)
+  follows-replay = follows wins n i Replay v (five_and n i []) (HReplayWriteWidenedGuard n.me) (source.HReplayWrite n.me i)
       (λ y. (five wins n i Replay v [] y tt, may-replay n.me (record_of i n) [] (replay-own n.me (record_of i n) (length v) (its_own n i Replay v y))))
       (λ g. back wins n i Replay v [] g.0 (replays-may n.me (record_of i n) [] g.1, tt))
       (λ y. record { node_last_writer = refl; node_state = refl; node_rcvd_acks = has-zero; node_last_write_ts = refl; node_ts = refl; value = refl; send = refl })
 
-  follows-validate : Follows wins n i Validate v (common_and n i []) (HSendValsGuard n.me) (source.HSendVals n.me i)
-  follows-validate = follows wins n i Validate v (common_and n i []) (HSendValsGuard n.me) (source.HSendVals n.me i)
+  follows-validate : Follows wins n i Validate v (five_and n i []) (HSendValsGuard n.me) (source.HSendVals n.me i)
+  follows-validate = follows wins n i Validate v (five_and n i []) (HSendValsGuard n.me) (source.HSendVals n.me i)
       (λ y. (five wins n i Validate v [] y tt, may-send n.me (record_of i n) [] (its_own n i Validate v y).0))
       (λ g. back wins n i Validate v [] g.0 (sends-may n.me (record_of i n) [] g.1, tt))
       (λ y. record { valid = record { node_state = refl; node_ts = refl; node_last_writer = refl; node_last_write_ts = refl; node_rcvd_acks = refl; value = refl }; send = refl })
 
-  follows-resend : Follows wins n i Resend v (common_and n i []) (ResendGuard n.me) (Resent n.me i)
-  follows-resend = follows wins n i Resend v (common_and n i []) (ResendGuard n.me) (Resent n.me i)
+  follows-resend : Follows wins n i Resend v (five_and n i []) (ResendGuard n.me) (Resent n.me i)
+  follows-resend = follows wins n i Resend v (five_and n i []) (ResendGuard n.me) (Resent n.me i)
       (λ y. (five wins n i Resend v [] y tt, to (resend-own n.me (record_of i n) (length v) (its_own n i Resend v y))))
       (λ g. back wins n i Resend v [] g.0 (from g.1, tt))
       (λ y. record { unchanged = refl; writing = writing; settled = λ e. ap sends e })
@@ -266,12 +238,6 @@ module _ (wins : Orders) (n : Node) (i : ℕ) (v : List ℕ) where
       writing (inl e) = ap sends e
       writing (inr (inl e)) = ap sends e
       writing (inr (inr e)) = absurd e
-
-  follows-tick : Follows wins n i Tick v (common_and n i []) (λ s. Unit) (Ticked n.me i (n.me.settings.wait ≤ (record_of i n).waited + 1))
-  follows-tick = follows wins n i Tick v (common_and n i []) (λ s. Unit) (Ticked n.me i (n.me.settings.wait ≤ (record_of i n).waited + 1))
-      (λ y. (five wins n i Tick v [] y tt, tt))
-      (λ g. g.0)
-      (λ y. tick-does n.me i (record_of i n) (slot i n.store))
 
 -- ---- deliveries
 
@@ -321,7 +287,7 @@ module _ (wins : Orders) (n : Node) (i sender epoch : ℕ) (t : Timestamp) (v : 
   follows-inv : Follows wins n i (Deliver (message sender epoch (Inv t))) v (delivered n i (message sender epoch (Inv t)) v) (λ s. HRcvInvGuard n.me sender epoch) (HRcvInv (under wins n.me.settings) n.me i sender t v)
   follows-inv = follows wins n i (Deliver (message sender epoch (Inv t))) v (delivered n i (message sender epoch (Inv t)) v) (λ s. HRcvInvGuard n.me sender epoch) (HRcvInv (under wins n.me.settings) n.me i sender t v)
       (λ y. (five wins n i (Deliver (message sender epoch (Inv t))) v (question12 (message sender epoch (Inv t)) (length v) ∷ []) y ((yes (Inv t) y).shape, tt), ((yes (Inv t) y).epoch, apart (Inv t) y, (yes (Inv t) y).known)))
-      (λ g. back wins n i (Deliver (message sender epoch (Inv t))) v (question12 (message sender epoch (Inv t)) (length v) ∷ []) g.0 (eq-eqb epoch n.me.epoch g.1.0, (both-eleven g.1.2 g.1.1, (g.0.1.1.1.1.1.1.0, tt))))
+      (λ g. back wins n i (Deliver (message sender epoch (Inv t))) v (question12 (message sender epoch (Inv t)) (length v) ∷ []) g.0 (eq-eqb epoch n.me.epoch g.1.0, (both-eleven g.1.2 g.1.1, (g.0.1.1.1.1.1.0, tt))))
       (λ y. inv-does (under wins n.me.settings) n.me i (record_of i n) (slot i n.store) t sender v (later (under wins n.me.settings) t (record_of i n).timestamp) refl)
 
   follows-ack : Follows wins n i (Deliver (message sender epoch (Ack t))) v (delivered n i (message sender epoch (Ack t)) v) (HRcvAckGuard n.me sender epoch t) (HRcvAckThenSendVals n.me i sender)
@@ -334,9 +300,9 @@ module _ (wins : Orders) (n : Node) (i sender epoch : ℕ) (t : Timestamp) (v : 
       (λ g. back wins n i (Deliver (message sender epoch (Ack t))) v (ask 11 (has n.me.view sender) ∷ question12 (message sender epoch (Ack t)) (length v) ∷ []) g.0 (
         eq-eqb epoch n.me.epoch g.1.0,
         (
-          both-eleven g.0.1.1.1.1.1.1.0 g.1.1,
+          both-eleven g.0.1.1.1.1.1.0 g.1.1,
           (
-            g.0.1.1.1.1.1.1.1.0,
+            g.0.1.1.1.1.1.1.0,
             (and_both (waits && same) fresh (and_both waits same (in_one (record_of i n).state (state.Write ∷ state.InvalidWrite ∷ state.Replay ∷ []) g.1.4) (ts-same t (record_of i n).written g.1.3)) (ap not g.1.2), tt),
           ),
         ),
@@ -355,9 +321,9 @@ module _ (wins : Orders) (n : Node) (i sender epoch : ℕ) (t : Timestamp) (v : 
   val_own : List Question
   val_own = ask 11 (has n.me.view sender && not (eqb sender n.me.number)) ∷ question12 (message sender epoch (Val t)) (length v) ∷ []
 
-  follows-val : Follows wins n i (Deliver (message sender epoch (Val t))) v (common_and n i val_own) (HRcvValGuard n.me epoch t) source.HRcvVal
+  follows-val : Follows wins n i (Deliver (message sender epoch (Val t))) v (five_and n i val_own) (HRcvValGuard n.me epoch t) source.HRcvVal
   unfolding val_own
-  follows-val = follows wins n i (Deliver (message sender epoch (Val t))) v (common_and n i val_own) (HRcvValGuard n.me epoch t) source.HRcvVal
+  follows-val = follows wins n i (Deliver (message sender epoch (Val t))) v (five_and n i val_own) (HRcvValGuard n.me epoch t) source.HRcvVal
       (λ y. let o = its_own n i (Deliver (message sender epoch (Val t))) v y in
       let (p, e) = (yes (Val t) y).kind in (
         five wins n i (Deliver (message sender epoch (Val t))) v val_own y (o.1.0, (o.1.1.0, tt)),
@@ -366,9 +332,9 @@ module _ (wins : Orders) (n : Node) (i sender epoch : ℕ) (t : Timestamp) (v : 
       (λ g. back wins n i (Deliver (message sender epoch (Val t))) v val_own g.0 (
         eq-eqb epoch n.me.epoch g.1.0,
         (
-          g.0.1.1.1.1.1.1.0,
+          g.0.1.1.1.1.1.0,
           (
-            g.0.1.1.1.1.1.1.1.0,
+            g.0.1.1.1.1.1.1.0,
             (and_both (not valid) same (ap not (is_false valid (λ h. g.1.1 (is_state (record_of i n).state state.Valid h)))) (ts-same t (record_of i n).timestamp g.1.2), tt),
           ),
         ),
@@ -409,7 +375,7 @@ start-follows k view settings table store = record { accepted = (to, from); does
     })
       where
         low : source.Lowest view (lowest view)
-        low = lowest-lowest view k b.asked.1.1.1.0
+        low = lowest-lowest view k b.asked.1.1.0
 
 view-follows : (n : Node) (epoch alive : ℕ) → ViewFollows n epoch alive
 unfolding viewed view
@@ -438,13 +404,13 @@ view-follows n epoch alive = record {
         record { later = view-later n.me epoch alive y; fewer = within-members alive n.me.view p; one = w.one; two = w.two; apart = w.apart; one_stays = w.one_passes; two_stays = w.two_passes }
 
     to : (k : ℕ) → first_no questions ≡ k → number_of (answer_of (admission_number (admission_of k next)) None) ≡ 0
-        → AllYes (question28 n.me ∷ question1 n.me ∷ question3 n.me ∷ []) × NodeFailureGuard n.me epoch alive
-    to zero z a = let y : AllYes questions = all_yes questions refl z in ((y.0, (y.1.0, (y.1.1.0, tt))), guard y)
+        → AllYes (question1 n.me ∷ question3 n.me ∷ []) × NodeFailureGuard n.me epoch alive
+    to zero z a = let y : AllYes questions = all_yes questions refl z in ((y.0, (y.1.0, tt)), guard y)
     to (suc k) z a = absurd (omega arith)
 
-    from : AllYes (question28 n.me ∷ question1 n.me ∷ question3 n.me ∷ []) × NodeFailureGuard n.me epoch alive
+    from : AllYes (question1 n.me ∷ question3 n.me ∷ []) × NodeFailureGuard n.me epoch alive
         → number_of (answer_of (admission_number (admission_of (first_no questions) next)) None) ≡ 0
-    from (y, g) = rw (none-says-no questions (y.0, (y.1.0, (y.1.1.0, (lt-ltb n.me.epoch epoch g.later, (and_both _ _ (members-within alive n.me.view g.fewer) (two_size alive g.one g.two g.apart g.one_stays g.two_stays), tt))))))
+    from (y, g) = rw (none-says-no questions (y.0, (y.1.0, (lt-ltb n.me.epoch epoch g.later, (and_both _ _ (members-within alive n.me.view g.fewer) (two_size alive g.one g.two g.apart g.one_stays g.two_stays), tt)))))
 
 -- ---- the theorems
 
@@ -462,7 +428,6 @@ conformance-by wins = record {
   val = follows-val wins;
   validate = follows-validate wins;
   resend = follows-resend wins;
-  tick = follows-tick wins;
   view = view-follows;
 }
 

@@ -1,7 +1,7 @@
 -- What it says that no question of an event says no, as named fields.
 use Prim.Native.Nat.{ℕ, ◌+◌, ◌*◌, ◌≤◌, ◌<◌}
 use mathlib.Core.Path.{◌≡◌, refl, sym, ◌∙◌}
-use mathlib.Core.Bool.{Bool, true, false, cond, not, ◌&&◌, ◌||◌, false≢true}
+use mathlib.Core.Bool.{Bool, true, false, cond, not, ◌&&◌, false≢true}
 use mathlib.Core.List.{List, [], ◌∷◌}
 use mathlib.Core.Logic.{◌⊎◌, inl, inr, ◌≢◌}
 use native.Mathlib.Omega.{arith}
@@ -15,14 +15,14 @@ use Rattle.hermes.specs.declared.message.Message.TheVariants.{Inv, Ack, Val}
 use Rattle.hermes.specs.declared.message.Received.{Received}
 use Rattle.hermes.specs.declared.event.Replica.{Replica}
 use Rattle.hermes.specs.declared.event.Event.{Event}
-use Rattle.hermes.specs.declared.event.Event.TheVariants.{Read, Ask, Write, Commit, Replay, Deliver, Validate, Resend, Tick}
+use Rattle.hermes.specs.declared.event.Event.TheVariants.{Read, Ask, Write, Commit, Replay, Deliver, Validate, Resend}
 use Rattle.hermes_record.specs.Members.{has, size, others_in, within}
 use Rattle.hermes_record.specs.Order.{same_timestamp}
 use Rattle.hermes_record.specs.Record.{one_of}
 use Rattle.hermes.specs.Guards.{Question, AllYes, first_no, question5, shapely}
 use Rattle.hermes.specs.Event.{common, of_kind, own, refusal}
 use Rattle.hermes.specs.Node.{view_questions}
-use Rattle.hermes_record.proofs.Tests.{both, either, implied}
+use Rattle.hermes_record.proofs.Tests.{both, either}
 use Rattle.hermes_record.proofs.Order.{same-equal}
 
 -- ---- lists of questions
@@ -73,9 +73,8 @@ positive-own me r Replay n = refl
 positive-own me r (Deliver m) n = positive-kind m.message m.sender r
 positive-own me r Validate n = refl
 positive-own me r Resend n = refl
-positive-own me r Tick n = refl
 
--- ---- questions 28 and 1 to 5
+-- ---- questions 1 to 5
 
 pub record Sound (me : Replica) (r : Record) : Type 0 where
   pub short : r.len ≤ 192
@@ -83,8 +82,6 @@ pub record Sound (me : Replica) (r : Record) : Type 0 where
   pub own-tie : r.written.tie ≤ 15
   pub writer : r.writer ≤ 15
   pub uncounted : has r.acks me.number ≡ false
-  pub waits : r.waited < me.settings.wait
-  pub rests : one_of r.state (state.Valid ∷ []) ≡ true → r.waited ≡ 0
 
 pub record Common (me : Replica) (count bytes i : ℕ) (r : Record) : Type 0 where
   pub number : me.number ≤ 15
@@ -98,9 +95,7 @@ pub record Common (me : Replica) (count bytes i : ℕ) (r : Record) : Type 0 whe
 
 pub sound-passed : (me : Replica) (r : Record) → (question5 me r).yes ≡ true → Sound me r
 sound-passed me r e =
-    let a = both _ (not (one_of r.state (state.Valid ∷ [])) || eqb r.waited 0) e in
-    let b = both _ (ltb r.waited me.settings.wait) a.0 in
-    let p = both _ (not (has r.acks me.number)) b.0 in
+    let p = both _ (not (has r.acks me.number)) e in
     let q = both _ (leb r.writer 15) p.0 in
     let s = both _ (leb r.written.tie 15) q.0 in
     let t = both _ (leb r.timestamp.tie 15) s.0 in
@@ -110,12 +105,10 @@ sound-passed me r e =
       own-tie = leb-true _ _ s.1;
       writer = leb-true _ _ q.1;
       uncounted = not-true _ p.1;
-      waits = ltb-true _ _ b.1;
-      rests = λ h. eqb-true _ _ (implied (one_of r.state (state.Valid ∷ [])) (eqb r.waited 0) a.1 h);
     }
 
 pub common-passed : (me : Replica) (count bytes i : ℕ) (r : Record) (rest : List Question) → AllYes (common me count bytes i r rest) → Common me count bytes i r
-common-passed me count bytes i r rest (q28, (q1, (q2, (q3, (q4, (q5, y)))))) =
+common-passed me count bytes i r rest (q1, (q2, (q3, (q4, (q5, y))))) =
     let a = both _ (leb 2 (size me.view)) q1 in
     let b = both _ (eqb bytes (192 * count)) q2 in
     let c = both _ (leb count 4096) b.0 in
@@ -221,10 +214,10 @@ module _ (me : Replica) (r : Record) where
 
 -- of a view, question 18, and question 19; each by itself, since agreement needs 19 alone
 pub view-later : (me : Replica) (epoch view : ℕ) → AllYes (view_questions me epoch view) → me.epoch < epoch
-view-later me epoch view y = ltb-true me.epoch epoch y.1.1.1.0
+view-later me epoch view y = ltb-true me.epoch epoch y.1.1.0
 
 pub view-inside : (me : Replica) (epoch view : ℕ) → AllYes (view_questions me epoch view) → (within view me.view ≡ true) × (leb 2 (size view) ≡ true)
-view-inside me epoch view y = both (within view me.view) (leb 2 (size view)) y.1.1.1.1.0
+view-inside me epoch view y = both (within view me.view) (leb 2 (size view)) y.1.1.1.0
 
 module _ (me : Replica) (count bytes i : ℕ) (r : Record) where
   -- every answer is yes: no question says no
@@ -242,7 +235,7 @@ module _ (me : Replica) (count bytes i : ℕ) (r : Record) where
 
   -- its own questions
   pub own-passed : (e : Event) (n : ℕ) → refusal me count bytes i r e n ≡ 0 → AllYes (own me r e n)
-  own-passed e n z = (passed e n z).1.1.1.1.1.1
+  own-passed e n z = (passed e n z).1.1.1.1.1
 
 -- question 12 of an invalidation
 pub inv-fits : (m : Message) (t : Timestamp) (n : ℕ) → m ≡ Inv t → shapely m n ≡ true → n ≤ 192

@@ -32,7 +32,7 @@ use Rattle.hermes.proofs.Members.{has-small, has-zero, has-with, with-members, m
 use Rattle.hermes.proofs.Guards.{deliver-own}
 use Rattle.hermes.proofs.Words.{Two, size-two}
 use Rattle.hermes.proofs.Apply.{step_of, Applied, refused, accepted, applied, its_own}
-use Rattle.hermes.proofs.Along.{fresh-record, with_count, Becomes, same, writes, ticks, replays, invalidates, counts, settles, validates, along}
+use Rattle.hermes.proofs.Along.{fresh-record, Becomes, same, writes, replays, invalidates, counts, settles, validates, along}
 
 -- ---- question 15, in the words of the statements
 
@@ -128,8 +128,7 @@ taken-idle state.Replay = refl
 keeps : (wins : ℕ → ℕ → Bool) (me : Replica) (r b : Record) → (question1 me).yes ≡ true → Becomes wins me r b → (Replied me r → ⊥) → Replied me b → ⊥
 keeps wins me r b y (same e) before = rw e before
 keeps wins me r b y (writes n more e) before = rw e (begun-waits me (written_by r me.number n) y refl)
-keeps wins me r b y (ticks n d e) before = rw e before
-keeps wins me r b y (replays n d e) before = rw e (begun-waits me (replayed (with_count r n) me.number) y refl)
+keeps wins me r b y (replays d e) before = rw e (begun-waits me (replayed r me.number) y refl)
 keeps wins me r b y (invalidates t sender n l d e) before = rw e (idle me (invalidated r t sender n) (taken-idle r.state))
 keeps wins me r b y (counts sender c e) before =
     rw e (λ h. false≢true (sym c ∙ and_both _ _ (pending (acknowledged r sender) h.0) (every-other me.number me.view (with r.acks sender) h.1)))

@@ -18,7 +18,6 @@ pub mod Along
 pub mod LastAck
 pub mod Overtaken
 pub mod Asking
-pub mod Waiting
 pub mod Progress
 pub mod Drive
 pub mod Driver
@@ -32,7 +31,6 @@ pub mod Premises
 pub mod SettlingPremises
 pub mod AskingPremises
 pub mod TiePremises
-pub mod WaitingPremises
 pub mod Frame
 pub mod Locality
 pub mod Recipients

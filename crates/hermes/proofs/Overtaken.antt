@@ -29,15 +29,15 @@ use Rattle.hermes.specs.Run as run
 use Rattle.hermes.specs.Run.{Group, result, advance}
 use Rattle.hermes.specs.Agreement.{after}
 use Rattle.hermes.specs.Reads.{Sound}
-use Rattle.hermes.specs.Overtaken.{GivenUp, Turn, shown, finishes, resends, takes_over, awaits, NobodyHangs}
+use Rattle.hermes.specs.Overtaken.{replay_of, GivenUp, Turn, shown, finishes, resends, takes_over, awaits, NobodyHangs}
 use Rattle.hermes_record.proofs.Tests.{and_both}
 use Rattle.hermes.proofs.Members.{every-other}
 use Rattle.hermes_record.proofs.Order.{greater-later, later_trans, later-apart}
 use Rattle.hermes.proofs.Guards.{KindOwn, deliver-own}
 use Rattle.hermes.proofs.Apply.{questions_of, own_of, Applied, refused, accepted, applied, its_own, answered}
-use Rattle.hermes.proofs.Words.{state-is}
-use Rattle.hermes.proofs.Sound.{stay-sound, common-say-yes, reads-tell}
-use Rattle.hermes.proofs.Along.{fresh-record, Becomes, same, writes, ticks, replays, invalidates, counts, settles, validates, always}
+use Rattle.hermes.proofs.Agreement.{at-who}
+use Rattle.hermes.proofs.Sound.{stay-sound, five-say-yes, reads-tell}
+use Rattle.hermes.proofs.Along.{fresh-record, Becomes, same, writes, replays, invalidates, counts, settles, validates, always}
 
 -- ---- what every accepted event keeps of its record
 
@@ -62,18 +62,6 @@ record Risen (wins : ℕ → ℕ → Bool) (t : Timestamp) (r : Record) : Type 0
   held : later wins r.timestamp t ≡ true
   own : later wins r.written t ≡ true
 
--- its timestamp is, and in replay both are
-record Replaying (wins : ℕ → ℕ → Bool) (t : Timestamp) (r : Record) : Type 0 where
-  held : later wins r.timestamp t ≡ true
-  risen : one_of r.state (state.Replay ∷ []) ≡ true → Risen wins t r
-
-taken-still : (s : State) → one_of (invalidated_state s) (state.Replay ∷ []) ≡ false
-taken-still state.Valid = refl
-taken-still state.Invalid = refl
-taken-still state.InvalidWrite = refl
-taken-still state.Write = refl
-taken-still state.Replay = refl
-
 taken-foreign : (s : State) (sender k : ℕ) → sender ≢ k → Foreign (invalidated_state s) sender k
 taken-foreign state.Valid sender k d = d
 taken-foreign state.Invalid sender k d = d
@@ -84,8 +72,7 @@ taken-foreign state.Replay sender k d = d
 foreign-keeps : (wins : ℕ → ℕ → Bool) (me : Replica) (r b : Record) → Becomes wins me r b → Foreign r.state r.writer me.number → Foreign b.state b.writer me.number
 foreign-keeps wins me r b (same e) h = rw e h
 foreign-keeps wins me r b (writes n more e) h = rw e tt
-foreign-keeps wins me r b (ticks n d e) h = rw e h
-foreign-keeps wins me r b (replays n d e) h = rw e tt
+foreign-keeps wins me r b (replays d e) h = rw e tt
 foreign-keeps wins me r b (invalidates t sender n l d e) h = rw e (taken-foreign r.state sender me.number d)
 foreign-keeps wins me r b (counts sender c e) h = rw e h
 foreign-keeps wins me r b (settles sender e) h = rw e tt
@@ -102,8 +89,7 @@ module _ (wins : ℕ → ℕ → Bool) (ord : TieOrder wins) where
   ahead-keeps : (me : Replica) (r b : Record) → Becomes wins me r b → Ahead wins r.state r.timestamp r.written → Ahead wins b.state b.timestamp b.written
   ahead-keeps me r b (same e) h = rw e h
   ahead-keeps me r b (writes n more e) h = rw e refl
-  ahead-keeps me r b (ticks n d e) h = rw e h
-  ahead-keeps me r b (replays n d e) h = rw e tt
+  ahead-keeps me r b (replays d e) h = rw e tt
   ahead-keeps me r b (invalidates t sender n l d e) h = rw e (taken-ahead r.state r.timestamp r.written t l h)
   ahead-keeps me r b (counts sender c e) h = rw e h
   ahead-keeps me r b (settles sender e) h = rw e tt
@@ -115,31 +101,17 @@ module _ (wins : ℕ → ℕ → Bool) (ord : TieOrder wins) where
     where
       new : later wins (next_timestamp r.timestamp me.number) t ≡ true
       new = later_trans wins ord (next_timestamp r.timestamp me.number) r.timestamp t (greater-later wins (next_timestamp r.timestamp me.number) r.timestamp (inl (omega (arith, more)))) h.held
-  risen-keeps t me r b (ticks n d e) h = rw e (record { held = h.held; own = h.own })
-  risen-keeps t me r b (replays n d e) h = rw e (record { held = h.held; own = h.held })
+  risen-keeps t me r b (replays d e) h = rw e (record { held = h.held; own = h.held })
   risen-keeps t me r b (invalidates new sender n l d e) h = rw e (record { held = later_trans wins ord new r.timestamp t l h.held; own = h.own })
   risen-keeps t me r b (counts sender c e) h = rw e (record { held = h.held; own = h.own })
   risen-keeps t me r b (settles sender e) h = rw e (record { held = h.held; own = h.own })
   risen-keeps t me r b (validates e) h = rw e (record { held = h.held; own = h.own })
 
-  replaying-keeps : (t : Timestamp) (me : Replica) (r b : Record) → Becomes wins me r b → Replaying wins t r → Replaying wins t b
-  replaying-keeps t me r b (same e) h = rw e h
-  replaying-keeps t me r b (writes n more e) h = rw e (record { held = new; risen = λ q. absurd (false≢true q) })
-    where
-      new : later wins (next_timestamp r.timestamp me.number) t ≡ true
-      new = later_trans wins ord (next_timestamp r.timestamp me.number) r.timestamp t (greater-later wins (next_timestamp r.timestamp me.number) r.timestamp (inl (omega (arith, more)))) h.held
-  replaying-keeps t me r b (ticks n d e) h = rw e (record { held = h.held; risen = λ q. record { held = (h.risen q).held; own = (h.risen q).own } })
-  replaying-keeps t me r b (replays n d e) h = rw e (record { held = h.held; risen = λ q. record { held = h.held; own = h.held } })
-  replaying-keeps t me r b (invalidates new sender n l d e) h = rw e (record { held = later_trans wins ord new r.timestamp t l h.held; risen = λ q. absurd (false≢true (sym (taken-still r.state) ∙ q)) })
-  replaying-keeps t me r b (counts sender c e) h = rw e (record { held = h.held; risen = λ q. record { held = (h.risen q).held; own = (h.risen q).own } })
-  replaying-keeps t me r b (settles sender e) h = rw e (record { held = h.held; risen = λ q. absurd (false≢true q) })
-  replaying-keeps t me r b (validates e) h = rw e (record { held = h.held; risen = λ q. absurd (false≢true q) })
-
 -- ---- the overtaken save is given up
 
 pub given-up : GivenUp
 unfolding result
-given-up wins ords member count issued settings g s before a i k l m x rest = record { overtaken = past.held; uncounted = refuses }
+given-up wins ords member count issued settings g s before i k l m x rest = record { overtaken = past.held; uncounted = refuses }
   where
     n : Node
     n = after wins g before k
@@ -160,12 +132,15 @@ given-up wins ords member count issued settings g s before a i k l m x rest = re
     behind : later (order n.me.settings) (record_of i n).timestamp t ≡ true
     behind = subst (λ (z : State). Ahead (order n.me.settings) z (record_of i n).timestamp t) x.invalid_write ahead
 
+    done-risen : (o : Outcome) → Applied wins n i Replay [] o → number_of o.answer ≡ 0 → Risen (order o.node.me.settings) t (record_of i o.node)
+    done-risen o (refused z y q) e = absurd (omega (arith, ap (λ (w : Outcome). number_of w.answer) q))
+    done-risen o (accepted y c q) e = rw (q, c.here) (record { held = behind; own = behind })
+
     now : Group
-    now = advance wins (run.run wins g before) a
+    now = advance wins (run.run wins g before) (replay_of k i)
 
     begun : Risen (order (now.at k).me.settings) t (record_of i (now.at k))
-    begun = (always wins i (λ number x r. Replaying (order x) t r) (λ me. replaying-keeps (order me.settings) (ord me.settings) t me) k (run.run wins g before)
-        (record { held = behind; risen = λ e. absurd (false≢true (subst (λ (z : State). one_of z (state.Replay ∷ []) ≡ true) x.invalid_write e)) }) (a ∷ [])).risen (state-is _ state.Replay x.replays)
+    begun = rw (at-who wins (run.run wins g before) (replay_of k i)) (done-risen (apply wins n i Replay []) (applied wins n i Replay []) x.accepted)
 
     past : Risen (order (after wins now rest k).me.settings) t (record_of i (after wins now rest k))
     past = always wins i (λ number x r. Risen (order x) t r) (λ me. risen-keeps (order me.settings) (ord me.settings) t me) k now begun rest
@@ -192,7 +167,7 @@ nobody-hangs wins member count issued settings g s entries c i k l m v = go (rec
     ok = stay-sound wins member count issued settings g s entries c k m
 
     five : (e : Event) → AllYes (own_of n i e []) → AllYes (questions_of n i e [])
-    five e y = common-say-yes count settings k n ok i l v e [] y
+    five e y = five-say-yes count settings k n ok i l v e [] y
 
     foreign : Foreign (record_of i n).state (record_of i n).writer n.me.number
     foreign = always wins i (λ number x r. Foreign r.state r.writer number) (λ me. foreign-keeps (under wins me.settings) me) k g (rw (fresh-record member count issued settings g s i k l m) tt) entries

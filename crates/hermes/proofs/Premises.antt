@@ -6,7 +6,6 @@ use mathlib.Core.Bool.{true}
 use mathlib.Core.Logic.{inl}
 use mathlib.Core.List.{[], ◌∷◌}
 use native.Mathlib.Omega.{arith}
-use lib.Dec.{ltb}
 use lib.ListN.{replicate, take, drop}
 use borrow.Author.Tests.{ltb-true}
 use Rattle.hermes.specs.declared.event.Admission.TheVariants.{Admitted}
@@ -28,22 +27,22 @@ use Rattle.hermes.proofs.Members.{others-every}
 use Rattle.hermes.proofs.Agreement.{agreement}
 use Rattle.hermes.proofs.Overtaken.{given-up, nobody-hangs}
 
-admitted : (settings : Settings) → ltb 0 settings.wait ≡ true → (k : ℕ) → three k ≡ true → (start k 7 settings lent_table (replicate 192 0)).admission ≡ Admitted (newcomer k 7 settings)
+admitted : (settings : Settings) (k : ℕ) → three k ≡ true → (start k 7 settings lent_table (replicate 192 0)).admission ≡ Admitted (newcomer k 7 settings)
 unfolding start has size
-admitted settings w zero e = rw w
-admitted settings w (suc zero) e = rw w
-admitted settings w (suc (suc zero)) e = rw w
-admitted settings w (suc (suc (suc k))) e = absurd (omega (arith, ltb-true (suc (suc (suc k))) 3 e))
+admitted settings zero e = refl
+admitted settings (suc zero) e = refl
+admitted settings (suc (suc zero)) e = refl
+admitted settings (suc (suc (suc k))) e = absurd (omega (arith, ltb-true (suc (suc (suc k))) 3 e))
 
 -- under each rule
-pub started_with : (settings : Settings) → ltb 0 settings.wait ≡ true → Started three 1 issued settings (group_with settings)
-started_with settings w = record {
-  fresh = λ k e. record { table = lent_table; store = replicate 192 0; records = refl; accepted = admitted settings w k e; table_after = refl; store_after = refl };
+pub started_with : (settings : Settings) → Started three 1 issued settings (group_with settings)
+started_with settings = record {
+  fresh = λ k e. record { table = lent_table; store = replicate 192 0; records = refl; accepted = admitted settings k e; table_after = refl; store_after = refl };
   silent = refl;
 }
 
 abbrev pub started : Started three 1 issued old_settings group
-started = started_with old_settings refl
+started = started_with old_settings
 
 -- the sixth line, validate, is refused by 15: the last ACK before it has validated (02, Wish 1)
 pub played-answers : answers group played ≡ 0 ∷ 0 ∷ 0 ∷ 0 ∷ 0 ∷ 15 ∷ 0 ∷ 0 ∷ 6 ∷ []
@@ -62,7 +61,7 @@ story-entries =
     (refl, tt, (refl, tt, (refl, tt, (refl, tt, (refl, tt, (refl, tt, (refl, tt, (refl, tt, (refl, tt, (refl, tt, second))))))))))
   where
     fourth : Entries three issued (drop 30 story)
-    fourth = (refl, tt, (refl, tt, (refl, refl, (refl, tt, (refl, tt, (refl, tt, (refl, tt, (refl, tt, (refl, tt, (refl, tt, (refl, tt, (refl, tt, (refl, tt, (refl, tt, tt))))))))))))))
+    fourth = (refl, tt, (refl, tt, (refl, refl, (refl, tt, (refl, tt, (refl, tt, (refl, tt, (refl, tt, (refl, tt, (refl, tt, (refl, tt, (refl, tt, tt))))))))))))
 
     third : Entries three issued (drop 20 story)
     third = (refl, tt, (refl, refl, (refl, tt, (refl, tt, (refl, tt, (refl, tt, (refl, tt, (refl, tt, (refl, tt, (refl, tt, fourth))))))))))
@@ -79,7 +78,6 @@ every-kind (run.replay i) = (refl, refl)
 every-kind (run.deliver k) = (refl, refl)
 every-kind (run.validate i) = (refl, refl)
 every-kind (run.resend i) = (refl, refl)
-every-kind (run.tick i) = (refl, refl)
 every-kind (run.view epoch set) = (refl, refl)
 
 -- 2 is not in its own view, and is itself the last writer
@@ -120,9 +118,9 @@ witness = record {
   overtaken = record {
     member = refl;
     split = refl;
-    given = record { invalid_write = refl; replays = refl };
+    given = record { invalid_write = refl; accepted = refl };
     save = refl;
-    past = given-up ties ties-order three 1 issued old_settings group started (take 24 story) (run.by 0 (run.replay 0)) 0 0 (omega arith) refl (record { invalid_write = refl; replays = refl }) (drop 25 story);
+    past = given-up ties ties-order three 1 issued old_settings group started (take 24 story) 0 0 (omega arith) refl (record { invalid_write = refl; accepted = refl }) (drop 25 story);
   };
   turns = λ k m v. nobody-hangs ties three 1 issued old_settings group started story story-entries 0 k (omega arith) m v;
   stuck = no-turn;

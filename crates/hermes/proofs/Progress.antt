@@ -39,7 +39,7 @@ use Rattle.hermes.proofs.Guards.{sound-passed}
 use Rattle.hermes.proofs.Log.{find-front, find-last, find-either}
 use Rattle.hermes.proofs.Apply.{questions_of, passed-zero, done, Applied, refused, accepted, applied}
 use Rattle.hermes.proofs.Agreement.{at-who, at_other, run-append}
-use Rattle.hermes.proofs.Sound.{advance-sound, common-say-yes}
+use Rattle.hermes.proofs.Sound.{advance-sound, five-say-yes}
 
 -- ---- what leaves
 
@@ -138,7 +138,7 @@ acts T inside m h n l ev v y = subst (λ (me : Replica). (apply wins n i ev v �
     s me = step wins me i (record_of i n) ev v
 
     yes-all : AllYes (questions_of n i ev v)
-    yes-all = common-say-yes T.count T.settings m n l.sound i inside (rw l.view h) ev v (subst (λ (me : Replica). AllYes (own me (record_of i n) ev (length v))) (sym (identity T m n l)) y)
+    yes-all = five-say-yes T.count T.settings m n l.sound i inside (rw l.view h) ev v (subst (λ (me : Replica). AllYes (own me (record_of i n) ev (length v))) (sym (identity T m n l)) y)
 
     go : (o : Outcome) → Applied wins n i ev v o → (o ≡ record { answer = Accepted (s n.me).sent; node = done n i (s n.me) }) × (record_of i (done n i (s n.me)) ≡ (s n.me).after)
     go o (refused k z q) = absurd (omega (arith, z, passed-zero n i ev v yes-all))

@@ -17,18 +17,17 @@ use Rattle.hermes.specs.declared.message.Outgoing.TheVariants.{None, Sent}
 use Rattle.hermes.specs.declared.message.Received.{Received}
 use Rattle.hermes.specs.declared.event.Replica.{Replica}
 use Rattle.hermes.specs.declared.event.Event.{Event}
-use Rattle.hermes.specs.declared.event.Event.TheVariants.{Read, Ask, Write, Commit, Replay, Deliver, Validate, Resend, Tick}
+use Rattle.hermes.specs.declared.event.Event.TheVariants.{Read, Ask, Write, Commit, Replay, Deliver, Validate, Resend}
 use Rattle.hermes_record.specs.Members.{has, with, without}
 use Rattle.hermes_record.specs.Order.{Orders, later}
 use Rattle.hermes.specs.Settings.{under}
 use Rattle.hermes.specs.Guards.{AllYes}
-use Rattle.hermes.specs.Event.{inv_step, ack_step, completes, send, deliver_step, resent, step, own, sent_by, recipients}
+use Rattle.hermes.specs.Event.{inv_step, ack_step, completes, deliver_step, resent, step, own, sent_by, recipients}
 use Rattle.hermes.specs.Node.{Outcome, record_of, apply}
 use Rattle.hermes.specs.Recipients.{Exactly, Other, ForItsSender, GoesTo, leaves, WhoGets, OthersOnly}
 use Rattle.hermes_record.proofs.Tests.{both, and_both}
 use Rattle.hermes.proofs.Members.{Has, has-small, has-zero, has-without, with-members, members-with}
 use Rattle.hermes.proofs.Guards.{DeliverOwn, deliver-own}
-use Rattle.hermes.proofs.Steps.{tick-does}
 use Rattle.hermes.proofs.Apply.{Applied, refused, accepted, applied, its_own}
 
 -- ---- the three sets, by their members
@@ -80,10 +79,6 @@ module _ (wins : Orders) (me : Replica) (i : ℕ) (r : Record) where
   resent-goes state.Write t = others me
   resent-goes state.Replay t = others me
 
-  tick_goes : (o : Outgoing) → (o ≡ None) ⊎ (o ≡ send me i (Inv r.timestamp)) → GoesTo me Tick o (recipients me Tick o)
-  tick_goes o (inl e) = rw e nobody
-  tick_goes o (inr e) = rw e (others me)
-
   step-goes : (e : Event) (v : List ℕ) (n : ℕ) → AllYes (own me r e n) → GoesTo me e (step wins me i r e v).sent (recipients me e (step wins me i r e v).sent)
   step-goes Read v n y = nobody
   step-goes Ask v n y = nobody
@@ -95,7 +90,6 @@ module _ (wins : Orders) (me : Replica) (i : ℕ) (r : Record) where
       deliver-goes m m.message v refl (d.known, eqb-false m.sender me.number d.other)
   step-goes Validate v n y = others me
   step-goes Resend v n y = resent-goes r.state r.timestamp
-  step-goes Tick v n y = tick_goes _ (tick-does wins me i r v).sends
 
 -- ---- the theorems
 

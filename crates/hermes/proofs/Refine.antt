@@ -22,7 +22,7 @@ use Rattle.hermes.specs.declared.message.Outgoing.TheVariants.{None, Sent}
 use Rattle.hermes.specs.declared.event.Replica.{Replica}
 use Rattle.hermes.specs.declared.event.Settings.{Settings}
 use Rattle.hermes.specs.declared.event.Event.{Event}
-use Rattle.hermes.specs.declared.event.Event.TheVariants.{Read, Ask, Write, Commit, Replay, Deliver, Validate, Resend, Tick}
+use Rattle.hermes.specs.declared.event.Event.TheVariants.{Read, Ask, Write, Commit, Replay, Deliver, Validate, Resend}
 use Rattle.hermes_record.specs.Members.{with}
 use Rattle.hermes_record.specs.Order.{Orders, TieOrder, later, NotAfter}
 use Rattle.hermes.specs.Settings.{under}
@@ -30,7 +30,7 @@ use Rattle.hermes_record.specs.Record.{one_of}
 use Rattle.hermes_record.proofs.Moves.{invalid-shown, invalid-own}
 use Rattle.hermes.specs.Store.{slot, value_at, padded}
 use Rattle.hermes.specs.Guards.{AllYes, first_no, question9}
-use Rattle.hermes.specs.Event.{Step, write_step, inv_step, ack_step, completes, sends_again, tick_step, reaches, deliver_step, resent, body_of, answer_of}
+use Rattle.hermes.specs.Event.{Step, write_step, inv_step, ack_step, completes, deliver_step, resent, body_of, answer_of}
 use Rattle.hermes.specs.Node.{Node, Outcome, record_of, apply, view, viewed, view_questions, admission_of, admission_number, identity}
 use Rattle.hermes.specs.Run as run
 use Rattle.hermes.specs.Run.{Logged, Action, Result, Found, find, received, delivery, perform, node_after, logged, log_after}
@@ -254,21 +254,6 @@ module _ (wins : Orders) (settings : Settings) (ord : TieOrder (under wins setti
   unfolding writing
   write-good j v h = record { moves = write (cell_of v) (clean-cell v) 0 none-in-zero (ap (writing j v) (next-version (record_of j n).timestamp.version h)); says = (refl, (refl, refl)) }
 
-  -- who sends its INV again is in write or replay
-  again-coordinates : (s : State) → sends_again s ≡ true → one_of s (state.Write ∷ state.Replay ∷ []) ≡ true
-  again-coordinates state.Valid q = absurd (false≢true q)
-  again-coordinates state.Invalid q = absurd (false≢true q)
-  again-coordinates state.InvalidWrite q = absurd (false≢true q)
-  again-coordinates state.Write q = refl
-  again-coordinates state.Replay q = refl
-
-  -- a tick is a replay, or the copy stays
-  tick-good : (j : ℕ) (v b w : Bool) → sends_again (record_of j n).state ≡ w → Good wins settings issued log j n (tick_step v b n.me j (record_of j n))
-  tick-good j true b w q = record { moves = stay refl; says = tt }
-  tick-good j false false w q = record { moves = stay refl; says = tt }
-  tick-good j false true true q = rw q (record { moves = stay refl; says = (refl, (refl, again-coordinates (record_of j n).state q)) })
-  tick-good j false true false q = rw q (record { moves = replay 0 none-in-zero refl; says = (refl, (refl, refl)) })
-
   viewed-refined : (epoch next : ℕ) → next ≡ issued epoch → (i : ℕ) → Refined wins settings issued log i n (run.event (viewed n epoch next))
   unfolding viewed view
   viewed-refined epoch next q i = go (first_no (view_questions n.me epoch next)) refl
@@ -298,8 +283,6 @@ module _ (wins : Orders) (settings : Settings) (ord : TieOrder (under wins setti
       record { moves = send_vals o.pending (others-members n.me.number n.me.view (record_of j n).acks o.acknowledged) refl; says = (refl, (refl, refl)) })
   refined (run.resend j) c = of-event wins settings issued log n j Resend []
       (λ y. record { moves = stay refl; says = resent-says j (record_of j n).state refl })
-  refined (run.tick j) c = of-event wins settings issued log n j Tick []
-      (λ y. tick-good j (one_of (record_of j n).state (state.Valid ∷ [])) (reaches n.me (record_of j n)) (sends_again (record_of j n).state) refl)
   refined (run.deliver k) c = go (find log k) refl
     where
       go : (f : Found) → find log k ≡ f → (i : ℕ) → Refined wins settings issued log i n (delivery wins f n)

@@ -12,7 +12,7 @@ use Rattle.hermes.specs.Settings.{old_settings}
 use Rattle.hermes.specs.Store.{padded, place}
 use Rattle.hermes.specs.Event.{number_of, sent_by, send, refusal, effect, ask_stamp, ask_hands}
 use Rattle.hermes.specs.Node.{Node, Outcome, record_of, apply, asked, admit, start, view, viewed, admission_number}
-use Rattle.hermes.specs.Worked.{Claim, answers, leaves, stamps, last_writer, ties_by, last_write, acknowledged_by, waited, holding, sends, hands_out, silent, unchanged, store_of, Says, SaysAll, Row, row, asks, asks_start, asks_view, Holds, before, outcome}
+use Rattle.hermes.specs.Worked.{Claim, answers, leaves, stamps, last_writer, ties_by, last_write, acknowledged_by, holding, sends, hands_out, silent, unchanged, store_of, Says, SaysAll, Row, row, asks, asks_start, asks_view, Holds, before, outcome}
 use Rattle.hermes.specs.Limits.{limits}
 use Rattle.hermes.specs.Rows.{unstarted, ringing, rows}
 use Rattle.hermes_record.proofs.Tests.{both}
@@ -27,7 +27,6 @@ test (last_writer k) n o = eqb (record_of 0 o.node).writer k
 test (ties_by rule) n o = same rule_code o.node.me.settings.rule rule
 test (last_write v t) n o = same timestamp_code (record_of 0 o.node).written (record { version = v; tie = t })
 test (acknowledged_by set) n o = eqb (record_of 0 o.node).acks set
-test (waited k) n o = eqb (record_of 0 o.node).waited k
 test (holding v) n o = eqb (record_of 0 o.node).len (length v) && same_list o.node.store (store_of v)
 test (sends m) n o = same outgoing_code (sent_by o.answer) (send n.me 0 m)
 test (hands_out text v t) n o = same_list (asked o.node 0).part text && same timestamp_code (asked o.node 0).timestamp (record { version = v; tie = t })
@@ -43,7 +42,6 @@ says (last_writer k) n o e = eqb-true _ k e
 says (ties_by rule) n o e = same-sound rule_code _ rule e
 says (last_write v t) n o e = same-sound timestamp_code _ _ e
 says (acknowledged_by set) n o e = eqb-true _ set e
-says (waited k) n o e = eqb-true _ k e
 says (holding v) n o e =
     let (p, q) = both (eqb (record_of 0 o.node).len (length v)) _ e in
     (eqb-true _ (length v) p, list-sound o.node.store (store_of v) q)

@@ -3,7 +3,6 @@ use Prim.Native.Nat.{ℕ, zero, suc, ◌<◌}
 use mathlib.Core.Path.{◌≡◌, refl}
 use mathlib.Core.Logic.{inl, inr, ⊎_map, ◌≢◌}
 use mathlib.Core.Bool.{true}
-use lib.Dec.{ltb}
 use mathlib.Core.List.{List, [], ◌∷◌}
 use native.Mathlib.Omega.{arith}
 use lib.ListN.{replicate}
@@ -16,7 +15,7 @@ use Rattle.hermes.specs.Event.{completes, refusal, effect, sent_by}
 use Rattle.hermes.specs.Node.{Node, record_of, start, apply, view, viewed}
 use Rattle.hermes.specs.Played.{issued, lent_table, fresh}
 use Rattle.hermes.specs.SecondReading.{InView, Among, first, further, Mail, Entry, outcome, Leaves, Left, here, there, History, empty, next, FreshStart, Premises, CompletesView}
-use Rattle.hermes.specs.SecondWitness.{AnyEvent, old_rule, new_rule, begun, saved, taken1, taken2, counted, settled, saved1, saved2, lower, higher, counted1, struck, finished, heard, replayed, retaken, resettled, shown, list, now, tied1, tied2, met0, met1, half2, whole2, turned0, turned2, half1, whole1, told0, new_list, new_now, heard0, heard1, once0, twice0, urged0, took1, once1, twice1, urged1, answered0, settled1, shown0, tick_list, tick_now, SecondWitness}
+use Rattle.hermes.specs.SecondWitness.{AnyEvent, old_rule, new_rule, begun, saved, taken1, taken2, counted, settled, saved1, saved2, lower, higher, counted1, struck, finished, heard, replayed, retaken, resettled, shown, list, now, tied1, tied2, met0, met1, half2, whole2, turned0, turned2, half1, whole1, told0, new_list, new_now, SecondWitness}
 use Rattle.hermes.proofs.Members.{within-members}
 use Rattle.hermes.proofs.LastAck.{completes-it}
 use Rattle.hermes.proofs.SecondReading.{in-view, view_in, second-demand3}
@@ -32,7 +31,6 @@ any issued earlier = record {
   changes = λ e. refl;
   asks = λ i. tt;
   commits = λ i t v. tt;
-  ticks = λ i. tt;
 }
 
 -- what holds of the first of a list and of the others holds of each
@@ -51,16 +49,16 @@ nested zero (suc high) k l v = view_in k 7 (within-members 3 7 refl k (in-view k
 nested (suc low) zero k l v = absurd (omega arith)
 nested (suc low) (suc high) k l v = v
 
-premises : (settings : Settings) → ltb 0 settings.wait ≡ true → Premises issued settings (begun settings)
+premises : (settings : Settings) → Premises issued settings (begun settings)
 unfolding start has size
-premises settings w = record {
+premises settings = record {
   different = (
     each (λ n. n.me.number ≢ 0) (f 1) (f 2 ∷ []) (λ e. omega arith) (each (λ n. n.me.number ≢ 0) (f 2) [] (λ e. omega arith) (λ n. elim [ ])),
     (each (λ n. n.me.number ≢ 1) (f 2) [] (λ e. omega arith) (λ n. elim [ ]), (λ n. elim [ ], tt)),
   );
   count = 1;
-  fresh = each (FreshStart 7 1 settings) (f 0) (f 1 ∷ f 2 ∷ []) (started settings 0 (rw w))
-      (each (FreshStart 7 1 settings) (f 1) (f 2 ∷ []) (started settings 1 (rw w)) (each (FreshStart 7 1 settings) (f 2) [] (started settings 2 (rw w)) (λ n. elim [ ])));
+  fresh = each (FreshStart 7 1 settings) (f 0) (f 1 ∷ f 2 ∷ []) (started settings 0 refl)
+      (each (FreshStart 7 1 settings) (f 1) (f 2 ∷ []) (started settings 1 refl) (each (FreshStart 7 1 settings) (f 2) [] (started settings 2 refl) (λ n. elim [ ])));
   nested = nested;
 }
   where
@@ -133,32 +131,6 @@ new_history =
     (left turned2 (further first) refl) (there here))
     (sent whole1 refl) here
 
--- and of the list with ticks
-tick_history : History issued (begun old_rule) tick_list tick_now
-unfolding apply effect refusal start has size lowest within others_in with padded place later same_timestamp view viewed
-tick_history =
-    next shown0
-    (next settled1
-    (next answered0
-    (next urged1
-    (next twice1
-    (next once1
-    (next took1
-    (next urged0
-    (next twice0
-    (next once0
-    (next heard1 (next heard0 (next saved empty tt here) refl here) refl (there here))
-    tt here)
-    tt here)
-    tt here)
-    (sent urged0 refl) (there here))
-    tt (there here))
-    tt (there here))
-    tt (there here))
-    (sent urged1 refl) here)
-    (sent answered0 refl) (there here))
-    (sent settled1 refl) here
-
 -- what completes the view as the step asks it, does so in the second reading's words
 completing : (sender : ℕ) (n : Node) → completes n.me (record_of 0 n) sender ≡ true → CompletesView sender 0 n
 completing sender n e k v d = ⊎_map (λ s. s) (view_in k (record_of 0 n).acks) ((completes-it n.me (record_of 0 n) sender e).1 k (in-view k n.me.view v) d)
@@ -168,9 +140,9 @@ unfolding apply effect refusal start has size lowest within others_in with padde
 second-witness = record {
   any = any;
   old_group = record {
-    premises = premises old_rule refl;
+    premises = premises old_rule;
     history = history;
-    agreed = second-demand3 issued old_rule (begun old_rule) (premises old_rule refl) list now history;
+    agreed = second-demand3 issued old_rule (begun old_rule) (premises old_rule) list now history;
     there = first;
     too = further first;
     sees = (omega arith, refl);
@@ -204,9 +176,9 @@ second-witness = record {
   };
   old_tie = record { lost = refl; won = refl };
   new_group = record {
-    premises = premises new_rule refl;
+    premises = premises new_rule;
     history = new_history;
-    agreed = second-demand3 issued new_rule (begun new_rule) (premises new_rule refl) new_list new_now new_history;
+    agreed = second-demand3 issued new_rule (begun new_rule) (premises new_rule) new_list new_now new_history;
     there = first;
     too = further first;
     sees = (omega arith, refl);
@@ -231,42 +203,4 @@ second-witness = record {
     shows = record { its_own = omega arith; valid = refl };
   };
   new_tie = record { lost = refl; won = refl };
-  tick_group = record {
-    premises = premises old_rule refl;
-    history = tick_history;
-    agreed = second-demand3 issued old_rule (begun old_rule) (premises old_rule refl) tick_list tick_now tick_history;
-    there = first;
-    too = further first;
-    sees = (omega arith, refl);
-    seen = (omega arith, refl);
-    shows = record { its_own = omega arith; valid = refl };
-    shown = record { its_own = omega arith; valid = refl };
-  };
-  by_tick = record {
-    listed = further first;
-    validates = record { its_record = refl; stamp = _; ack = refl; waiting = inr refl; completing = completing 0 settled1.found refl };
-    accepted = refl;
-    there = first;
-    sees = (omega arith, refl);
-    shows = record { its_own = omega arith; valid = refl };
-  };
-  tick_in_write = record {
-    listed = further (further (further (further (further (further (further first))))));
-    ticks = refl;
-    accepted = refl;
-    leaves = refl;
-    delivered = further (further (further (further (further (further first)))));
-    brings = refl;
-    taken = refl;
-  };
-  tick_in_invalid = record {
-    listed = further (further (further first));
-    ticks = refl;
-    accepted = refl;
-    leaves = refl;
-    delivered = further (further first);
-    brings = refl;
-    taken = refl;
-  };
-  writer_seen = (omega arith, refl);
 }

@@ -33,7 +33,7 @@ use Rattle.hermes.specs.Agreement as one
 use Rattle.hermes.specs.Agreement.{Started, AsIssued, Entries, Alike, validates, acknowledges}
 use Rattle.hermes.specs.Reads.{Sound}
 use Rattle.hermes.specs.SecondReading.{InView, WinsTie, Greater, by_version, by_tie, SameOrLater, same, greater, Among, first, further}
-use Rattle.hermes.specs.SecondReading.{Mail, Happening, read, write, replay, delivery, validation, resend, change, ask, commit, tick, perform}
+use Rattle.hermes.specs.SecondReading.{Mail, Happening, read, write, replay, delivery, validation, resend, change, ask, commit, perform}
 use Rattle.hermes.specs.SecondReading.{Entry, outcome, Leaves, Left, Honest, Replaced, here, there, History, empty, next}
 use Rattle.hermes.specs.SecondReading.{FreshStart, Different, Premises, ShowsValid, Agree, Agreement, InWriteOrReplay, LastAck, Validates, Kept, SecondDemand3}
 use Rattle.hermes_record.proofs.Tests.{both, either}
@@ -174,7 +174,6 @@ action (resend i) j = run.resend i
 action (change epoch set) j = run.view epoch set
 action (ask i) j = run.ask i
 action (commit i t v) j = run.commit i t v
-action (tick i) j = run.tick i
 
 abbrev entry_of : Entry → ℕ → run.Entry
 entry_of e j = record { who = e.found.me.number; what = action e.event j }
@@ -190,7 +189,6 @@ Brings log (resend i) j = Unit
 Brings log (change epoch set) j = Unit
 Brings log (ask i) j = Unit
 Brings log (commit i t v) j = Unit
-Brings log (tick i) j = Unit
 
 -- the action is one that the first reading takes, and does the same
 record Taken (issued : ℕ → ℕ) (log : List Logged) (n : Node) (h : Happening) : Type 0 where
@@ -210,7 +208,6 @@ module _ (issued : ℕ → ℕ) (earlier : List Entry) (log : List Logged) (know
   taken (change epoch set) o = record { number = 0; brings = tt; due = o; does = refl }
   taken (ask i) o = record { number = 0; brings = tt; due = tt; does = refl }
   taken (commit i t v) o = record { number = 0; brings = tt; due = tt; does = refl }
-  taken (tick i) o = record { number = 0; brings = tt; due = tt; does = refl }
 
 -- a last ACK completes the view in the first reading too
 completing : (m : Mail) (i : ℕ) (n : Node) → LastAck m i n → completes n.me (record_of i n) m.sender ≡ true

@@ -38,7 +38,6 @@ as-issued issued i old log (run.replay j) h = tt
 as-issued issued i old log (run.deliver k) h = tt
 as-issued issued i old log (run.validate j) h = tt
 as-issued issued i old log (run.resend j) h = tt
-as-issued issued i old log (run.tick j) h = tt
 as-issued issued i old log (run.view epoch next) h = absurd h
 
 are-entries : (wins : Orders) (member : ℕ → Bool) (issued : ℕ → ℕ) (set i old : ℕ) → ((u : ℕ) → Has set u → member u ≡ true)

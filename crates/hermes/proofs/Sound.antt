@@ -9,12 +9,12 @@ use native.Mathlib.Omega.{arith}
 use native.Mathlib.Decide.{ℕ_discrete}
 use lib.Dec.{leb}
 use lib.ListN.{length, length-replicate, get_or-replicate}
-use borrow.Author.Tests.{lt-ltb, ltb-true}
+use borrow.Author.Tests.{lt-ltb}
 use Rattle.hermes_record.specs.declared.record.State.TheVariants as state
 use Rattle.hermes.specs.declared.event.Replica.{Replica}
 use Rattle.hermes.specs.declared.event.Settings.{Settings}
 use Rattle.hermes.specs.declared.event.Event.{Event}
-use Rattle.hermes.specs.declared.event.Event.TheVariants.{Read, Ask, Write, Commit, Replay, Deliver, Validate, Resend, Tick}
+use Rattle.hermes.specs.declared.event.Event.TheVariants.{Read, Ask, Write, Commit, Replay, Deliver, Validate, Resend}
 use Rattle.hermes_record.specs.Members.{size, lowest}
 use Rattle.hermes_record.specs.Order.{Orders}
 use Rattle.hermes_record.specs.Record.{fresh_record}
@@ -36,7 +36,7 @@ use Rattle.hermes.proofs.Agreement.{at-who, at_other}
 
 module _ (wins : Orders) (count : ℕ) (settings : Settings) (k : ℕ) where
   -- ---- one entry
-  pub event-sound : (n : Node) → Sound count settings k n → (j : ℕ) (e : Event) (v : List ℕ) → Sound count settings k (apply wins n j e v).node
+  event-sound : (n : Node) → Sound count settings k n → (j : ℕ) (e : Event) (v : List ℕ) → Sound count settings k (apply wins n j e v).node
   event-sound n ok j e v = go (apply wins n j e v) (applied wins n j e v)
     where
       s : Step
@@ -48,7 +48,6 @@ module _ (wins : Orders) (count : ℕ) (settings : Settings) (k : ℕ) where
         number = ok.number;
         fixed = ok.fixed;
         records = c.count ∙ ok.records;
-        waits = ok.waits;
         first = ok.first;
         second = rw (c.count, c.room) ok.second;
         fifth = λ i h. fifth i h (ℕ_discrete i j);
@@ -70,7 +69,6 @@ module _ (wins : Orders) (count : ℕ) (settings : Settings) (k : ℕ) where
         number = ok.number;
         fixed = ok.fixed;
         records = ok.records;
-        waits = ok.waits;
         first = rw (both (leb n.me.number 15) (leb 2 (size n.me.view)) ok.first).0 (view-inside n.me epoch next (all_yes (view_questions n.me epoch next) refl z)).1;
         second = ok.second;
         fifth = ok.fifth;
@@ -90,7 +88,6 @@ module _ (wins : Orders) (count : ℕ) (settings : Settings) (k : ℕ) where
       go (run.found x) = event-sound n ok x.header.index (Deliver (received x)) x.body
   entry-sound n ok log (run.validate j) = event-sound n ok j Validate []
   entry-sound n ok log (run.resend j) = event-sound n ok j Resend []
-  entry-sound n ok log (run.tick j) = event-sound n ok j Tick []
   entry-sound n ok log (run.view epoch next) = viewed-sound n ok epoch next
 
   pub advance-sound : (g : Group) (a : Entry) → Sound count settings k (g.at k) → Sound count settings k ((advance wins g a).at k)
@@ -114,27 +111,26 @@ module _ (wins : Orders) (count : ℕ) (settings : Settings) (k : ℕ) where
     number = ap (λ (me : Replica). me.number) b.identity;
     fixed = ap (λ (me : Replica). me.settings) b.identity;
     records = rw (f.table_after, b.table_after) (length-replicate (length f.table) (fresh_record (lowest (issued 0))) ∙ f.records);
-    waits = rw b.identity b.asked.0;
-    first = rw b.identity b.asked.1.0;
-    second = rw (f.table_after, b.table_after, f.store_after, b.store_after, length-replicate (length f.table) (fresh_record (lowest (issued 0))), length-replicate {A = ℕ} (length f.store) 0) b.asked.1.1.0;
+    first = rw b.identity b.asked.0;
+    second = rw (f.table_after, b.table_after, f.store_after, b.store_after, length-replicate (length f.table) (fresh_record (lowest (issued 0))), length-replicate {A = ℕ} (length f.store) 0) b.asked.1.0;
     fifth = λ i h. rw (f.table_after, b.table_after, get_or-replicate (length f.table) i (fresh_record (lowest (issued 0))) (fresh_record 0) (omega (arith, f.records)))
-        (sound-yes n.me (fresh_record (lowest (issued 0))) (record { short = omega arith; tie = low; own-tie = low; writer = low; uncounted = has-zero n.me.number; waits = rw b.identity (ltb-true 0 settings.wait b.asked.0); rests = λ e. refl }));
+        (sound-yes n.me (fresh_record (lowest (issued 0))) (record { short = omega arith; tie = low; own-tie = low; writer = low; uncounted = has-zero n.me.number }));
   }
     where
       b : Begun k (issued 0) settings f.table f.store n.me
       b = begun k (issued 0) settings f.table f.store n.me f.accepted
 
       low : lowest (issued 0) ≤ 15
-      low = lowest-small (issued 0) k b.asked.1.1.1.0
+      low = lowest-small (issued 0) k b.asked.1.1.0
 
 pub stay-sound : (wins : Orders) → StaySound wins
 stay-sound wins member count issued settings g s entries c k e = run_sound wins count settings k g (start-sound wins count settings k issued (g.at k) (s.fresh k e)) entries
 
 -- ---- reads
 
--- of a sound replica in its own view questions 28 and 1 to 5 say yes
-pub common-say-yes : (count : ℕ) (settings : Settings) (k : ℕ) (n : Node) → Sound count settings k n → (i : ℕ) → i < count → Sees n k → (e : Event) (v : List ℕ) → AllYes (own_of n i e v) → AllYes (questions_of n i e v)
-common-say-yes count settings k n ok i h s e v y = (ok.waits, (ok.first, (ok.second, (rw ok.number s, (lt-ltb i (length n.table) (omega (arith, ok.records)), (ok.fifth i h, y))))))
+-- of a sound replica in its own view questions 1 to 5 say yes
+pub five-say-yes : (count : ℕ) (settings : Settings) (k : ℕ) (n : Node) → Sound count settings k n → (i : ℕ) → i < count → Sees n k → (e : Event) (v : List ℕ) → AllYes (own_of n i e v) → AllYes (questions_of n i e v)
+five-say-yes count settings k n ok i h s e v y = (ok.first, (ok.second, (rw ok.number s, (lt-ltb i (length n.table) (omega (arith, ok.records)), (ok.fifth i h, y)))))
 
 -- a sound replica in its own view answers a read with 0 exactly where the record is valid
 read-tells : (wins : Orders) (count : ℕ) (settings : Settings) (k : ℕ) (n : Node) → Sound count settings k n → (i : ℕ) → i < count → Sees n k → Shows n i ↔ (number_of (apply wins n i Read []).answer ≡ 0)
@@ -144,7 +140,7 @@ read-tells wins count settings k n ok i h v = go (apply wins n i Read []) (appli
     go o (refused z y q) = (λ e. absurd (omega (arith, y, answers e)), λ e. absurd (omega (arith, ap (λ (x : Outcome). number_of x.answer) q)))
       where
         answers : Shows n i → refusal_of n i Read [] ≡ 0
-        answers e = passed-zero n i Read [] (common-say-yes count settings k n ok i h v Read [] (rw e, tt))
+        answers e = passed-zero n i Read [] (five-say-yes count settings k n ok i h v Read [] (rw e, tt))
     go o (accepted y c q) = (λ e. ap (λ (x : Outcome). number_of x.answer) q, λ e. is_state (record_of i n).state state.Valid (its_own n i Read [] y).0)
 
 pub reads-tell : (wins : Orders) → ReadsTell wins

@@ -38,13 +38,13 @@ unfolding result advance apply effect refusal start has size lowest within other
 tie-witness = record {
   started = started_with;
   entries = entries;
-  agreed = λ settings w. agreement three 1 issued settings (group_with settings) (started_with settings w) at_once entries;
-  every = λ settings w. agreement three 1 issued settings (group_with settings) (started_with settings w) story story-entries;
+  agreed = λ settings. agreement three 1 issued settings (group_with settings) (started_with settings) at_once entries;
+  every = λ settings. agreement three 1 issued settings (group_with settings) (started_with settings) story story-entries;
   old_numbers = refl;
   new_numbers = refl;
   old_stands = (refl, refl, refl);
   new_stands = (refl, refl, refl);
   gives = gives;
   settles = subst (Settled ties new_settings (issued 0) 0 (run ties (group_with new_settings) lost_val)) gives
-      (recipe-settles ties ties-order three 1 issued new_settings (group_with new_settings) (started_with new_settings refl) lost_val (refl, tt, (refl, tt, (refl, tt, (refl, tt, (refl, tt, (refl, tt, tt)))))) 0 0 0 (omega arith) (zero_in 0) gathered);
+      (recipe-settles ties ties-order three 1 issued new_settings (group_with new_settings) (started_with new_settings) lost_val (refl, tt, (refl, tt, (refl, tt, (refl, tt, (refl, tt, (refl, tt, tt)))))) 0 0 0 (omega arith) (zero_in 0) gathered);
 }

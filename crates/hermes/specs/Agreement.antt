@@ -12,7 +12,7 @@ use Rattle.hermes.specs.Settings.{under}
 use Rattle.hermes.specs.Store.{slot}
 use Rattle.hermes.specs.Event.{completes, number_of}
 use Rattle.hermes.specs.Node.{Node, record_of, start}
-use Rattle.hermes.specs.Run.{Action, read, ask, write, commit, replay, deliver, validate, resend, tick, view, Entry, Group, Logged, find, found, Result, nothing, event, result, run}
+use Rattle.hermes.specs.Run.{Action, read, ask, write, commit, replay, deliver, validate, resend, view, Entry, Group, Logged, find, found, Result, nothing, event, result, run}
 
 -- ---- the premises, of a group: which numbers it has (`member`), how many records each replica has (`count`), the view that is issued
 -- for each epoch (`issued`), and what is fixed at its start (`settings`)
@@ -41,7 +41,6 @@ AsIssued issued (replay i) = Unit
 AsIssued issued (deliver k) = Unit
 AsIssued issued (validate i) = Unit
 AsIssued issued (resend i) = Unit
-AsIssued issued (tick i) = Unit
 AsIssued issued (view epoch set) = set ≡ issued epoch
 
 -- every entry is one of a replica of the group. That a delivered message left an earlier entry, unaltered, holds of every list: it is a log number

@@ -1,5 +1,5 @@
 -- The events on one record: the questions in the paper's order, and the step (01, "Steps" and "The questions, in order").
-use Rattle.std.specs.Prelude.{ℕ, zero, suc, ◌+◌, Bool, true, false, List, [], ◌∷◌, leb, length}
+use Rattle.std.specs.Prelude.{ℕ, zero, suc, Bool, true, false, List, [], ◌∷◌, length}
 use Rattle.hermes_record.specs.declared.timestamp.Timestamp.{Timestamp}
 use Rattle.hermes_record.specs.declared.record.Record.{Record}
 use Rattle.hermes_record.specs.declared.record.State.{State}
@@ -10,14 +10,14 @@ use Rattle.hermes.specs.declared.message.Outgoing.{Outgoing}
 use Rattle.hermes.specs.declared.message.Outgoing.TheVariants.{None, Sent}
 use Rattle.hermes.specs.declared.event.Replica.{Replica}
 use Rattle.hermes.specs.declared.event.Event.{Event}
-use Rattle.hermes.specs.declared.event.Event.TheVariants.{Read, Ask, Write, Commit, Replay, Deliver, Validate, Resend, Tick}
+use Rattle.hermes.specs.declared.event.Event.TheVariants.{Read, Ask, Write, Commit, Replay, Deliver, Validate, Resend}
 use Rattle.hermes.specs.declared.event.Answer.{Answer}
 use Rattle.hermes.specs.declared.event.Answer.TheVariants.{Accepted, Refused}
 use Rattle.hermes.specs.declared.event.Moved.{Moved}
 use Rattle.hermes_record.specs.Members.{with, without}
 use Rattle.hermes_record.specs.Order.{Orders, later}
 use Rattle.hermes.specs.Settings.{under}
-use Rattle.hermes_record.specs.Record.{one_of, written_by, replayed, invalidated, acknowledged, validated, ticked}
+use Rattle.hermes_record.specs.Record.{written_by, replayed, invalidated, acknowledged, validated}
 use Rattle.hermes.specs.Store.{value_at, place}
 use Rattle.hermes.specs.Guards.{
   Question,
@@ -40,15 +40,14 @@ use Rattle.hermes.specs.Guards.{
   question16,
   question17,
   question26,
-  question28,
 }
 
 -- ---- the questions of each event; n is the length of the value that comes with it
 
--- 01, "Every event"; 28 before 1 (02, Wish 7)
+-- 01, "Every event"
 abbrev pub common : Replica → ℕ → ℕ → ℕ → Record → List Question → List Question
 common me count bytes i r own =
-    question28 me ∷ question1 me ∷ question2 count bytes ∷ question3 me ∷ question4 i count ∷ question5 me r ∷ own
+    question1 me ∷ question2 count bytes ∷ question3 me ∷ question4 i count ∷ question5 me r ∷ own
 
 -- 01, Deliver: "Then ACK: 13 .. VAL: 14 .."
 abbrev pub of_kind : Message → ℕ → Record → List Question
@@ -56,8 +55,8 @@ of_kind (Inv t) sender r = []
 of_kind (Ack t) sender r = question13 t sender r ∷ []
 of_kind (Val t) sender r = question14 t r ∷ []
 
--- 01, the questions after those of every event: Read 6; Write 7, 8 and 9; Deliver 10, 11, 12 and its kind's; Validate 15; Replay 16; Resend 17.
--- 02, Wish 5: an ask is "refused as a read is"; of a commit 26 stands "in place of 7, and 8 and 9 follow". Wish 7: a tick "asks 1 to 5"
+-- 01, the questions after the first five: Read 6; Write 7, 8 and 9; Deliver 10, 11, 12 and its kind's; Validate 15; Replay 16; Resend 17.
+-- 02, Wish 5: an ask is "refused as a read is"; of a commit 26 stands "in place of 7, and 8 and 9 follow"
 abbrev pub own : Replica → Record → Event → ℕ → List Question
 own me r Read n = question6 r ∷ []
 own me r Ask n = question6 r ∷ []
@@ -68,7 +67,6 @@ own me r (Deliver m) n =
 own me r Validate n = question15 me r ∷ []
 own me r Replay n = question16 me r ∷ []
 own me r Resend n = question17 me r ∷ []
-own me r Tick n = []
 
 -- the number that an event answers
 unfoldable pub refusal : Replica → ℕ → ℕ → ℕ → Record → Event → ℕ → ℕ
@@ -138,26 +136,6 @@ resent me i state.Replay t = send me i (Inv t)
 abbrev pub resend_step : Replica → ℕ → Record → Step
 resend_step me i r = record { after = r; stored = kept; sent = resent me i r.state r.timestamp }
 
--- 02, Wish 7, on reaching the wait: "write and replay send their INV again, invalid and invalid-write replay even if the last writer is still
--- in the view"; the first says that the state is write or replay
-abbrev pub help_step : Bool → Replica → ℕ → Record → Step
-help_step true me i r = record { after = r; stored = kept; sent = send me i (Inv r.timestamp) }
-help_step false me i r = replay_step me i r
-
--- 02, Wish 7, On reaching the wait: "write and replay send their INV again"
-abbrev pub sends_again : State → Bool
-sends_again s = one_of s (state.Write ∷ state.Replay ∷ [])
-
--- 02, Wish 7, Tick: "A valid record keeps 0"; of any other the tick is counted. The first two say that it is valid, and that the count reaches the wait
-abbrev pub tick_step : Bool → Bool → Replica → ℕ → Record → Step
-tick_step true reached me i r = read_step r
-tick_step false false me i r = read_step (ticked r me.settings.wait)
-tick_step false true me i r = help_step (sends_again r.state) me i (ticked r me.settings.wait)
-
--- 02, Wish 7, "On reaching the wait"
-abbrev pub reaches : Replica → Record → Bool
-reaches me r = leb me.settings.wait (r.waited + 1)
-
 module _ (wins : Orders) where
   -- 01, Deliver: the step of each kind of message. 02, Wish 6: stamps are compared by the rule of the identity
   abbrev pub deliver_step : Replica → ℕ → Record → ℕ → Message → List ℕ → Step
@@ -175,7 +153,6 @@ module _ (wins : Orders) where
   step me i r Validate v = validate_step me i r
   step me i r Replay v = replay_step me i r
   step me i r Resend v = resend_step me i r
-  step me i r Tick v = tick_step (one_of r.state (state.Valid ∷ [])) (reaches me r) me i r
 
 -- ---- the answer, the record and the store after an event
 
@@ -280,7 +257,6 @@ sender_of (Deliver m) = with 0 m.sender
 sender_of Validate = 0
 sender_of Replay = 0
 sender_of Resend = 0
-sender_of Tick = 0
 
 -- 01, "INV and VAL go to all others in the view"
 abbrev pub recipients : Replica → Event → Outgoing → ℕ

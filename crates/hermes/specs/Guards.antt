@@ -32,10 +32,6 @@ AllYes (q ∷ qs) = (q.yes ≡ true) × AllYes qs
 
 -- ---- every event
 
--- 28: is the wait above 0? (02, Wish 7: "before 1 wherever 1 is asked")
-abbrev pub question28 : Replica → Question
-question28 me = ask 28 (ltb 0 me.settings.wait)
-
 -- 1: is the number at most 15, with at least two laptops counted in the view?
 abbrev pub question1 : Replica → Question
 question1 me = ask 1 (leb me.number 15 && leb 2 (size me.view))
@@ -53,10 +49,8 @@ abbrev pub question4 : ℕ → ℕ → Question
 question4 i count = ask 4 (ltb i count)
 
 -- 5: is that record sound: length at most 192, tie-breakers and last writer at most 15, own number not among the acknowledgements?
--- 02, Wish 7: "that the count be below the wait, and 0 when valid"
 abbrev pub question5 : Replica → Record → Question
-question5 me r = ask 5 (leb r.len 192 && leb r.timestamp.tie 15 && leb r.written.tie 15 && leb r.writer 15 && not (has r.acks me.number)
-    && ltb r.waited me.settings.wait && (not (one_of r.state (Valid ∷ [])) || eqb r.waited 0))
+question5 me r = ask 5 (leb r.len 192 && leb r.timestamp.tie 15 && leb r.written.tie 15 && leb r.writer 15 && not (has r.acks me.number))
 
 -- ---- read
 

@@ -14,7 +14,7 @@ use Rattle.hermes_record.specs.Members.{has}
 use Rattle.hermes_record.specs.Order.{Orders}
 use Rattle.hermes.specs.Event.{send, number_of, sent_by}
 use Rattle.hermes.specs.Node.{Node, Outcome, record_of, apply}
-use Rattle.hermes.specs.Run.{Action, read, ask, write, commit, replay, deliver, validate, resend, tick, view, Entry, Group}
+use Rattle.hermes.specs.Run.{Action, read, ask, write, commit, replay, deliver, validate, resend, view, Entry, Group}
 use Rattle.hermes.specs.Agreement.{Started, after}
 
 -- "the record is in write or replay"
@@ -63,7 +63,6 @@ IsView (replay i) = ⊥
 IsView (deliver k) = ⊥
 IsView (validate i) = ⊥
 IsView (resend i) = ⊥
-IsView (tick i) = ⊥
 IsView (view epoch set) = Unit
 
 -- laptop k has no view event in the list

@@ -17,7 +17,6 @@ pub mod LastAck
 pub mod Overtaken
 pub mod Reads
 pub mod Asking
-pub mod Waiting
 pub mod Settling
 pub mod Recipe
 pub mod Tight
@@ -27,7 +26,6 @@ pub mod SecondWitness
 pub mod SettlingWitness
 pub mod AskingWitness
 pub mod TieWitness
-pub mod WaitingWitness
 pub mod Worked
 pub mod Limits
 pub mod Rows

@@ -1,4 +1,4 @@
--- The number that each of questions 1 to 19, 26 and 28 answers, with both sides of every limit in it and the order in which they are asked.
+-- The number that each of questions 1 to 19 answers, with both sides of every limit in it and the order in which they are asked.
 -- The last number of a row is the answer.
 use Rattle.std.specs.Prelude.{ℕ, ◌+◌, ◌*◌, ◌^◌, List, [], ◌∷◌, ◌++◌, map}
 use Rattle.hermes_record.specs.declared.timestamp.Timestamp.{Timestamp}
@@ -9,7 +9,7 @@ use Rattle.hermes.specs.declared.message.Message.{Message}
 use Rattle.hermes.specs.declared.message.Message.TheVariants.{Inv, Ack, Val}
 use Rattle.hermes.specs.declared.event.Replica.{Replica}
 use Rattle.hermes.specs.declared.event.Event.{Event}
-use Rattle.hermes.specs.declared.event.Event.TheVariants.{Read, Ask, Write, Commit, Replay, Deliver, Validate, Resend, Tick}
+use Rattle.hermes.specs.declared.event.Event.TheVariants.{Read, Ask, Write, Commit, Replay, Deliver, Validate, Resend}
 use Rattle.hermes.specs.Settings.{old_settings}
 use Rattle.hermes.specs.Worked.{Row, asks, asks_start, asks_view}
 
@@ -24,10 +24,6 @@ set (k ∷ ks) = 2 ^ k + set ks
 abbrev laptop : ℕ → ℕ → Replica
 laptop number view = record { number = number; epoch = 7; view = view; settings = old_settings }
 
--- the same in a group with this wait (02, Wish 7)
-abbrev waits : ℕ → Replica → Replica
-waits wait me = record { number = me.number; epoch = me.epoch; view = me.view; settings = record { rule = me.settings.rule; wait = wait } }
-
 abbrev group : ℕ
 group = set (1 ∷ 2 ∷ 5 ∷ [])
 
@@ -41,7 +37,7 @@ stamp v t = record { version = v; tie = t }
 
 -- a record: its state, stamp, last writer, last-write stamp, acknowledgements and length
 abbrev held : State → Timestamp → ℕ → Timestamp → ℕ → ℕ → Record
-held s t writer w acks len = record { state = s; timestamp = t; writer = writer; written = w; acks = acks; len = len; waited = 0 }
+held s t writer w acks len = record { state = s; timestamp = t; writer = writer; written = w; acks = acks; len = len }
 
 -- a sound record in this state: 5's save (4,5) after the laptop's own (3,2)
 abbrev sound : State → Record
@@ -58,10 +54,6 @@ last_by writer s = held s (stamp 4 5) writer (stamp 3 2) 0 10
 -- a sound one that these have acknowledged, if the laptop is none of them
 abbrev counted_by : List ℕ → State → Record
 counted_by ks s = held s (stamp 4 5) 5 (stamp 3 2) (set ks) 10
-
--- a sound one that has waited so many ticks, if that is below the wait and the state not valid
-abbrev ticked : ℕ → State → Record
-ticked n s = record { state = s; timestamp = stamp 4 5; writer = 5; written = stamp 3 2; acks = 0; len = 10; waited = n }
 
 -- an event on the one record of laptop 2, with so many bytes of a value
 abbrev event : Event → Record → ℕ → ℕ → Row
@@ -125,7 +117,6 @@ samples =
     ∷ sample (λ t w. Validate) state.Write (1 ∷ 5 ∷ []) 0
     ∷ sample (λ t w. Replay) state.Invalid [] 0
     ∷ sample (λ t w. Resend) state.Write [] 0
-    ∷ sample (λ t w. Tick) state.Invalid [] 0
     ∷ []
 
 -- every event asks: the laptop, its count of records and bytes of store; of the record its number, stamp, last writer, last-write stamp, who
@@ -150,27 +141,12 @@ every_at i count k = every two count (192 * count) i (stamp 4 5) 3 (stamp 3 2) [
 abbrev every_of : Timestamp → ℕ → Timestamp → List ℕ → ℕ → ℕ → List Row
 every_of t writer w ks len k = every two 1 192 0 t writer w ks len k
 
--- a tick by laptop 2 in a group with this wait, of a record that has waited so many ticks
-abbrev ticks : ℕ → ℕ → State → ℕ → Row
-ticks wait n s k = asks (waits wait two) 1 192 0 (ticked n s) Tick 0 k
-
--- every event by laptop 2, of a record that has waited so many ticks
-abbrev every_waited : ℕ → ℕ → List Row
-every_waited n k = map (λ s. asks two 1 192 0 (ticked n s.state) (s.event (stamp 4 5) (stamp 3 2)) s.bytes k) samples
-
 -- ---- the rows
 
 unfoldable pub limits : List Row
 limits =
-    -- 28: is the wait above 0? (02, Wish 7)
-    every_by (waits 0 two) 28
-    ++ every_by (waits 1 two) 0
-    ++ every_by (waits 255 two) 0
-    ++ asks_view (waits 0 two) 8 group 28
-    ∷ asks_view (waits 1 two) 8 group 0
-    ∷ asks_view (waits 255 two) 8 group 0
     -- 1: is the number at most 15, with at least two laptops counted in the view?
-    ∷ every_by (laptop 15 (set (5 ∷ 15 ∷ []))) 0
+    every_by (laptop 15 (set (5 ∷ 15 ∷ []))) 0
     ++ every_by (laptop 16 (set (5 ∷ 15 ∷ []))) 1
     ++ every_by (laptop 2 (set (2 ∷ 5 ∷ []))) 0
     ++ every_by (laptop 2 (set (2 ∷ []))) 1
@@ -220,33 +196,8 @@ limits =
     ++ every_of (stamp 4 5) 3 (stamp 3 16) [] 10 5
     ++ every_of (stamp 4 5) 3 (stamp 3 2) (0 ∷ 3 ∷ 15 ∷ []) 10 0
     ++ every_of (stamp 4 5) 3 (stamp 3 2) (2 ∷ []) 10 5
-    -- .. the count below the wait, and 0 when valid? (02, Wish 7)
-    ++ every_waited 3 5
-    ++ every_waited 255 5
-    ++ ticks 3 2 state.Invalid 0
-    ∷ ticks 3 2 state.InvalidWrite 0
-    ∷ ticks 3 2 state.Write 0
-    ∷ ticks 3 2 state.Replay 0
-    ∷ ticks 3 0 state.Valid 0
-    ∷ ticks 3 1 state.Valid 5
-    ∷ ticks 3 2 state.Valid 5
-    ∷ ticks 3 3 state.Invalid 5
-    ∷ ticks 3 3 state.InvalidWrite 5
-    ∷ ticks 3 3 state.Write 5
-    ∷ ticks 3 3 state.Replay 5
-    ∷ ticks 1 0 state.Invalid 0
-    ∷ ticks 1 1 state.Invalid 5
-    ∷ ticks 255 254 state.Write 0
-    ∷ ticks 255 255 state.Write 5
-    ∷ reads (ticked 1 state.Valid) 5
-    ∷ asks_for (ticked 1 state.Valid) 5
-    ∷ writes (ticked 1 state.Valid) 10 5
-    ∷ commits (ticked 1 state.Valid) (stamp 4 5) 10 5
-    ∷ hears5 (ticked 1 state.Valid) (inv 6 5) 10 5
-    ∷ writes (ticked 1 state.Invalid) 10 0
-    ∷ hears5 (ticked 1 state.Invalid) (val 4 5) 0 0
     -- 6: valid?
-    ∷ reads (sound state.Valid) 0
+    ++ reads (sound state.Valid) 0
     ∷ reads (sound state.Invalid) 6
     ∷ reads (sound state.InvalidWrite) 6
     ∷ reads (sound state.Write) 6
@@ -397,15 +348,8 @@ limits =
     ∷ asks_view two 8 (set (1 ∷ 2 ∷ 3 ∷ [])) 19
     ∷ asks_view two 8 (set (2 ∷ [])) 19
     ∷ asks_view two 8 (set []) 19
-    -- a tick has no more questions: any state
-    ∷ event Tick (sound state.Valid) 0 0
-    ∷ event Tick (sound state.Invalid) 0 0
-    ∷ event Tick (sound state.InvalidWrite) 0 0
-    ∷ event Tick (sound state.Write) 0 0
-    ∷ event Tick (sound state.Replay) 0 0
     -- where two questions say no, the first of them answers
-    ∷ every (waits 0 (laptop 16 0)) 0 0 0 (stamp 4 5) 3 (stamp 3 2) [] 10 28
-    ++ every (laptop 16 0) 0 0 0 (stamp 4 5) 3 (stamp 3 2) [] 10 1
+    ∷ every (laptop 16 0) 0 0 0 (stamp 4 5) 3 (stamp 3 2) [] 10 1
     ++ every (laptop 2 (set (1 ∷ 5 ∷ []))) 0 0 0 (stamp 4 5) 3 (stamp 3 2) [] 10 2
     ++ every (laptop 2 (set (1 ∷ 5 ∷ []))) 1 192 1 (stamp 4 5) 3 (stamp 3 2) [] 10 3
     ++ every two 1 192 1 (stamp 4 5) 3 (stamp 3 2) [] 193 4
@@ -417,7 +361,6 @@ limits =
     ∷ event Validate (unsound state.Valid) 0 5
     ∷ event Replay (unsound state.Valid) 0 5
     ∷ event Resend (unsound state.Invalid) 0 5
-    ∷ event Tick (unsound state.Invalid) 0 5
     ∷ writes (sound state.Write) 193 7
     ∷ writes (held state.Valid (stamp 4294967295 5) 5 (stamp 3 2) 0 10) 193 8
     ∷ commits (sound state.Write) (stamp 4 5) 193 26
@@ -431,7 +374,6 @@ limits =
     ∷ hears5 (sound state.Valid) (val 4 5) 1 12
     ∷ asks_start 16 0 0 0 1
     ∷ asks_start 2 (set (1 ∷ 5 ∷ [])) 0 0 2
-    ∷ asks_view (waits 0 (laptop 16 0)) 8 0 28
     ∷ asks_view (laptop 16 0) 8 0 1
     ∷ asks_view (laptop 2 (set (1 ∷ 5 ∷ []))) 7 group 3
     ∷ asks_view two 7 (set []) 18

@@ -13,7 +13,7 @@ use Rattle.hermes_record.specs.Members.{lowest}
 use Rattle.hermes_record.specs.Order.{Orders}
 use Rattle.hermes_record.specs.Record.{fresh_record}
 use Rattle.hermes.specs.Store.{value_at}
-use Rattle.hermes.specs.Guards.{Question, first_no, question28, question1, question2, question3, question18, question19}
+use Rattle.hermes.specs.Guards.{Question, first_no, question1, question2, question3, question18, question19}
 use Rattle.hermes.specs.Event.{Effect, effect, read_part, Handed, ask_hands, leaving_body, answer_of}
 
 -- a laptop of document 01
@@ -95,9 +95,9 @@ admission_number (Refused k) = k
 abbrev pub newcomer : ℕ → ℕ → Settings → Replica
 newcomer number view settings = record { number = number; epoch = 0; view = view; settings = settings }
 
--- 01, fresh start: "asks questions 1, 2 and 3"; 28 before 1 (02, Wish 7)
+-- 01, fresh start: "asks questions 1, 2 and 3"
 abbrev pub start_questions : Replica → ℕ → ℕ → List Question
-start_questions me count bytes = question28 me ∷ question1 me ∷ question2 count bytes ∷ question3 me ∷ []
+start_questions me count bytes = question1 me ∷ question2 count bytes ∷ question3 me ∷ []
 
 -- the admission, and the memory after a fresh start
 pub record Start : Type 0 where
@@ -131,9 +131,9 @@ unfoldable pub start : ℕ → ℕ → Settings → List Record → List ℕ →
 start number view settings table store =
     begin (start_refusal number view settings (length table) (length store)) (newcomer number view settings) table store
 
--- 01, "A view event asks only 1 and 3 of these", then 18 and 19; 28 before 1 (02, Wish 7)
+-- 01, "A view event asks only 1 and 3 of these", then 18 and 19
 abbrev pub view_questions : Replica → ℕ → ℕ → List Question
-view_questions me epoch view = question28 me ∷ question1 me ∷ question3 me ∷ question18 me epoch ∷ question19 me view ∷ []
+view_questions me epoch view = question1 me ∷ question3 me ∷ question18 me epoch ∷ question19 me view ∷ []
 
 -- 01, View: epoch and view are replaced; the settings stay
 unfoldable pub view : Replica → ℕ → ℕ → Admission

@@ -3,7 +3,6 @@
 use Rattle.std.specs.Prelude.{ℕ, ◌<◌, ◌≡◌, Bool, true, ◌≢◌, List, []}
 use Rattle.hermes_record.specs.declared.timestamp.Timestamp.{Timestamp}
 use Rattle.hermes_record.specs.declared.record.State.TheVariants.{InvalidWrite}
-use Rattle.hermes_record.specs.declared.record.State.TheVariants as state
 use Rattle.hermes.specs.declared.message.Message.TheVariants.{Inv, Ack, Val}
 use Rattle.hermes.specs.declared.message.Received.{Received}
 use Rattle.hermes.specs.declared.event.Settings.{Settings}
@@ -12,9 +11,13 @@ use Rattle.hermes_record.specs.Order.{Orders, TieOrders, later}
 use Rattle.hermes.specs.Settings.{under}
 use Rattle.hermes.specs.Event.{send, number_of, sent_by}
 use Rattle.hermes.specs.Node.{Node, record_of, apply}
-use Rattle.hermes.specs.Run.{Entry, Group, advance, run}
-use Rattle.hermes.specs.Agreement.{Started, Entries, Sees, after}
+use Rattle.hermes.specs.Run.{Entry, Group, replay, result, advance, run}
+use Rattle.hermes.specs.Agreement.{Started, Entries, Sees, IsAccepted, after}
 use Rattle.hermes.specs.LastAck.{AllReplied}
+
+-- laptop k replays record i
+abbrev pub replay_of : ℕ → ℕ → Entry
+replay_of k i = record { who = k; what = replay i }
 
 module _ (wins : Orders) where
   -- ---- "The laptop's own overtaken save is given up"
@@ -24,16 +27,16 @@ module _ (wins : Orders) where
     pub overtaken : later (under wins n.me.settings) (record_of i n).timestamp t ≡ true
     pub uncounted : (m : Received) (v : List ℕ) → m.message ≡ Ack t → number_of (apply wins n i (Deliver m) v).answer ≢ 0
 
-  -- laptop k, whose own save of record i was overtaken in these entries, replays the record by the next: by a Replay, or a tick (02, Wish 7)
-  pub record GivesUp (g : Group) (before : List Entry) (a : Entry) (i k : ℕ) : Type 0 where
+  -- laptop k, whose own save of record i was overtaken in these entries, replays the record
+  pub record GivesUp (g : Group) (before : List Entry) (i k : ℕ) : Type 0 where
     pub invalid_write : (record_of i (after wins g before k)).state ≡ InvalidWrite
-    pub replays : (record_of i ((advance wins (run wins g before) a).at k)).state ≡ state.Replay
+    pub accepted : IsAccepted (result wins (run wins g before) (replay_of k i))
 
   -- then that save, the one of its last-write timestamp, is given up, and stays so after whatever follows
   abbrev pub GivenUpBy : Type 0
   GivenUpBy = (member : ℕ → Bool) (count : ℕ) (issued : ℕ → ℕ) (settings : Settings) (g : Group) → Started member count issued settings g
-      → (before : List Entry) (a : Entry) (i k : ℕ) → i < count → member k ≡ true → GivesUp g before a i k
-      → (rest : List Entry) → Past i (record_of i (after wins g before k)).written (after wins (advance wins (run wins g before) a) rest k)
+      → (before : List Entry) (i k : ℕ) → i < count → member k ≡ true → GivesUp g before i k
+      → (rest : List Entry) → Past i (record_of i (after wins g before k)).written (after wins (advance wins (run wins g before) (replay_of k i)) rest k)
 
   -- ---- "neither could finish"
 

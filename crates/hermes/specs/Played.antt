@@ -9,7 +9,7 @@ use Rattle.hermes_record.specs.Record.{fresh_record}
 use Rattle.hermes.specs.Settings.{old_settings}
 use Rattle.hermes.specs.Event.{number_of}
 use Rattle.hermes.specs.Node.{Node, newcomer, start}
-use Rattle.hermes.specs.Run.{Action, read, ask, write, commit, replay, deliver, validate, resend, tick, view, Entry, by, Group, Result, nothing, event, result, advance}
+use Rattle.hermes.specs.Run.{Action, read, ask, write, commit, replay, deliver, validate, resend, view, Entry, by, Group, Result, nothing, event, result, advance}
 
 -- numbers 0, 1 and 2
 abbrev pub three : ℕ → Bool
@@ -130,8 +130,6 @@ struck_off =
     ∷ accepts 1 (deliver 14)  -- the last ACK, in write: VAL, message 15
     ∷ refuses 1 (validate 0) 15  -- the ACK has settled it
     ∷ accepts 0 (deliver 15)  -- valid
-    ∷ accepts 0 (tick 0)  -- nothing is to be done (02, Wish 7)
-    ∷ refuses 2 (tick 0) 3
     ∷ []
 
 -- its entries

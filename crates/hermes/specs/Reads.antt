@@ -4,18 +4,17 @@ use Rattle.std.specs.Prelude.{ℕ, ◌<◌, ◌≡◌, Bool, true, ◌↔◌, �
 use Rattle.hermes.specs.declared.event.Settings.{Settings}
 use Rattle.hermes.specs.declared.event.Event.TheVariants.{Read}
 use Rattle.hermes_record.specs.Order.{Orders}
-use Rattle.hermes.specs.Guards.{question28, question1, question2, question5}
+use Rattle.hermes.specs.Guards.{question1, question2, question5}
 use Rattle.hermes.specs.Event.{number_of}
 use Rattle.hermes.specs.Node.{Node, record_of, value_of, apply, read}
 use Rattle.hermes.specs.Run.{Entry, Group}
 use Rattle.hermes.specs.Agreement.{Started, Entries, Sees, Shows, after}
 
--- replica k keeps its number, its settings and its count of records, and questions 28, 1, 2 and 5 never say no
+-- replica k keeps its number, its settings and its count of records, and questions 1, 2 and 5 never say no
 pub record Sound (count : ℕ) (settings : Settings) (k : ℕ) (n : Node) : Type 0 where
   pub number : n.me.number ≡ k
   pub fixed : n.me.settings ≡ settings
   pub records : length n.table ≡ count
-  pub waits : (question28 n.me).yes ≡ true
   pub first : (question1 n.me).yes ≡ true
   pub second : (question2 (length n.table) (length n.store)).yes ≡ true
   pub fifth : (i : ℕ) → i < count → (question5 n.me (record_of i n)).yes ≡ true
@@ -26,7 +25,7 @@ module _ (wins : Orders) where
     pub accepted : number_of (apply wins n i Read []).answer ≡ 0 → read n i ≡ value_of i n
     pub refused : number_of (apply wins n i Read []).answer ≢ 0 → read n i ≡ []
 
-  -- questions 28, 1, 2 and 5: after every list of entries the replicas are sound
+  -- 01, questions 1, 2 and 5: after every list of entries the replicas are sound
   abbrev pub StaySound : Type 0
   StaySound = (member : ℕ → Bool) (count : ℕ) (issued : ℕ → ℕ) (settings : Settings) (g : Group) → Started member count issued settings g
       → (entries : List Entry) → Entries member issued entries

@@ -5,12 +5,11 @@ use Rattle.hermes_record.specs.declared.record.Record.{Record}
 use Rattle.hermes.specs.declared.message.Message.{Message}
 use Rattle.hermes.specs.declared.message.Message.TheVariants.{Inv, Ack, Val}
 use Rattle.hermes_record.specs.declared.record.State.TheVariants as state
-use Rattle.hermes.specs.declared.event.Settings.{Settings}
-use Rattle.hermes.specs.declared.event.Event.TheVariants.{Read, Ask, Write, Commit, Replay, Deliver, Validate, Resend, Tick}
+use Rattle.hermes.specs.declared.event.Event.TheVariants.{Read, Ask, Write, Commit, Replay, Deliver, Validate}
 use Rattle.hermes_record.specs.Record.{fresh_record}
 use Rattle.hermes.specs.Settings.{old_settings, new_settings}
 use Rattle.hermes.specs.Node.{Node, newcomer}
-use Rattle.hermes.specs.Worked.{Deed, starts, lays, does, turns, answers, leaves, stamps, last_writer, ties_by, last_write, acknowledged_by, waited, holding, sends, hands_out, silent, unchanged, Row, row}
+use Rattle.hermes.specs.Worked.{Deed, starts, lays, does, turns, answers, leaves, stamps, last_writer, ties_by, last_write, acknowledged_by, holding, sends, hands_out, silent, unchanged, Row, row}
 use Rattle.hermes.specs.Limits.{limits}
 
 -- the laptop before its start: one record, and memory that holds something else
@@ -71,27 +70,6 @@ replaying = record {
   written = record { version = 1; tie = 5 };
   acks = 0;
   len = 1;
-  waited = 0;
-}
-
--- a tick (02, Wish 7)
-abbrev tick : Deed
-tick = does Tick []
-
--- a group with this wait; that of the others is 3
-abbrev waiting : ℕ → Settings
-waiting wait = record { rule = Higher; wait = wait }
-
--- a save of this laptop, (1,2), one byte long, that has waited so many ticks
-abbrev awaiting : ℕ → Record
-awaiting n = record {
-  state = state.Write;
-  timestamp = record { version = 1; tie = 2 };
-  writer = 2;
-  written = record { version = 1; tie = 2 };
-  acks = 0;
-  len = 1;
-  waited = n;
 }
 
 -- 01, "From the ringing table"
@@ -182,44 +160,6 @@ ringing =
     ∷ row (fresh_lower (inv 1 5 5 0 ∷ [])) (inv 1 5 5 0) (answers 0 ∷ sends (ack_of 1 5) ∷ unchanged ∷ [])
     -- and the rule stays after a view: (1,1) is greater than (1,2) in epoch 1 too
     ∷ row (fresh_lower (save ∷ turns 1 6 ∷ [])) (inv 1 1 1 1) (answers 0 ∷ leaves state.InvalidWrite ∷ stamps 1 1 ∷ last_writer 1 ∷ last_write 1 2 ∷ acknowledged_by 0 ∷ holding brought ∷ sends (ack_of 1 1) ∷ [])
-    -- 02, Wish 7, "A valid record keeps 0"
-    ∷ row (fresh []) tick (answers 0 ∷ unchanged ∷ silent ∷ waited 0 ∷ [])
-    -- "adds one to a record that is not valid": in write, with 1's ACK in; in invalid; in invalid-write; in replay
-    ∷ row (fresh (save ∷ ack 1 2 1 0 ∷ [])) tick (answers 0 ∷ leaves state.Write ∷ stamps 1 2 ∷ last_writer 2 ∷ last_write 1 2 ∷ acknowledged_by 2 ∷ waited 1 ∷ holding saved ∷ silent ∷ [])
-    ∷ row (fresh (inv 1 5 5 0 ∷ tick ∷ [])) tick (answers 0 ∷ leaves state.Invalid ∷ stamps 1 5 ∷ last_writer 5 ∷ last_write 0 1 ∷ acknowledged_by 0 ∷ waited 2 ∷ holding brought ∷ silent ∷ [])
-    ∷ row (fresh (save ∷ ack 1 2 1 0 ∷ inv 1 5 5 0 ∷ [])) tick (answers 0 ∷ leaves state.InvalidWrite ∷ stamps 1 5 ∷ last_writer 5 ∷ last_write 1 2 ∷ acknowledged_by 2 ∷ waited 1 ∷ holding brought ∷ silent ∷ [])
-    ∷ row (fresh (inv 1 5 5 0 ∷ turns 1 6 ∷ does Replay [] ∷ [])) tick (answers 0 ∷ leaves state.Replay ∷ stamps 1 5 ∷ last_writer 2 ∷ last_write 1 5 ∷ acknowledged_by 0 ∷ waited 1 ∷ holding brought ∷ silent ∷ [])
-    -- "On reaching the wait, write and replay send their INV again", "and the count returns to 0": the record is otherwise as it was
-    ∷ row (fresh (save ∷ ack 1 2 1 0 ∷ tick ∷ tick ∷ [])) tick (answers 0 ∷ leaves state.Write ∷ stamps 1 2 ∷ last_writer 2 ∷ last_write 1 2 ∷ acknowledged_by 2 ∷ waited 0 ∷ holding saved ∷ sends (inv_of 1 2) ∷ [])
-    ∷ row (fresh (inv 1 5 5 0 ∷ tick ∷ tick ∷ tick ∷ ack 1 5 1 0 ∷ tick ∷ tick ∷ [])) tick (answers 0 ∷ leaves state.Replay ∷ stamps 1 5 ∷ last_writer 2 ∷ last_write 1 5 ∷ acknowledged_by 2 ∷ waited 0 ∷ holding brought ∷ sends (inv_of 1 5) ∷ [])
-    -- "invalid and invalid-write replay even if the last writer is still in the view": 5 is; a replay by hand, 16
-    ∷ row (fresh (inv 1 5 5 0 ∷ tick ∷ tick ∷ [])) tick (answers 0 ∷ leaves state.Replay ∷ stamps 1 5 ∷ last_writer 2 ∷ last_write 1 5 ∷ acknowledged_by 0 ∷ waited 0 ∷ holding brought ∷ sends (inv_of 1 5) ∷ [])
-    ∷ row (fresh (save ∷ ack 1 2 1 0 ∷ inv 1 5 5 0 ∷ tick ∷ tick ∷ [])) tick (answers 0 ∷ leaves state.Replay ∷ stamps 1 5 ∷ last_writer 2 ∷ last_write 1 5 ∷ acknowledged_by 0 ∷ waited 0 ∷ holding brought ∷ sends (inv_of 1 5) ∷ [])
-    ∷ row (fresh (inv 1 5 5 0 ∷ tick ∷ tick ∷ [])) (does Replay []) (answers 16 ∷ unchanged ∷ silent ∷ waited 2 ∷ [])
-    -- "a new stamp .. sets it to 0": a write; a greater INV, in write and in invalid
-    ∷ row (fresh (inv 1 5 5 0 ∷ tick ∷ tick ∷ [])) save (answers 0 ∷ leaves state.Write ∷ stamps 2 2 ∷ waited 0 ∷ [])
-    ∷ row (fresh (save ∷ tick ∷ tick ∷ [])) (inv 1 5 5 0) (answers 0 ∷ leaves state.InvalidWrite ∷ stamps 1 5 ∷ waited 0 ∷ [])
-    ∷ row (fresh (inv 1 5 5 0 ∷ tick ∷ tick ∷ [])) (inv 2 5 5 0) (answers 0 ∷ leaves state.Invalid ∷ stamps 2 5 ∷ waited 0 ∷ [])
-    -- "or becoming valid": a VAL; the last ACK; a validate
-    ∷ row (fresh (inv 1 5 5 0 ∷ tick ∷ tick ∷ [])) (val 1 5 5 0) (answers 0 ∷ leaves state.Valid ∷ stamps 1 5 ∷ waited 0 ∷ [])
-    ∷ row (fresh (save ∷ ack 1 2 5 0 ∷ tick ∷ tick ∷ [])) (ack 1 2 1 0) (answers 0 ∷ leaves state.Valid ∷ stamps 1 2 ∷ waited 0 ∷ [])
-    ∷ row (fresh (save ∷ ack 1 2 1 0 ∷ tick ∷ turns 1 6 ∷ [])) (does Validate []) (answers 0 ∷ leaves state.Valid ∷ stamps 1 2 ∷ waited 0 ∷ [])
-    -- nothing else does: an INV that is not greater; an ACK that is not the last; a resend; a view; a replay by hand
-    ∷ row (fresh (save ∷ tick ∷ [])) (inv 1 1 1 0) (answers 0 ∷ sends (ack_of 1 1) ∷ unchanged ∷ waited 1 ∷ [])
-    ∷ row (fresh (save ∷ tick ∷ [])) (ack 1 2 1 0) (answers 0 ∷ leaves state.Write ∷ acknowledged_by 2 ∷ waited 1 ∷ [])
-    ∷ row (fresh (save ∷ tick ∷ [])) (does Resend []) (answers 0 ∷ sends (inv_of 1 2) ∷ unchanged ∷ waited 1 ∷ [])
-    ∷ row (fresh (save ∷ tick ∷ [])) (turns 1 6) (answers 0 ∷ leaves state.Write ∷ waited 1 ∷ [])
-    ∷ row (fresh (inv 1 5 5 0 ∷ tick ∷ turns 1 6 ∷ [])) (does Replay []) (answers 0 ∷ leaves state.Replay ∷ acknowledged_by 0 ∷ waited 1 ∷ sends (inv_of 1 5) ∷ [])
-    -- with a wait of 1 every tick acts; of 255 the count goes to 254
-    ∷ row (starts 2 group (waiting 1) ∷ save ∷ []) tick (answers 0 ∷ leaves state.Write ∷ waited 0 ∷ sends (inv_of 1 2) ∷ [])
-    ∷ row (starts 2 group (waiting 1) ∷ save ∷ tick ∷ []) tick (answers 0 ∷ leaves state.Write ∷ waited 0 ∷ sends (inv_of 1 2) ∷ [])
-    ∷ row (starts 2 group (waiting 255) ∷ lays (awaiting 253) (66 ∷ []) ∷ []) tick (answers 0 ∷ leaves state.Write ∷ waited 254 ∷ silent ∷ [])
-    ∷ row (starts 2 group (waiting 255) ∷ lays (awaiting 254) (66 ∷ []) ∷ []) tick (answers 0 ∷ leaves state.Write ∷ waited 0 ∷ sends (inv_of 1 2) ∷ [])
-    -- "28 when the wait is 0, before 1": a start
-    ∷ row [] (starts 2 group (waiting 0)) (answers 28 ∷ unchanged ∷ silent ∷ [])
-    ∷ row [] (starts 16 0 (waiting 0)) (answers 28 ∷ unchanged ∷ silent ∷ [])
-    ∷ row [] (starts 2 group (waiting 1)) (answers 0 ∷ leaves state.Valid ∷ waited 0 ∷ [])
-    ∷ row [] (starts 2 group (waiting 255)) (answers 0 ∷ leaves state.Valid ∷ waited 0 ∷ [])
     -- epoch 1's VAL at epoch 0: 10
     ∷ row (fresh (inv 1 5 5 0 ∷ [])) (val 1 5 5 1) (answers 10 ∷ unchanged ∷ silent ∷ [])
     ∷ []

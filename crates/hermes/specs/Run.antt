@@ -6,7 +6,7 @@ use Rattle.hermes.specs.declared.message.Header.{Header}
 use Rattle.hermes.specs.declared.message.Outgoing.{Outgoing}
 use Rattle.hermes.specs.declared.message.Outgoing.TheVariants.{None, Sent}
 use Rattle.hermes.specs.declared.message.Received.{Received}
-use Rattle.hermes.specs.declared.event.Event.TheVariants.{Read, Ask, Write, Commit, Replay, Deliver, Validate, Resend, Tick}
+use Rattle.hermes.specs.declared.event.Event.TheVariants.{Read, Ask, Write, Commit, Replay, Deliver, Validate, Resend}
 use Rattle.hermes_record.specs.Order.{Orders}
 use Rattle.hermes.specs.Event.{sent_by}
 use Rattle.hermes.specs.Node.{Node, Outcome, leaving, apply, viewed}
@@ -18,7 +18,7 @@ pub record Logged : Type 0 where
   pub body : List ℕ
 
 -- 01, "An entry is a read, write, replay, delivery, validate, resend or view event .. of any laptop";
--- "events added later join these": ask and commit (02, Wish 5), tick (Wish 7)
+-- "events added later join these": ask and commit (02, Wish 5)
 pub data Action : Type 0 where
   read : ℕ → Action
   ask : ℕ → Action
@@ -30,7 +30,6 @@ pub data Action : Type 0 where
   deliver : ℕ → Action
   validate : ℕ → Action
   resend : ℕ → Action
-  tick : ℕ → Action
   -- an epoch and its view
   view : ℕ → ℕ → Action
 
@@ -86,7 +85,6 @@ module _ (wins : Orders) where
   perform (deliver k) log n = delivery (find log k) n
   perform (validate i) log n = event (apply wins n i Validate [])
   perform (resend i) log n = event (apply wins n i Resend [])
-  perform (tick i) log n = event (apply wins n i Tick [])
   perform (view epoch set) log n = event (viewed n epoch set)
 
 -- the replica after a result

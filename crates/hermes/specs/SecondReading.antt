@@ -1,5 +1,4 @@
 -- Demand 3 a second time, written from DEMANDS.md, document 01 and document 02's Wishes 1, 5 and 6 alone.
--- Wish 7's tick and wait were added later; docs/DECISIONS.md, 151, says how.
 -- What one laptop does to one event (Event, Node) is taken as given.
 use Rattle.std.specs.Prelude.{ℕ, ◌+◌, ◌*◌, ◌/◌, ◌%◌, ◌^◌, ◌<◌, ◌≡◌, ◌≢◌, ◌⊎◌, List, [], ◌∷◌, length, get_or, take, drop}
 use Rattle.hermes_record.specs.declared.timestamp.Rule.{Rule}
@@ -13,7 +12,7 @@ use Rattle.hermes.specs.declared.message.Message.{Message}
 use Rattle.hermes.specs.declared.message.Message.TheVariants.{Inv, Ack, Val}
 use Rattle.hermes.specs.declared.message.Outgoing.{Outgoing}
 use Rattle.hermes.specs.declared.message.Outgoing.TheVariants.{None, Sent}
-use Rattle.hermes.specs.declared.event.Event.TheVariants.{Read, Ask, Write, Commit, Replay, Deliver, Validate, Resend, Tick}
+use Rattle.hermes.specs.declared.event.Event.TheVariants.{Read, Ask, Write, Commit, Replay, Deliver, Validate, Resend}
 use Rattle.hermes.specs.declared.event.Admission.TheVariants.{Admitted}
 use Rattle.hermes.specs.declared.event.Settings.{Settings}
 use Rattle.hermes.specs.Event.{number_of, sent_by}
@@ -57,8 +56,7 @@ pub record Mail : Type 0 where
   pub bytes : List ℕ
 
 -- 01, "a read, write, replay, delivery, validate, resend or view event": each with its record number; a write's value; a view's epoch and set;
--- "events added later join these": 02, Wish 5, an ask, and a commit "that brings the stamp back", with its value;
--- Wish 7, a tick, which "names one record" and brings nothing
+-- "events added later join these": 02, Wish 5, an ask, and a commit "that brings the stamp back", with its value
 pub data Happening : Type 0 where
   read : ℕ → Happening
   write : ℕ → List ℕ → Happening
@@ -69,10 +67,9 @@ pub data Happening : Type 0 where
   change : ℕ → ℕ → Happening
   ask : ℕ → Happening
   commit : ℕ → Timestamp → List ℕ → Happening
-  tick : ℕ → Happening
 
 -- 01, "a delivery names its message's record and brings its message's bytes"; every other event is simply done
--- (a laptop compares by its own rule, and counts ticks up to its own wait: those that it was started with)
+-- (a laptop compares by its own rule, the one that it was started with)
 abbrev pub perform : Happening → Node → Outcome
 perform (read i) n = apply ties n i Read []
 perform (write i value) n = apply ties n i Write value
@@ -84,7 +81,6 @@ perform (resend i) n = apply ties n i Resend []
 perform (change epoch set) n = viewed n epoch set
 perform (ask i) n = apply ties n i Ask []
 perform (commit i t value) n = apply ties n i (Commit t) value
-perform (tick i) n = apply ties n i Tick []
 
 -- 01, "accepted or refused, of any laptop of the group": the laptop as the entry finds it, and what is done there
 pub record Entry : Type 0 where
@@ -114,8 +110,7 @@ pub record Left (m : Mail) (earlier : List Entry) : Type 0 where
   pub left : Leaves m (sent_by (outcome entry).answer) (outcome entry).node
 
 -- 01's premise on an event after the earlier entries: on a delivery as above, and "A view entry carries an epoch and the view issued for it";
--- none on an ask, nor on a commit, whatever stamp it brings: 01, "accepted or refused"; 02, Wish 5, "26 when .. its stamp differs";
--- nor on a tick, of any laptop and any record at any time: 02, Wish 7, "agreement must cover groups that tick in any order"
+-- none on an ask, nor on a commit, whatever stamp it brings: 01, "accepted or refused"; 02, Wish 5, "26 when .. its stamp differs"
 abbrev pub Honest : (ℕ → ℕ) → List Entry → Happening → Type 0
 Honest issued earlier (read i) = Unit
 Honest issued earlier (write i value) = Unit
@@ -126,7 +121,6 @@ Honest issued earlier (resend i) = Unit
 Honest issued earlier (change epoch set) = set ≡ issued epoch
 Honest issued earlier (ask i) = Unit
 Honest issued earlier (commit i t value) = Unit
-Honest issued earlier (tick i) = Unit
 
 -- ---- lists of entries
 
@@ -147,8 +141,7 @@ pub data History (issued : ℕ → ℕ) (begun : List Node) : List Entry → Lis
 -- ---- the group at its start
 
 -- 01, "start fresh once with one first view": an accepted start with so many records, on lent memory that may hold anything, left n;
--- 02, Wish 6, the rule is "fixed at a group's start": the start is told it, among the settings, and so Wish 7's wait;
--- a fresh start "asks questions 1, 2 and 3" (01), and "28 when the wait is 0, before 1 wherever 1 is asked" (Wish 7): one with a wait of 0 is not accepted
+-- 02, Wish 6, the rule is "fixed at a group's start": the start is told it, among the settings
 pub record FreshStart (first count : ℕ) (settings : Settings) (n : Node) : Type 0 where
   pub number : ℕ
   pub table : List Record
@@ -162,9 +155,7 @@ Different [] = Unit
 Different (n ∷ rest) = ((m : Node) → Among m rest → m.me.number ≢ n.me.number) × Different rest
 
 -- 01, "Premises of agreement": the group as it starts; one view per epoch number, the first for epoch 0, "each within all lower-numbered ones";
--- 02, Wish 6, "fixed at a group's start", "and each group setting added later, fixed likewise": all its laptops start with the group's one settings;
--- 02, Wish 7, "the group a wait of 1 to 255": one of these settings. That it is at least 1 follows from an accepted start, as said above; that it is at
--- most 255 is not made a premise, so the claim holds for all these waits, and for greater ones besides
+-- 02, Wish 6, "fixed at a group's start", "and each group setting added later, fixed likewise": all its laptops start with the group's one settings
 pub record Premises (issued : ℕ → ℕ) (settings : Settings) (begun : List Node) : Type 0 where
   pub different : Different begun
   pub count : ℕ
@@ -208,9 +199,7 @@ pub record LastAck (m : Mail) (i : ℕ) (n : Node) : Type 0 where
   pub completing : CompletesView m.sender i n
 
 -- 01, "A validation is an accepted Validate step"; 02, Wish 1, of such an ACK, "for demand 3 that too is a validation": the event, once accepted, is one of record i
--- (neither of Wish 5's is: an ask "hands out value and stamp", a commit "goes on as a write", and its save is finished as a write's is;
--- nor is Wish 7's tick: it "adds one to a record that is not valid" and, "On reaching the wait", sends the INV again or replays, which makes no record
--- valid; what it sent again, or its replay, is finished by one of the two above, as any other is)
+-- (neither of Wish 5's is: an ask "hands out value and stamp", a commit "goes on as a write", and its save is finished as a write's is)
 abbrev pub Validates : Happening → ℕ → Node → Type 0
 Validates (read j) i n = ⊥
 Validates (write j value) i n = ⊥
@@ -221,7 +210,6 @@ Validates (resend j) i n = ⊥
 Validates (change epoch set) i n = ⊥
 Validates (ask j) i n = ⊥
 Validates (commit j t value) i n = ⊥
-Validates (tick j) i n = ⊥
 
 -- DEMANDS 3, second half: "for every accepted validation in the list", the finisher as it was found, "each laptop then in the finisher's view";
 -- 02, Wish 6, "Comparing two stamps now depends on the rule": here on the group's

@@ -1,14 +1,13 @@
 -- The premises of the second reading of demand 3 can be met: they forbid no event that document 01 allows, and a group of three with one record
 -- each finishes saves by a Validate, by the last ACK in write and by the last ACK in replay, after which both halves of the claim speak of something.
 -- That group has document 01's rule for ties; another, with 02, Wish 6's, finishes two saves of one version, and the lower number's stands.
--- A third, with the old rule, has 02, Wish 7's ticks: one sends a save again, one replays it, and the replay is finished.
 use Rattle.std.specs.Prelude.{ℕ, ◌≡◌, List, [], ◌∷◌}
 use Rattle.hermes_record.specs.declared.timestamp.Rule.TheVariants.{Higher, Lower}
 use Rattle.hermes_record.specs.declared.timestamp.Timestamp.{Timestamp}
 use Rattle.hermes.specs.declared.message.Message.{Message}
 use Rattle.hermes.specs.declared.message.Message.TheVariants.{Inv, Ack, Val}
 use Rattle.hermes.specs.declared.event.Settings.{Settings}
-use Rattle.hermes.specs.Event.{number_of, sent_by}
+use Rattle.hermes.specs.Event.{number_of}
 use Rattle.hermes.specs.Node.{Node, record_of}
 use Rattle.hermes.specs.Played.{issued, fresh}
 use Rattle.hermes.specs.SecondReading.{
@@ -25,10 +24,8 @@ use Rattle.hermes.specs.SecondReading.{
   change,
   ask,
   commit,
-  tick,
   Entry,
   outcome,
-  Leaves,
   Left,
   Honest,
   History,
@@ -42,8 +39,7 @@ use Rattle.hermes.specs.SecondReading.{
 -- ---- no event is forbidden
 
 -- 01, "with any record number and value": after any entries every event may follow; a delivery brings a message that left, a view is the issued one;
--- 01, "events added later join these": so may 02, Wish 5's ask, and its commit with any stamp, which 26 judges;
--- and Wish 7's tick, of any record and "in any order"
+-- 01, "events added later join these": so may 02, Wish 5's ask, and its commit with any stamp, which 26 judges
 pub record AnyEvent (issued : ℕ → ℕ) (earlier : List Entry) : Type 0 where
   pub reads : (i : ℕ) → Honest issued earlier (read i)
   pub writes : (i : ℕ) (value : List ℕ) → Honest issued earlier (write i value)
@@ -54,17 +50,16 @@ pub record AnyEvent (issued : ℕ → ℕ) (earlier : List Entry) : Type 0 where
   pub changes : (epoch : ℕ) → Honest issued earlier (change epoch (issued epoch))
   pub asks : (i : ℕ) → Honest issued earlier (ask i)
   pub commits : (i : ℕ) (t : Timestamp) (value : List ℕ) → Honest issued earlier (commit i t value)
-  pub ticks : (i : ℕ) → Honest issued earlier (tick i)
 
--- ---- the groups; each has a wait of 3 (02, Wish 7, "the group a wait of 1 to 255")
+-- ---- the two groups
 
 -- 02, Wish 6, "Groups formed earlier keep the old rule"
 abbrev pub old_rule : Settings
-old_rule = record { rule = Higher; wait = 3 }
+old_rule = record { rule = Higher }
 
 -- 02, Wish 6, "a tie to the lower laptop number"
 abbrev pub new_rule : Settings
-new_rule = record { rule = Lower; wait = 3 }
+new_rule = record { rule = Lower }
 
 -- a group at its start, with `issued` and `fresh` of `Played`: 2 is struck off in epoch 1
 abbrev pub begun : Settings → List Node
@@ -208,71 +203,6 @@ new_laptop1 = (outcome whole1).node
 abbrev pub new_now : List Node
 new_now = new_laptop0 ∷ new_laptop1 ∷ (outcome turned2).node ∷ []
 
--- ---- a save that ticks move on, under the old rule
-
--- what the third tick of 0, and then of 1, sends: 0's save, which had left in epoch 0 only
-abbrev pub again0 : Mail
-again0 = mail 0 1 (Inv (stamp 1 0)) (65 ∷ 49 ∷ [])
-
-abbrev pub again1 : Mail
-again1 = mail 1 1 (Inv (stamp 1 0)) (65 ∷ 49 ∷ [])
-
--- 0 saves A1 (`saved`), and nobody takes it; 2 is struck off, and 0 and 1 hear of it
-abbrev pub heard0 : Entry
-heard0 = thereafter saved (change 1 3)
-
-abbrev pub heard1 : Entry
-heard1 = record { found = fresh old_rule 1; event = change 1 3 }
-
--- 02, Wish 7, "On reaching the wait, write and replay send their INV again": 0, in write, ticks three times, and 1 takes the INV
-abbrev pub once0 : Entry
-once0 = thereafter heard0 (tick 0)
-
-abbrev pub twice0 : Entry
-twice0 = thereafter once0 (tick 0)
-
-abbrev pub urged0 : Entry
-urged0 = thereafter twice0 (tick 0)
-
-abbrev pub took1 : Entry
-took1 = thereafter heard1 (delivery again0)
-
--- 02, Wish 7, "invalid and invalid-write replay even if the last writer is still in the view": 1's ACK is lost; 1, in invalid, ticks three times,
--- and 0 acknowledges
-abbrev pub once1 : Entry
-once1 = thereafter took1 (tick 0)
-
-abbrev pub twice1 : Entry
-twice1 = thereafter once1 (tick 0)
-
-abbrev pub urged1 : Entry
-urged1 = thereafter twice1 (tick 0)
-
-abbrev pub answered0 : Entry
-answered0 = thereafter urged0 (delivery again1)
-
--- 1 finishes by 0's ACK, the last, in replay; 0 takes the VAL
-abbrev pub settled1 : Entry
-settled1 = thereafter urged1 (delivery (mail 0 1 (Ack (stamp 1 0)) []))
-
-abbrev pub shown0 : Entry
-shown0 = thereafter answered0 (delivery (mail 1 1 (Val (stamp 1 0)) []))
-
--- the list, the latest entry first
-abbrev pub tick_list : List Entry
-tick_list =
-    shown0 ∷ settled1 ∷ answered0 ∷ urged1 ∷ twice1 ∷ once1 ∷ took1 ∷ urged0 ∷ twice0 ∷ once0 ∷ heard1 ∷ heard0 ∷ saved ∷ []
-
--- 0 and 1 after it, and the group
-abbrev pub tick_laptop0 : Node
-tick_laptop0 = (outcome shown0).node
-
-abbrev pub tick_laptop1 : Node
-tick_laptop1 = (outcome settled1).node
-
-abbrev pub tick_now : List Node
-tick_now = tick_laptop0 ∷ tick_laptop1 ∷ fresh old_rule 2 ∷ []
-
 -- ---- what is shown of them
 
 -- the premises, and so the claim, of a group with these settings; and the premises of `Agreement`: two of its laptops stand in each other's view,
@@ -302,16 +232,6 @@ pub record TieGoes (e : Entry) (other : Node) (version loser winner : ℕ) : Typ
   pub lost : (record_of 0 e.found).timestamp ≡ stamp version loser
   pub won : (record_of 0 other).timestamp ≡ stamp version winner
 
--- 02, Wish 7, "On reaching the wait": an accepted tick is in the list, the message leaves by it, and an accepted delivery in the list brings it
-pub record SentByTick (entries : List Entry) (e taker : Entry) (m : Mail) : Type 0 where
-  pub listed : Among e entries
-  pub ticks : e.event ≡ tick 0
-  pub accepted : number_of (outcome e).answer ≡ 0
-  pub leaves : Leaves m (sent_by (outcome e).answer) (outcome e).node
-  pub delivered : Among taker entries
-  pub brings : taker.event ≡ delivery m
-  pub taken : number_of (outcome taker).answer ≡ 0
-
 -- what it shows; `proofs/SecondPremises` computes it
 pub record SecondWitness : Type 0 where
   pub any : (issued : ℕ → ℕ) (earlier : List Entry) → AnyEvent issued earlier
@@ -326,10 +246,3 @@ pub record SecondWitness : Type 0 where
   pub of_loser : Finished new_list new_now whole2 new_laptop0
   pub of_winner : Finished new_list new_now whole1 new_laptop0
   pub new_tie : TieGoes whole2 new_laptop0 1 2 1
-  -- the ticking group: the claim; its second half of the last ACK in a replay that a tick began; a tick in write and one in invalid send, and are heard;
-  -- the second replays while the last writer stands in the view
-  pub tick_group : Claimed old_rule tick_list tick_now tick_laptop0 tick_laptop1
-  pub by_tick : Finished tick_list tick_now settled1 tick_laptop0
-  pub tick_in_write : SentByTick tick_list urged0 took1 again0
-  pub tick_in_invalid : SentByTick tick_list urged1 answered0 again1
-  pub writer_seen : InView (record_of 0 urged1.found).writer urged1.found.me.view

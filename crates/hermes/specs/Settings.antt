@@ -1,4 +1,4 @@
--- What is fixed at a group's start (02, Wish 6, "both rules live on, fixed at a group's start"; Wish 7, "and the group a wait of 1 to 255").
+-- What is fixed at a group's start (02, Wish 6, "both rules live on, fixed at a group's start").
 use Rattle.std.specs.Prelude.{ℕ, Bool}
 use Rattle.hermes_record.specs.declared.timestamp.Rule.TheVariants.{Higher, Lower}
 use Rattle.hermes.specs.declared.event.Settings.{Settings}
@@ -8,14 +8,10 @@ use Rattle.hermes_record.specs.Order.{Orders}
 abbrev pub under : Orders → Settings → ℕ → ℕ → Bool
 under wins settings = wins settings.rule
 
--- a wait for examples. Document 01's table and the playing program have no tick, and may have any but 0
-abbrev pub some_wait : ℕ
-some_wait = 3
-
 -- 02, Wish 6, "Groups formed earlier keep the old rule"; document 01's "table and playing program keep the old rule"
 abbrev pub old_settings : Settings
-old_settings = record { rule = Higher; wait = some_wait }
+old_settings = record { rule = Higher }
 
 -- 02, Wish 6, "From next season the scheme gives a tie to the lower laptop number"
 abbrev pub new_settings : Settings
-new_settings = record { rule = Lower; wait = some_wait }
+new_settings = record { rule = Lower }

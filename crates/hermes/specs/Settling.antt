@@ -7,7 +7,7 @@ use Rattle.hermes_record.specs.Members.{has, size}
 use Rattle.hermes_record.specs.Order.{Orders, TieOrders, ties, NotAfter}
 use Rattle.hermes.specs.Settings.{under}
 use Rattle.hermes.specs.Node.{record_of}
-use Rattle.hermes.specs.Run.{Action, read, ask, write, commit, replay, deliver, validate, resend, tick, view, Entry, Group, Logged, Found, missing, found, find, result, advance, run}
+use Rattle.hermes.specs.Run.{Action, read, ask, write, commit, replay, deliver, validate, resend, view, Entry, Group, Logged, Found, missing, found, find, result, advance, run}
 use Rattle.hermes.specs.Agreement.{Started, Entries, Shows, Alike, IsAccepted, after}
 
 -- "all k laptops of a view are at its epoch": each number in the view issued for epoch e is a laptop of the group, and is at that epoch. That it
@@ -21,7 +21,7 @@ About i missing = ⊥
 About i (found x) = x.header.index ≡ i
 
 -- "events on that record", and "no further write": a replay, validation or resend of record i, or a delivery of a message about it that is none
--- of the first `old`: those had left at the outset, and "earlier lost messages may lie behind it". No tick is needed (02, Wish 7)
+-- of the first `old`: those had left at the outset, and "earlier lost messages may lie behind it"
 abbrev pub Helps : (i old : ℕ) → List Logged → Action → Type 0
 Helps i old log (read j) = ⊥
 Helps i old log (ask j) = ⊥
@@ -31,7 +31,6 @@ Helps i old log (replay j) = j ≡ i
 Helps i old log (deliver k) = (old ≤ k) × About i (find log k)
 Helps i old log (validate j) = j ≡ i
 Helps i old log (resend j) = j ≡ i
-Helps i old log (tick j) = ⊥
 Helps i old log (view epoch set) = ⊥
 
 -- the number of the next message that leaves: none of those at the outset has it or a later one

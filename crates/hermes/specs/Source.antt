@@ -209,14 +209,6 @@ pub record HRcvAckThenSendVals (n : Replica) (i sender : ℕ) (s s' : Vars) (m :
   pub complete : HSendValsGuard n between → HSendVals n i between s' m
   pub incomplete : (HSendValsGuard n between → ⊥) → (s' ≡ between) × (m ≡ silent)
 
--- 02, Wish 7: a tick; `due`, that it reaches the wait
-pub record Ticked (n : Replica) (i : ℕ) (due : Type 0) (s s' : Vars) (m : Sending) : Type 0 where
-  -- HReplayWrite "without its condition on the writer"
-  pub replays : due → In s.node_state (Invalid ∷ InvalidWrite ∷ []) → HReplayWrite n i s s' m
-  -- what HWrite and HReplayWrite sent, once more
-  pub resends : due → In s.node_state (Write ∷ Replay ∷ []) → (s' ≡ s) × (m ≡ send_inv n i s)
-  pub waits : (due → ⊥) ⊎ (s.node_state ≡ Valid) → (s' ≡ s) × (m ≡ silent)
-
 -- nodeFailure, of all nodes that are not in the set `alive`: at least two stay, and the epoch rises (004)
 pub record NodeFailureGuard (n : Replica) (epoch alive : ℕ) : Type 0 where
   pub later : n.epoch < epoch

@@ -1,7 +1,7 @@
 -- Wish 6, computed: two laptops of the group of `Played` save at once. By the old rule the higher number's text stands on all three, by the new rule the
 -- lower number's; and the promises are claimed under each rule, of a list with every kind of entry too. `Morning` of check_air has every kind of call, accepted
 -- and refused, with its numbers, by the new rule.
-use Rattle.std.specs.Prelude.{ℕ, ◌≡◌, true, List, [], ◌∷◌, ltb}
+use Rattle.std.specs.Prelude.{ℕ, ◌≡◌, List, [], ◌∷◌}
 use Rattle.hermes_record.specs.declared.timestamp.Timestamp.{Timestamp}
 use Rattle.hermes_record.specs.declared.record.State.TheVariants.{Valid}
 use Rattle.hermes.specs.declared.event.Settings.{Settings}
@@ -42,11 +42,11 @@ lost_val_recipe = by 0 (resend 0) ∷ by 1 (deliver 5) ∷ by 2 (deliver 5) ∷ 
 
 -- `proofs/TiePremises` computes it
 pub record TieWitness : Type 0 where
-  -- the premises of demand 3 under each rule, with any wait but 0, and so its claim, of this list and of `story`, which has every kind of entry
-  pub started : (settings : Settings) → ltb 0 settings.wait ≡ true → Started three 1 issued settings (group_with settings)
+  -- the premises of demand 3 under each rule, and so its claim, of this list and of `story`, which has every kind of entry
+  pub started : (settings : Settings) → Started three 1 issued settings (group_with settings)
   pub entries : Entries three issued at_once
-  pub agreed : (settings : Settings) → ltb 0 settings.wait ≡ true → Agreement ties three 1 settings (group_with settings) at_once
-  pub every : (settings : Settings) → ltb 0 settings.wait ≡ true → Agreement ties three 1 settings (group_with settings) story
+  pub agreed : (settings : Settings) → Agreement ties three 1 settings (group_with settings) at_once
+  pub every : (settings : Settings) → Agreement ties three 1 settings (group_with settings) story
   -- the numbers answered: a laptop is not told by its own VAL (11)
   pub old_numbers : answers (group_with old_settings) at_once ≡ 0 ∷ 0 ∷ 0 ∷ 0 ∷ 0 ∷ 0 ∷ 0 ∷ 0 ∷ 0 ∷ 0 ∷ 0 ∷ 11 ∷ 0 ∷ []
   pub new_numbers : answers (group_with new_settings) at_once ≡ 0 ∷ 0 ∷ 0 ∷ 0 ∷ 0 ∷ 0 ∷ 0 ∷ 0 ∷ 0 ∷ 0 ∷ 11 ∷ 0 ∷ 0 ∷ []

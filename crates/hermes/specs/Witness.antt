@@ -5,10 +5,10 @@ use Rattle.hermes_record.specs.Members.{has}
 use Rattle.hermes_record.specs.Order.{ties}
 use Rattle.hermes.specs.Settings.{under, old_settings}
 use Rattle.hermes.specs.Node.{Node, record_of, value_of}
-use Rattle.hermes.specs.Run.{Action, read, ask, write, commit, replay, deliver, validate, resend, tick, view, by, advance, run}
+use Rattle.hermes.specs.Run.{Action, read, ask, write, commit, replay, deliver, validate, resend, view, by, advance, run}
 use Rattle.hermes.specs.Agreement.{Started, Entries, Sees, Shows, Validation, after, Agreement}
 use Rattle.hermes.specs.LastAck.{AllReplied, NoView}
-use Rattle.hermes.specs.Overtaken.{Past, GivesUp, Turn}
+use Rattle.hermes.specs.Overtaken.{replay_of, Past, GivesUp, Turn}
 use Rattle.hermes.specs.Played.{three, issued, group, answers, Line, numbers_of, struck_off, story}
 
 -- a number for each kind of entry, to tell them apart
@@ -22,7 +22,6 @@ kind (resend i) = 5
 kind (view epoch set) = 6
 kind (ask i) = 7
 kind (commit i t v) = 8
-kind (tick i) = 9
 
 -- some line passes the test
 abbrev pub some : (Line → Bool) → List Line → Bool
@@ -49,7 +48,6 @@ delivers k (replay i) = false
 delivers k (deliver j) = eqb j k
 delivers k (validate i) = false
 delivers k (resend i) = false
-delivers k (tick i) = false
 delivers k (view epoch set) = false
 
 -- replica k after the list `struck_off`
@@ -78,10 +76,10 @@ pub record FinishedSave (j k : ℕ) (action : Action) (m : ℕ) : Type 0 where
 -- the premises of `GivenUp`, and its claim: entry j, counted from 0, is k's accepted replay in invalid-write; its own save is that of version 1
 pub record GivenUpSave (j k : ℕ) : Type 0 where
   pub member : three k ≡ true
-  pub split : story ≡ take j story ++ by k (replay 0) ∷ drop (suc j) story
-  pub given : GivesUp ties group (take j story) (by k (replay 0)) 0 k
+  pub split : story ≡ take j story ++ replay_of k 0 ∷ drop (suc j) story
+  pub given : GivesUp ties group (take j story) 0 k
   pub save : (record_of 0 (after ties group (take j story) k)).written ≡ record { version = 1; tie = k }
-  pub past : Past ties 0 (record_of 0 (after ties group (take j story) k)).written (after ties (advance ties (run ties group (take j story)) (by k (replay 0))) (drop (suc j) story) k)
+  pub past : Past ties 0 (record_of 0 (after ties group (take j story) k)).written (after ties (advance ties (run ties group (take j story)) (replay_of k 0)) (drop (suc j) story) k)
 
 -- 2, struck off amid a save
 abbrev pub left_out : Node

@@ -54,8 +54,6 @@ pub data Claim : Type 0 where
   ties_by : Rule → Claim
   last_write : ℕ → ℕ → Claim
   acknowledged_by : ℕ → Claim
-  -- the ticks waited (02, Wish 7)
-  waited : ℕ → Claim
   -- the value, and with it its length
   holding : List ℕ → Claim
   sends : Message → Claim
@@ -77,7 +75,6 @@ Says (last_writer k) n o = (record_of 0 o.node).writer ≡ k
 Says (ties_by rule) n o = o.node.me.settings.rule ≡ rule
 Says (last_write v t) n o = (record_of 0 o.node).written ≡ record { version = v; tie = t }
 Says (acknowledged_by set) n o = (record_of 0 o.node).acks ≡ set
-Says (waited k) n o = (record_of 0 o.node).waited ≡ k
 Says (holding v) n o = ((record_of 0 o.node).len ≡ length v) × (o.node.store ≡ store_of v)
 Says (sends m) n o = sent_by o.answer ≡ send n.me 0 m
 Says (hands_out text v t) n o = asked o.node 0 ≡ record { part = text; timestamp = record { version = v; tie = t } }

@@ -2,11 +2,10 @@
 use crate::message::{Outgoing, Received};
 use hermes_record::{Record, Rule, Timestamp};
 
-// What is fixed at a group's start, the same for all of its replicas (document 02): the rule of ties, and how many ticks a record waits.
+// What is fixed at a group's start, the same for all of its replicas (document 02): the rule of ties.
 #[derive(Drop)]
 pub struct Settings {
     pub rule: Rule,
-    pub wait: u8,
 }
 
 // The identity of a replica (document 01's laptop): its number, its epoch, its view, a set of numbers in 16 bits, and its group's settings.
@@ -30,7 +29,6 @@ pub enum Event {
     Deliver(Received),
     Validate,
     Resend,
-    Tick,
 }
 
 // The answer to an event: accepted, with what leaves; or the number of the question that said no.

@@ -1,5 +1,5 @@
 -- One record: its states, and what each step makes of it (01, "Steps").
-use Rattle.std.specs.Prelude.{ℕ, ◌+◌, Bool, false, cond, ◌||◌, List, [], ◌∷◌, ltb, leb, eqb}
+use Rattle.std.specs.Prelude.{ℕ, ◌+◌, Bool, false, cond, ◌||◌, List, [], ◌∷◌, ltb, eqb}
 use Rattle.hermes_record.specs.declared.timestamp.Timestamp.{Timestamp}
 use Rattle.hermes_record.specs.declared.record.Record.{Record}
 use Rattle.hermes_record.specs.declared.record.State.{State}
@@ -19,8 +19,7 @@ abbrev pub one_of : State → List State → Bool
 one_of s [] = false
 one_of s (t ∷ ts) = eqb (code s) (code t) || one_of s ts
 
--- 01, fresh start: valid and empty; both timestamps version 0 with the lowest number, that number as last writer; no acknowledgements; no tick
--- waited
+-- 01, fresh start: valid and empty; both timestamps version 0 with the lowest number, that number as last writer; no acknowledgements
 abbrev pub fresh_record : ℕ → Record
 fresh_record lowest = record {
   state = Valid;  -- fresh
@@ -29,7 +28,6 @@ fresh_record lowest = record {
   written = record { version = 0; tie = lowest };
   acks = 0;
   len = 0;
-  waited = 0;
 }
 
 -- 01, Write, "version plus one"; the greatest version, which question 9 refuses, stays
@@ -40,8 +38,7 @@ next_version v = cond (ltb v 4294967295) (v + 1) v
 abbrev pub next_timestamp : Timestamp → ℕ → Timestamp
 next_timestamp t me = record { version = next_version t.version; tie = me }
 
--- 01, Write: the new timestamp for both; last writer is self; acknowledgements emptied; state write. 02, Wish 7: "a new stamp, or becoming
--- valid, sets it to 0", the count of ticks
+-- 01, Write: the new timestamp for both; last writer is self; acknowledgements emptied; state write
 abbrev pub written_by : Record → ℕ → ℕ → Record
 written_by r me n = record {
   state = Write;
@@ -50,7 +47,6 @@ written_by r me n = record {
   written = next_timestamp r.timestamp me;
   acks = 0;  -- emptied by a write
   len = n;
-  waited = 0;  -- a new timestamp, written
 }
 
 -- 01, Replay: timestamp and value kept; last-write timestamp becomes the timestamp; last writer is self; acknowledgements emptied; state replay
@@ -62,7 +58,6 @@ replayed r me = record {
   written = r.timestamp;
   acks = 0;  -- emptied by a replay
   len = r.len;
-  waited = r.waited;  -- kept by a replay
 }
 
 -- 01, Deliver INV: valid, invalid and replay become invalid, write and invalid-write become invalid-write
@@ -82,7 +77,6 @@ invalidated r t sender n = record {
   written = r.written;
   acks = r.acks;
   len = n;
-  waited = 0;  -- a new timestamp, taken
 }
 
 -- 01, Deliver ACK: its sender is added to the acknowledgements
@@ -94,33 +88,15 @@ acknowledged r sender = record {
   written = r.written;
   acks = with r.acks sender;
   len = r.len;
-  waited = r.waited;
 }
 
--- 01, Deliver VAL and Validate: the state becomes valid. 02, Wish 7: and the count 0
+-- 01, Deliver VAL and Validate: the state becomes valid
 abbrev pub validated : Record → Record
 validated r = record {
-  state = Valid;  -- becomes valid
+  state = Valid;  -- the one change
   timestamp = r.timestamp;
   writer = r.writer;
   written = r.written;
   acks = r.acks;
   len = r.len;
-  waited = 0;  -- becoming valid
-}
-
--- 02, Wish 7: a tick "adds one", and on reaching the wait "the count returns to 0"
-abbrev pub next_waited : ℕ → ℕ → ℕ
-next_waited wait n = cond (leb wait (n + 1)) 0 (n + 1)
-
--- 02, Wish 7, of a record that is not valid: the tick is counted
-abbrev pub ticked : Record → ℕ → Record
-ticked r wait = record {
-  state = r.state;
-  timestamp = r.timestamp;
-  writer = r.writer;
-  written = r.written;
-  acks = r.acks;
-  len = r.len;
-  waited = next_waited wait r.waited;
 }

@@ -1,6 +1,6 @@
 // One record, moved by value.
 ghost use Rattle.std.specs.Prelude.{◌≡◌};
-ghost use Rattle.hermes_record.specs.Record.{fresh_record, written_by, replayed, invalidated_state, invalidated, acknowledged, validated, ticked};
+ghost use Rattle.hermes_record.specs.Record.{fresh_record, written_by, replayed, invalidated_state, invalidated, acknowledged, validated};
 
 use crate::members::with;
 use crate::timestamp::Timestamp;
@@ -15,7 +15,7 @@ pub enum State {
 }
 
 // `writer` is the last writer, `written` the last-write timestamp, `acks` the set of replicas whose acknowledgement has come,
-// `len` the value's length, `waited` the ticks waited.
+// `len` the value's length.
 #[derive(Drop)]
 pub struct Record {
     pub state: State,
@@ -24,7 +24,6 @@ pub struct Record {
     pub written: Timestamp,
     pub acks: u16,
     pub len: u8,
-    pub waited: u8,
 }
 
 impl Record {
@@ -54,7 +53,6 @@ impl Record {
             written: first,
             acks: 0,
             len: 0,
-            waited: 0,
         }
     }
 
@@ -78,7 +76,6 @@ impl Record {
             written: next,
             acks: 0, // emptied by a write
             len: len,
-            waited: 0, // a new timestamp, written
         }
     }
 
@@ -94,7 +91,6 @@ impl Record {
             written: kept,
             acks: 0, // emptied by a replay
             len: self.len,
-            waited: self.waited, // kept by a replay
         }
     }
 
@@ -112,7 +108,6 @@ impl Record {
             written: own,
             acks: self.acks,
             len: len,
-            waited: 0, // a new timestamp, taken
         }
     }
 
@@ -131,30 +126,13 @@ impl Record {
         let now = self.timestamp;
         let own = self.written;
         Record {
-            state: State::Valid, // becomes valid
+            state: State::Valid, // the one change
             timestamp: now,
             writer: self.writer,
             written: own,
             acks: self.acks,
             len: self.len,
-            waited: 0, // becoming valid
         }
-    }
-
-    // A tick of a record that is not valid, in a group with this wait: one more is counted, and none once that reaches the wait.
-    pub fn tick(mut self, wait: u8) -> Record
-        ensures { result ≡ ticked self wait }
-    {
-        let old = self.waited;
-        let mut next = 0;
-        if old < wait {
-            let more = old + 1;
-            if more < wait {
-                next = more;
-            }
-        }
-        self.waited = next;
-        self
     }
 }
 

@@ -1,6 +1,5 @@
 -- What the code makes of an event on a member is what the run makes of it.
 use mathlib.Core.Path.{◌≡◌, refl, sym, ap, ◌∙◌}
-use mathlib.Core.Logic.{◌⊎◌, inl, inr}
 use mathlib.Core.Bool.{Bool, true, false}
 use mathlib.Core.List.{List, [], ◌∷◌}
 use Prim.Native.Nat.{ℕ, zero, suc}
@@ -12,11 +11,10 @@ use Rattle.hermes_record.specs.declared.record.State.{State}
 use Rattle.hermes_record.specs.declared.record.State.TheVariants as state
 use Rattle.hermes.specs.declared.message.Message.{Message}
 use Rattle.hermes.specs.declared.message.Message.TheVariants.{Inv, Ack, Val}
-use Rattle.hermes.specs.declared.message.Outgoing.{Outgoing}
 use Rattle.hermes.specs.declared.message.Outgoing.TheVariants.{None}
 use Rattle.hermes.specs.declared.event.Replica.{Replica}
 use Rattle.hermes.specs.declared.event.Event.{Event}
-use Rattle.hermes.specs.declared.event.Event.TheVariants.{Read, Ask, Write, Commit, Replay, Deliver, Validate, Resend, Tick}
+use Rattle.hermes.specs.declared.event.Event.TheVariants.{Read, Ask, Write, Commit, Replay, Deliver, Validate, Resend}
 use Rattle.hermes.specs.declared.event.Moved.{Moved}
 use Rattle.hermes.specs.declared.event.Answer.{Answer}
 use Rattle.hermes.specs.declared.event.Answer.TheVariants as answer
@@ -26,8 +24,7 @@ use Rattle.hermes_record.specs.Order.{ties, later}
 use Rattle.hermes.specs.Settings.{under, old_settings}
 use Rattle.hermes_record.specs.Record.{fresh_record}
 use Rattle.hermes.specs.Guards.{first_no}
-use Rattle.hermes.proofs.Steps.{tick-does}
-use Rattle.hermes.specs.Event.{send, step, inv_step, ack_step, completes, resent, deliver_step, refusal, moved_by, effect, answer_of, sent_by}
+use Rattle.hermes.specs.Event.{step, inv_step, ack_step, completes, resent, deliver_step, refusal, moved_by, effect, answer_of, sent_by}
 use Rattle.hermes.specs.Node.{
   index_of,
   apply,
@@ -109,10 +106,6 @@ resent-index me state.InvalidWrite t = refl
 resent-index me state.Write t = refl
 resent-index me state.Replay t = refl
 
-tick-index : (me : Replica) (t : Timestamp) (o : Outgoing) → (o ≡ None) ⊎ (o ≡ send me 0 (Inv t)) → index_of o ≡ 0
-tick-index me t o (inl e) = rw e
-tick-index me t o (inr e) = rw e
-
 step-index : (me : Replica) (r : Record) (e : Event) (v : List ℕ) → index_of (step ties me 0 r e v).sent ≡ 0
 step-index me r Read v = refl
 step-index me r Ask v = refl
@@ -122,7 +115,6 @@ step-index me r Replay v = refl
 step-index me r (Deliver m) v = deliver-index me r m.sender m.message v
 step-index me r Validate v = refl
 step-index me r Resend v = resent-index me r.state r.timestamp
-step-index me r Tick v = tick-index me r.timestamp _ (tick-does ties me 0 r v).sends
 
 pub effect-index : (me : Replica) (r : Record) (store : List ℕ) (e : Event) (v : List ℕ) → index_of (sent_by (effect ties me 1 0 r store e v).moved.answer) ≡ 0
 unfolding effect

@@ -8,9 +8,6 @@ ghost use Rattle.play_member.specs.Member.{node_of, fresh_in, result_of};
 
 use hermes::{Admission, Answer, Event, Outgoing, Record, Replica, Rule, Settings};
 
-// No line of a script is a tick: any wait but 0 will do.
-const WAIT: u8 = 3;
-
 // A replica of one record, with its store.
 #[derive(Drop)]
 pub struct Member {
@@ -32,10 +29,7 @@ impl Member {
     pub fn fresh(k: u8, view: u16) -> Member
         ensures { result ≡ fresh_in view k }
     {
-        let settings = Settings {
-            rule: Rule::Higher,
-            wait: WAIT,
-        };
+        let settings = Settings { rule: Rule::Higher };
         let a = replica_membership::admit(k, view, settings, 1, Record::VALUE_MAX);
         match a {
             Admission::Admitted(me) => Member {

@@ -6,7 +6,7 @@ use Rattle.hermes.specs.declared.message.Outgoing.TheVariants.{None}
 use Rattle.hermes.specs.declared.event.Replica.{Replica}
 use Rattle.hermes.specs.declared.event.Moved.{Moved}
 use Rattle.hermes.specs.declared.event.Answer.TheVariants as answer
-use Rattle.hermes.specs.Guards.{Question, question1, question2, question3, question4, question28}
+use Rattle.hermes.specs.Guards.{Question, question1, question2, question3, question4}
 use Rattle.replica_asking.specs.declared.Asked.{Asked}
 use Rattle.replica_asking.specs.declared.Asked.TheVariants.{Passed, Refused}
 
@@ -20,9 +20,9 @@ abbrev pub asked : List Question → Record → Asked
 asked [] r = Passed r
 asked (q ∷ qs) r = next q.yes (asked qs r) q.number
 
--- questions 28 and 1 to 4, which look at no record
+-- questions 1 to 4, which look at no record
 abbrev pub beforehand : Replica → ℕ → ℕ → ℕ → List Question
-beforehand me count bytes i = question28 me ∷ question1 me ∷ question2 count bytes ∷ question3 me ∷ question4 i count ∷ []
+beforehand me count bytes i = question1 me ∷ question2 count bytes ∷ question3 me ∷ question4 i count ∷ []
 
 -- an event that a question refused: its number, and the record as it was; one that passed is not stopped
 abbrev pub stopped_by : Asked → Record → Moved

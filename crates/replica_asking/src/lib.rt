@@ -1,14 +1,12 @@
-// How a question answers: it passes its record on, or refuses with its number. Questions 28 and 1 to 5, which every event asks.
+// How a question answers: it passes its record on, or refuses with its number. Questions 1 to 5, which every event asks.
 
-ghost use Rattle.std.specs.Prelude.{◌≡◌, not, ◌||◌, [], ◌∷◌, eqb};
-ghost use Rattle.hermes_record.specs.declared.record.State.TheVariants.{Valid};
-ghost use Rattle.hermes_record.specs.Record.{one_of};
+ghost use Rattle.std.specs.Prelude.{◌≡◌, [], ◌∷◌};
 ghost use Rattle.hermes.specs.Event.{common};
-ghost use Rattle.hermes.specs.Guards.{ask, question1, question2, question3, question4, question5, question28};
+ghost use Rattle.hermes.specs.Guards.{ask, question1, question2, question3, question4, question5};
 ghost use Rattle.hermes.specs.Node.{start_questions};
 ghost use Rattle.replica_asking.specs.Cascade.{asked, beforehand, stopped_by};
 
-use hermes::{Answer, Moved, Outgoing, Record, Replica, State, Timestamp};
+use hermes::{Answer, Moved, Outgoing, Record, Replica, Timestamp};
 
 // What a question answers: the record, passed on, or its own number.
 #[derive(Drop)]
@@ -37,7 +35,6 @@ fn same(r: Record) -> Record
         written: own,
         acks: r.acks,
         len: r.len,
-        waited: r.waited,
     }
 }
 
@@ -66,12 +63,6 @@ pub fn stopped(a: Asked, r: Record) -> Moved
             after: r,
         },
     }
-}
-
-pub fn question28(me: Replica, r: Record) -> Asked
-    ensures { result ≡ asked (question28 me ∷ []) r }
-{
-    question(28, 0 < me.settings.wait, r)
 }
 
 pub fn question1(me: Replica, r: Record) -> Asked
@@ -103,19 +94,6 @@ pub fn question4(i: usize, count: usize, r: Record) -> Asked
     question(4, i < count, r)
 }
 
-// Of a valid record the count is 0.
-fn rests(state: State, waited: u8) -> bool
-    ensures { result ≡ (not (one_of state (Valid ∷ [])) || eqb waited 0) }
-{
-    match state {
-        State::Valid => waited == 0,
-        State::Invalid => true,
-        State::InvalidWrite => true,
-        State::Write => true,
-        State::Replay => true,
-    }
-}
-
 // The acknowledgements by themselves: the compiler then tests the one bit where it stands.
 pub fn question5(me: Replica, r: Record) -> Asked
     ensures { result ≡ asked (question5 me r ∷ []) r }
@@ -124,24 +102,20 @@ pub fn question5(me: Replica, r: Record) -> Asked
     if counted {
         return Asked::Refused(5);
     }
-    let state = r.state;
-    let resting = rests(state, r.waited);
     let short = r.len as usize <= Record::VALUE_MAX;
     question(
         5,
         short
             & (r.timestamp.tie <= Record::NUMBER_MAX)
             & (r.written.tie <= Record::NUMBER_MAX)
-            & (r.writer <= Record::NUMBER_MAX)
-            & (r.waited < me.settings.wait)
-            & resting,
+            & (r.writer <= Record::NUMBER_MAX),
         r,
     )
 }
 
-// Questions 1 to 3.
-fn first_three(me: Replica, count: usize, bytes: usize, r: Record) -> Asked
-    ensures { result ≡ asked (question1 me ∷ question2 count bytes ∷ question3 me ∷ []) r }
+// Questions 1 to 3, of a fresh start.
+pub fn at_start(me: Replica, count: usize, bytes: usize, r: Record) -> Asked
+    ensures { result ≡ asked (start_questions me count bytes) r }
 {
     let a = question1(me, r);
     let Asked::Passed(r1) = a else {
@@ -154,18 +128,7 @@ fn first_three(me: Replica, count: usize, bytes: usize, r: Record) -> Asked
     question3(me, r2)
 }
 
-// Questions 28 and 1 to 3, of a fresh start.
-pub fn at_start(me: Replica, count: usize, bytes: usize, r: Record) -> Asked
-    ensures { result ≡ asked (start_questions me count bytes) r }
-{
-    let a = question28(me, r);
-    let Asked::Passed(r1) = a else {
-        return a;
-    };
-    first_three(me, count, bytes, r1)
-}
-
-// Questions 28 and 1 to 4, of every event on a record: they look at none.
+// Questions 1 to 4, of every event on a record: they look at none.
 pub fn beforehand(me: Replica, count: usize, bytes: usize, i: usize, r: Record) -> Asked
     ensures { result ≡ asked (beforehand me count bytes i) r }
 {
@@ -176,7 +139,7 @@ pub fn beforehand(me: Replica, count: usize, bytes: usize, i: usize, r: Record) 
     question4(i, count, r1)
 }
 
-// Questions 28 and 1 to 5, of every event.
+// Questions 1 to 5, of every event.
 pub fn every(me: Replica, count: usize, bytes: usize, i: usize, r: Record) -> Asked
     ensures { result ≡ asked (common me count bytes i r []) r }
 {

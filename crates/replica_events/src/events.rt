@@ -8,7 +8,6 @@ use replica_delivery::deliver;
 use replica_reading::read_event;
 use replica_saving::{commit, write};
 use replica_settling::{replay, resend, validate};
-use replica_ticking::tick;
 
 // An event on record i, r, of replica me with count records and this store. A write, a commit and a delivery bring the value's bytes; the other events pass over them.
 pub fn step(
@@ -32,6 +31,5 @@ pub fn step(
         Event::Deliver(m) => deliver(me, count, i, r, store, m, value),
         Event::Validate => validate(me, count, store.len(), i, r),
         Event::Resend => resend(me, count, store.len(), i, r),
-        Event::Tick => tick(me, count, store.len(), i, r),
     }
 }

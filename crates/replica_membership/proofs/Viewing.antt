@@ -30,11 +30,11 @@ unfolding size within
 size-within a b h = count-within 16 (has a) (has b) h
 
 -- a number that is in the view is at most 15, and a view that a plural set lies within is plural
-pub first-no : (me : Replica) (epoch set : ℕ) → ltb 0 me.settings.wait ≡ true → first_no (view_questions me epoch set) ≡ cond (has me.view me.number) (cond (ltb me.epoch epoch) (cond (within set me.view && leb 2 (size set)) 0 (cond (leb 2 (size me.view)) 19 1)) (cond (leb 2 (size me.view)) 18 1)) (cond (leb me.number 15) (cond (leb 2 (size me.view)) 3 1) 1)
-first-no me epoch set w = rw w
-    (go (has me.view me.number) (ltb me.epoch epoch) (within set me.view) (leb 2 (size set)) (leb me.number 15) (leb 2 (size me.view))
+pub first-no : (me : Replica) (epoch set : ℕ) → first_no (view_questions me epoch set) ≡ cond (has me.view me.number) (cond (ltb me.epoch epoch) (cond (within set me.view && leb 2 (size set)) 0 (cond (leb 2 (size me.view)) 19 1)) (cond (leb 2 (size me.view)) 18 1)) (cond (leb me.number 15) (cond (leb 2 (size me.view)) 3 1) 1)
+first-no me epoch set =
+    go (has me.view me.number) (ltb me.epoch epoch) (within set me.view) (leb 2 (size set)) (leb me.number 15) (leb 2 (size me.view))
     (λ h. le-leb me.number 15 (omega (arith, has-small me.view me.number h)))
-    (λ h k. le-leb 2 (size me.view) (omega (arith, size-within set me.view h, leb-true 2 (size set) k))))
+    (λ h k. le-leb 2 (size me.view) (omega (arith, size-within set me.view h, leb-true 2 (size set) k)))
   where
     go : (own later inside two small many : Bool) → (own ≡ true → small ≡ true) → (inside ≡ true → two ≡ true → many ≡ true)
         → ◌≡◌ {A = ℕ} (cond (small && many) (cond own (cond later (cond (inside && two) 0 19) 18) 3) 1) (cond own (cond later (cond (inside && two) 0 (cond many 19 1)) (cond many 18 1)) (cond small (cond many 3 1) 1))

@@ -53,16 +53,12 @@ fn refused(me: Replica, number: u8) -> Admission
     }
 }
 
-// A change to this epoch and view; number and settings stay: questions 28, 1, 3, 18 and 19. After 28 the tests stand in another order. Who is in the view has a number below 16, and
+// A change to this epoch and view; number and settings stay: questions 1, 3, 18 and 19. The tests stand in another order. Who is in the view has a number below 16, and
 // what a set of two lies within is of two itself: so nothing is left to ask of question 1 once the others say yes, and only after a no is its
 // number looked for.
 pub fn view(me: Replica, epoch: u32, set: u16) -> Admission
     ensures { result ≡ view me epoch set }
 {
-    let wait = me.settings.wait;
-    if wait == 0 {
-        return Admission::Refused(28);
-    }
     let own = replica_members::has(me.view, me.number);
     if own {
         if me.epoch < epoch {

@@ -14,7 +14,7 @@ use Rattle.replica_asking.proofs.Cascade.{then, stop}
 use Rattle.replica_message.specs.Message.{of_message}
 
 module _ (me : Replica) (count bytes i : ℕ) (r : Record) (a : Asked) (every : a ≡ asked (common me count bytes i r []) r) where
-  -- one of every event's says no
+  -- one of the first five says no
   pub at_every : (more : List Question) (k : ℕ) → a ≡ Refused k → a ≡ asked (common me count bytes i r more) r
   at_every more k ends = ends ∙ sym (stop (common me count bytes i r []) more r k (sym every ∙ ends))
 

@@ -71,7 +71,7 @@ roomy count bytes i n e =
     let l = ltb-true i count q.1 in
     (omega arith, leb-true n 192 p.1)
 
--- an event that questions 28 and 1 to 5 let pass has room for its value
+-- an event that questions 1 to 5 let pass has room for its value
 pub room-passed : {me : Replica} {count bytes i : ℕ} {r : Record} → Common me count bytes i r → (n : ℕ) → n ≤ 192 → room count bytes i n ≡ true
 room-passed {count = count} {bytes = bytes} {i = i} c n short =
     rw (le-leb count 4096 c.few, eq-eqb bytes (192 * count) c.whole, lt-ltb i count c.inside, le-leb n 192 short)

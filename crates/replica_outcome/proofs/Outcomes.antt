@@ -10,11 +10,10 @@ use Rattle.hermes_record.specs.declared.record.Record.{Record}
 use Rattle.hermes_record.specs.Order.{Orders}
 use Rattle.hermes.specs.declared.event.Replica.{Replica}
 use Rattle.hermes.specs.declared.event.Event.{Event}
-use Rattle.hermes.specs.declared.event.Event.TheVariants.{Read, Ask, Write, Commit, Replay, Deliver, Validate, Resend, Tick}
+use Rattle.hermes.specs.declared.event.Event.TheVariants.{Read, Ask, Write, Commit, Replay, Deliver, Validate, Resend}
 use Rattle.hermes.specs.Guards.{Question}
-use Rattle.hermes.specs.Event.{Step, kept, part_of, stamp_handed, common, own, refusal, moved_by, stored_by, storing, decide, moved, effect, read_step, replay_step, validate_step, resend_step, step}
+use Rattle.hermes.specs.Event.{Step, kept, part_of, stamp_handed, common, own, refusal, moved_by, stored_by, storing, decide, moved, effect, read_step, replay_step, validate_step, resend_step}
 use Rattle.hermes.proofs.Guards.{positive-own}
-use Rattle.hermes.proofs.Steps.{tick-does}
 use Rattle.replica_asking.specs.declared.Asked.{Asked}
 use Rattle.replica_asking.specs.declared.Asked.TheVariants.{Passed, Refused}
 use Rattle.replica_asking.specs.Cascade.{asked, stopped_by}
@@ -77,7 +76,6 @@ Quiet Replay = Unit
 Quiet (Deliver m) = ⊥
 Quiet Validate = Unit
 Quiet Resend = Unit
-Quiet Tick = Unit
 
 still : (k i : ℕ) (r : Record) (store : List ℕ) (s : Step) → s.stored ≡ kept → decide k i r store s ≡ record { moved = moved_by k r s; store = store }
 still zero i r store s e = rw e
@@ -95,7 +93,6 @@ quiet wins me count i r store Replay v q = still (refusal me count (length store
 quiet wins me count i r store (Deliver m) v q = absurd q
 quiet wins me count i r store Validate v q = still (refusal me count (length store) i r Validate 0) i r store (validate_step me i r) refl
 quiet wins me count i r store Resend v q = still (refusal me count (length store) i r Resend 0) i r store (resend_step me i r) refl
-quiet wins me count i r store Tick v q = still (refusal me count (length store) i r Tick 0) i r store (step wins me i r Tick []) (tick-does wins me i r []).stays
 
 -- a refused read has the empty part
 pub no_part : (k : ℕ) (v : List ℕ) → 0 < k → [] ≡ part_of k v

@@ -61,7 +61,6 @@ fn sender_of(e: Event) -> u16
         Event::Deliver(m) => replica_members::with(0, m.sender),
         Event::Validate => 0,
         Event::Resend => 0,
-        Event::Tick => 0,
     }
 }
 

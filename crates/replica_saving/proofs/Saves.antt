@@ -7,7 +7,7 @@ use lib.ListN.{length}
 use Rattle.hermes_record.specs.declared.record.Record.{Record}
 use Rattle.hermes.specs.declared.event.Replica.{Replica}
 use Rattle.hermes.specs.declared.event.Event.{Event}
-use Rattle.hermes.specs.declared.event.Event.TheVariants.{Read, Ask, Write, Commit, Replay, Deliver, Validate, Resend, Tick}
+use Rattle.hermes.specs.declared.event.Event.TheVariants.{Read, Ask, Write, Commit, Replay, Deliver, Validate, Resend}
 use Rattle.hermes.specs.declared.event.Moved.{Moved}
 use Rattle.hermes_record.specs.Order.{ties}
 use Rattle.hermes.specs.Guards.{AllYes}
@@ -26,7 +26,6 @@ Saves Replay = ⊥
 Saves (Deliver m) = ⊥
 Saves Validate = ⊥
 Saves Resend = ⊥
-Saves Tick = ⊥
 
 module _ (me : Replica) (i : ℕ) (r : Record) where
   fits-own : (e : Event) → Saves e → (n : ℕ) → AllYes (own me r e n) → n ≤ 192

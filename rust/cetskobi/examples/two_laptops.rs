@@ -1,11 +1,11 @@
-//! Two laptops keep one ring record in step by packets, although two packets are lost and one comes twice: the laptop that waits helps
-//! itself, by ticks. Both open the record before either saves: the second save is refused, and made again over the text that stands there
-//! by then. Then the other saves too before it has heard of that: a tie, which goes to the lower number.
+//! Two laptops keep one ring record in step by packets, although one packet is lost and one comes twice. Both open it before either
+//! saves: the second save is refused, and made again over the text that stands there by then. Then the other saves too before it has
+//! heard of that: a tie, which goes to the lower number.
 //! From the repository's root (examples/c/two_laptops.c tells the same in C):
 //!   sh tools/archive
 //!   CARGO_TARGET_DIR=target/rust cargo run --offline --release --quiet --manifest-path rust/Cargo.toml -p cetskobi --example two_laptops
 
-use cetskobi::{packet, Laptop, Leaving, NotCommitted, Opened, Refusal, Rule, Settings};
+use cetskobi::{packet, Laptop, Leaving, NotCommitted, Opened, Refusal, Rule};
 
 /// The record's number, and what is saved there.
 const RING: usize = 7;
@@ -14,17 +14,16 @@ const REMARK: &[u8] = b"Blue tit, female";
 const BOTH: &[u8] = b"Blue tit, female, wing 62";
 const AGAIN: &[u8] = b"Blue tit, wing 63";
 
-/// The rule of ties and the wait: the same at all laptops of a group, and fixed at its start.
-const SETTINGS: Settings = Settings::new(Rule::Lower, 20);
+/// The rule of ties: the same at all laptops of a group, and fixed at its start.
+const RULE: Rule = Rule::Lower;
 
 fn main() -> Result<(), Refusal> {
     // Two laptops, both in the view, eight records each.
-    let mut net = Laptop::start(0, 0b11, SETTINGS, 8)?;
-    let mut hut = Laptop::start(1, 0b11, SETTINGS, 8)?;
+    let mut net = Laptop::start(0, 0b11, RULE, 8)?;
+    let mut hut = Laptop::start(1, 0b11, RULE, 8)?;
     println!(
-        "laptops 0 and 1 start with {} records; a tie goes to the {} number",
-        net.count(),
-        SETTINGS.rule
+        "laptops 0 and 1 start with {} records; a tie goes to the {RULE} number",
+        net.count()
     );
 
     println!("a ringer at each opens record {RING}");
@@ -36,7 +35,8 @@ fn main() -> Result<(), Refusal> {
     println!("the packet is lost");
     show(&net);
 
-    let inv = tick(&mut net)?;
+    println!("laptop 0 sends again");
+    let inv = send(net.resend(RING)?)?;
     println!("laptop 1 takes the packet");
     let ack = take(&mut hut, &inv)?.expect("an INV is acknowledged");
     show(&hut);
@@ -70,17 +70,9 @@ fn main() -> Result<(), Refusal> {
     // Laptop 1 was overtaken: its last ACK is counted, and nothing leaves.
     println!("each takes the other's acknowledgement");
     take(&mut hut, &ack_of_net)?;
-    take(&mut net, &ack_of_hut)?.expect("the last ACK is answered by a VAL");
-    println!("the packet is lost");
-    show(&net);
-    show(&hut);
-
-    // So it takes the other's save over, with its timestamp and text.
-    let inv = tick(&mut hut)?;
-    println!("laptop 0 takes the packet");
-    let ack = take(&mut net, &inv)?.expect("an INV is acknowledged");
+    let val = take(&mut net, &ack_of_hut)?.expect("the last ACK is answered by a VAL");
     println!("laptop 1 takes the packet");
-    take(&mut hut, &ack)?.expect("the last ACK is answered by a VAL");
+    take(&mut hut, &val)?;
     show(&net);
     show(&hut);
     Ok(())
@@ -98,23 +90,10 @@ fn open(laptop: &Laptop) -> Result<Opened, Refusal> {
     Ok(opened)
 }
 
-/// The clock: the record's ticks until an INV leaves, as it has waited as long as the
-/// group's wait.
-fn tick(laptop: &mut Laptop) -> Result<Vec<u8>, Refusal> {
-    let (number, mut ticks) = (laptop.number(), 0);
-    loop {
-        ticks += 1;
-        if let Some(inv) = laptop.tick(RING)?.leaving().map(Leaving::into_owned) {
-            println!("laptop {number} ticks {ticks} times");
-            return send(inv);
-        }
-    }
-}
-
 /// The packet of what left an event.
 fn send(left: Leaving) -> Result<Vec<u8>, Refusal> {
     let mut bytes = vec![0; packet::PACKET_MAX];
-    let len = packet::pack(SETTINGS, [&left], &mut bytes)?;
+    let len = packet::pack(RULE, [&left], &mut bytes)?;
     bytes.truncate(len);
     for to in left.recipients() {
         println!("  {} to laptop {to}, {len} bytes", left.envelope().message);

@@ -11,11 +11,11 @@ use crate::{Refusal, Reply};
 ///
 /// ```
 /// #![deny(unused_must_use)]
-/// use cetskobi::{packet, Laptop, Refusal, Rule, Settings};
+/// use cetskobi::{packet, Laptop, Refusal, Rule};
 ///
 /// # fn main() -> Result<(), Refusal> {
-/// # let mut net = Laptop::start(0, 0b111, Settings::new(Rule::Lower, 20), 1)?;
-/// # let mut hut = Laptop::start(1, 0b111, Settings::new(Rule::Lower, 20), 1)?;
+/// # let mut net = Laptop::start(0, 0b111, Rule::Lower, 1)?;
+/// # let mut hut = Laptop::start(1, 0b111, Rule::Lower, 1)?;
 /// # let mut bytes = [0; packet::PACKET_MAX];
 /// // Of {0,1,2} laptop 2 was struck off. 0 has been told so, 1 has not.
 /// net.change_view(1, 0b011)?;

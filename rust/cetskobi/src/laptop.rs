@@ -20,8 +20,7 @@ pub type Lent<'a> = Laptop<&'a mut [u8], &'a mut [u8]>;
 ///
 /// An event on record `i` gives `Ok` with what [leaves](Leaving), or `Err` with
 /// the question that said no; then nothing has changed. Every number and every
-/// slice may be passed. Each event asks questions 1 to 5 first and, before them,
-/// 28 ([`NoWait`](Refusal::NoWait)), which no laptop meets that [`Laptop::start`] made.
+/// slice may be passed.
 ///
 /// A clone is a copy to look at. One that is used later in the laptop's place
 /// sets the laptop back, and one that is used beside it is a second laptop of
@@ -36,13 +35,13 @@ pub struct Laptop<T = Vec<u8>, S = Vec<u8>> {
 impl Laptop {
     /// A fresh start of laptop `number` with `count` records: epoch 0, every
     /// record valid and empty. All laptops of a group start with the same view,
-    /// [`Members`] or 16 bits with bit n for laptop n, the same [`Settings`] and the same
-    /// count.
+    /// [`Members`] or 16 bits with bit n for laptop n, the same [`Settings`], or the
+    /// [`Rule`](crate::Rule) that stands for them, and the same count.
     ///
     /// # Errors
     ///
-    /// [`Refusal::NoWait`], [`Refusal::NoGroup`], [`Refusal::LentMemory`] (for the count)
-    /// and [`Refusal::StruckOff`].
+    /// [`Refusal::NoGroup`], [`Refusal::LentMemory`] (for the count) and
+    /// [`Refusal::StruckOff`].
     pub fn start(
         number: u8,
         view: impl Into<Members>,
@@ -85,11 +84,11 @@ impl<T: AsMut<[u8]>, S: AsMut<[u8]>> Laptop<T, S> {
     /// text.
     ///
     /// ```
-    /// use cetskobi::{Laptop, Refusal, Rule, Settings};
+    /// use cetskobi::{Laptop, Refusal, Rule};
     ///
     /// # fn main() -> Result<(), Refusal> {
-    /// # let mut net = Laptop::start(0, 0b11, Settings::new(Rule::Lower, 20), 1)?;
-    /// # let mut hut = Laptop::start(1, 0b11, Settings::new(Rule::Lower, 20), 1)?;
+    /// # let mut net = Laptop::start(0, 0b11, Rule::Lower, 1)?;
+    /// # let mut hut = Laptop::start(1, 0b11, Rule::Lower, 1)?;
     /// // Two ringers open the ring; the first saves over what she saw.
     /// let hers = net.ask(0)?;
     /// let his = hut.ask(0)?;
@@ -118,7 +117,7 @@ impl<T: AsMut<[u8]>, S: AsMut<[u8]>> Laptop<T, S> {
     ///
     /// # Errors
     ///
-    /// Questions 28 and 1 to 5, then [`NotAsOpened`](Refusal::NotAsOpened),
+    /// Questions 1 to 5, then [`NotAsOpened`](Refusal::NotAsOpened),
     /// [`ValueTooLong`](Refusal::ValueTooLong), [`LastVersion`](Refusal::LastVersion).
     /// The error has what was opened, for another try.
     pub fn commit(&mut self, opened: Opened, value: &[u8]) -> Result<Leaving<'_>, NotCommitted> {
@@ -136,7 +135,7 @@ impl<T: AsMut<[u8]>, S: AsMut<[u8]>> Laptop<T, S> {
     ///
     /// # Errors
     ///
-    /// Questions 28 and 1 to 5, then [`NotWritable`](Refusal::NotWritable),
+    /// Questions 1 to 5, then [`NotWritable`](Refusal::NotWritable),
     /// [`ValueTooLong`](Refusal::ValueTooLong), [`LastVersion`](Refusal::LastVersion).
     pub fn write(&mut self, i: usize, value: &[u8]) -> Result<Leaving<'_>, Refusal> {
         let lent = self.lent();
@@ -145,21 +144,20 @@ impl<T: AsMut<[u8]>, S: AsMut<[u8]>> Laptop<T, S> {
     }
 
     /// Takes over record `i`, invalid or invalid-write, from a last writer that was
-    /// struck off, at once: [`tick`](Laptop::tick) does so after the wait. Timestamp
-    /// and value stay, and an INV leaves with them, to all others in the view; the
-    /// last acknowledgement ends it, as it ends a write.
+    /// struck off. Timestamp and value stay, and an INV leaves with them, to all
+    /// others in the view; the last acknowledgement ends it, as it ends a write.
     ///
     /// In invalid-write that writer had overtaken a write of this laptop's own.
     /// That one is given up: its value was overwritten when the other's INV came,
     /// and its acknowledgements no longer count.
     ///
     /// ```
-    /// use cetskobi::{Laptop, Refusal, Rule, Settings};
+    /// use cetskobi::{Laptop, Refusal, Rule};
     ///
     /// # fn main() -> Result<(), Refusal> {
-    /// # let mut net = Laptop::start(0, 0b111, Settings::new(Rule::Lower, 20), 1)?;
-    /// # let mut hut = Laptop::start(1, 0b111, Settings::new(Rule::Lower, 20), 1)?;
-    /// # let mut tent = Laptop::start(2, 0b111, Settings::new(Rule::Lower, 20), 1)?;
+    /// # let mut net = Laptop::start(0, 0b111, Rule::Lower, 1)?;
+    /// # let mut hut = Laptop::start(1, 0b111, Rule::Lower, 1)?;
+    /// # let mut tent = Laptop::start(2, 0b111, Rule::Lower, 1)?;
     /// // 0 and 2 of {0,1,2} save together. 0 has the later timestamp, and dies.
     /// let _earlier = tent.write(0, b"Wren")?;
     /// let later = net.write(0, b"Robin")?;
@@ -184,7 +182,7 @@ impl<T: AsMut<[u8]>, S: AsMut<[u8]>> Laptop<T, S> {
     ///
     /// # Errors
     ///
-    /// Questions 28 and 1 to 5, then [`NotReplayable`](Refusal::NotReplayable).
+    /// Questions 1 to 5, then [`NotReplayable`](Refusal::NotReplayable).
     pub fn replay(&mut self, i: usize) -> Result<Leaving<'_>, Refusal> {
         let lent = self.lent();
         let answer = raw::replay(lent.me, lent.table, lent.store, i);
@@ -199,11 +197,11 @@ impl<T: AsMut<[u8]>, S: AsMut<[u8]>> Laptop<T, S> {
     /// itself ([`deliver`](Laptop::deliver)), and then there is nothing to validate.
     ///
     /// ```
-    /// use cetskobi::{Laptop, Refusal, Rule, Settings};
+    /// use cetskobi::{Laptop, Refusal, Rule};
     ///
     /// # fn main() -> Result<(), Refusal> {
-    /// # let mut net = Laptop::start(0, 0b111, Settings::new(Rule::Lower, 20), 1)?;
-    /// # let mut hut = Laptop::start(1, 0b111, Settings::new(Rule::Lower, 20), 1)?;
+    /// # let mut net = Laptop::start(0, 0b111, Rule::Lower, 1)?;
+    /// # let mut hut = Laptop::start(1, 0b111, Rule::Lower, 1)?;
     /// // Of {0,1,2} only 2, which is dead, has not acknowledged.
     /// let inv = net.write(0, b"Wren")?;
     /// let ack = hut.deliver(inv.arriving())?.leaving();
@@ -220,77 +218,22 @@ impl<T: AsMut<[u8]>, S: AsMut<[u8]>> Laptop<T, S> {
     ///
     /// # Errors
     ///
-    /// Questions 28 and 1 to 5, then [`NotFinished`](Refusal::NotFinished).
+    /// Questions 1 to 5, then [`NotFinished`](Refusal::NotFinished).
     pub fn validate(&mut self, i: usize) -> Result<Leaving<'_>, Refusal> {
         let lent = self.lent();
         let answer = raw::validate(lent.me, lent.table, lent.store, i);
         lent.left(i, answer)
     }
 
-    /// Sends the INV or VAL of record `i` again, in case it was lost, at once. A clock
-    /// calls [`tick`](Laptop::tick).
+    /// Sends the INV or VAL of record `i` again, in case it was lost.
     ///
     /// # Errors
     ///
-    /// Questions 28 and 1 to 5, then [`NotResendable`](Refusal::NotResendable).
+    /// Questions 1 to 5, then [`NotResendable`](Refusal::NotResendable).
     pub fn resend(&mut self, i: usize) -> Result<Leaving<'_>, Refusal> {
         let lent = self.lent();
         let answer = raw::resend(lent.me, lent.table, lent.store, i);
         lent.left(i, answer)
-    }
-
-    /// One tick of record `i`. A clock calls it once a second, say, for every record:
-    ///
-    /// ```
-    /// # use cetskobi::{Laptop, Leaving, Refusal};
-    /// # fn clock(hut: &mut Laptop, outbox: &mut Vec<Leaving>) -> Result<(), Refusal> {
-    /// for i in 0..hut.count() {
-    ///     outbox.extend(hut.tick(i)?.leaving().map(Leaving::into_owned));
-    /// }
-    /// # Ok(())
-    /// # }
-    /// ```
-    ///
-    /// A valid record stays as it is, and nothing leaves. Any other counts the ticks
-    /// that it has [waited](Record::waited). On reaching the group's
-    /// [wait](Settings::wait) the count returns to 0, and the laptop helps itself: in
-    /// write and replay its INV leaves again; in invalid and invalid-write it takes the
-    /// record over as by [`replay`](Laptop::replay), even if the last writer is still in
-    /// the view. A new timestamp sets the count to 0, and so does becoming valid.
-    ///
-    /// ```
-    /// use cetskobi::{Laptop, Refusal, Rule, Settings};
-    ///
-    /// # fn main() -> Result<(), Refusal> {
-    /// # let settings = Settings::new(Rule::Lower, 3);
-    /// # let mut net = Laptop::start(0, 0b11, settings, 1)?;
-    /// # let mut hut = Laptop::start(1, 0b11, settings, 1)?;
-    /// // The save is finished at the net, and its VAL is lost. The wait is 3.
-    /// let inv = net.write(0, b"Wren")?;
-    /// let ack = hut.deliver(inv.arriving())?.leaving();
-    /// # let ack = ack.expect("an INV is acknowledged").into_owned();
-    /// let _lost = net.deliver(ack.arriving())?;
-    /// assert_eq!(hut.tick(0)?.leaving(), None);
-    /// assert_eq!(hut.tick(0)?.leaving(), None);
-    ///
-    /// // The hut takes the save over, although the net is still there.
-    /// let inv = hut.tick(0)?.leaving().expect("the third tick").into_owned();
-    /// assert_eq!(inv.body(), b"Wren");
-    /// let ack = net.deliver(inv.arriving())?.leaving();
-    /// # let ack = ack.expect("an INV is acknowledged").into_owned();
-    /// let _val = hut.deliver(ack.arriving())?;
-    /// assert_eq!(hut.read(0)?, b"Wren");
-    /// # Ok(())
-    /// # }
-    /// ```
-    ///
-    /// # Errors
-    ///
-    /// Questions 28 and 1 to 5.
-    pub fn tick(&mut self, i: usize) -> Result<Reply<'_>, Refusal> {
-        let lent = self.lent();
-        let answer = raw::tick(lent.me, lent.table, lent.store, i);
-        lent.replied(i, answer, 0)
     }
 
     /// Takes a message in. An INV is answered by an ACK, which goes to its sender.
@@ -302,7 +245,7 @@ impl<T: AsMut<[u8]>, S: AsMut<[u8]>> Laptop<T, S> {
     ///
     /// # Errors
     ///
-    /// Questions 28 and 1 to 5, then [`OtherEpoch`](Refusal::OtherEpoch),
+    /// Questions 1 to 5, then [`OtherEpoch`](Refusal::OtherEpoch),
     /// [`OtherSender`](Refusal::OtherSender), [`IllFormed`](Refusal::IllFormed),
     /// and [`StrayAck`](Refusal::StrayAck) or [`StrayVal`](Refusal::StrayVal).
     pub fn deliver(&mut self, came: Arriving<'_>) -> Result<Reply<'_>, Refusal> {
@@ -394,9 +337,8 @@ impl<T, S> Laptop<T, S> {
     ///
     /// # Errors
     ///
-    /// [`NoWait`](Refusal::NoWait), [`NoGroup`](Refusal::NoGroup),
-    /// [`StruckOff`](Refusal::StruckOff), [`OldEpoch`](Refusal::OldEpoch),
-    /// [`ViewNotWithin`](Refusal::ViewNotWithin).
+    /// [`NoGroup`](Refusal::NoGroup), [`StruckOff`](Refusal::StruckOff),
+    /// [`OldEpoch`](Refusal::OldEpoch), [`ViewNotWithin`](Refusal::ViewNotWithin).
     /// A view without this laptop is accepted, and every later event refused
     /// as struck off.
     pub fn change_view(&mut self, epoch: u32, view: impl Into<Members>) -> Result<(), Refusal> {
@@ -409,26 +351,24 @@ impl<T, S> Laptop<T, S> {
     /// The laptop `me` on its table and store, as its last event left the three.
     ///
     /// ```
-    /// use cetskobi::{Laptop, Refusal, Rule, Settings, State};
+    /// use cetskobi::{Laptop, Refusal, Rule, State};
     ///
     /// # fn main() -> Result<(), Refusal> {
     /// let mut table = [0; 16];
     /// let mut store = [0; 192];
-    /// let settings = Settings::new(Rule::Lower, 20);
-    /// let mut laptop = Laptop::start_in(0, 0b11, settings, &mut table, &mut store)?;
+    /// let mut laptop = Laptop::start_in(0, 0b11, Rule::Lower, &mut table, &mut store)?;
     /// let inv = laptop.write(0, b"Wren")?.into_owned();
     /// let (me, _, _) = laptop.into_parts();
     ///
     /// // Between the events the memory is the caller's to keep, not to change.
     /// let laptop = Laptop::from_parts(me, &mut table, &mut store);
     /// assert_eq!(laptop.record(0).map(|r| r.state), Some(State::Write));
-    /// assert_eq!(laptop.settings(), settings);
+    /// assert_eq!(laptop.settings().rule, Rule::Lower);
     /// # Ok(())
     /// # }
     /// ```
     ///
-    /// The identity's rule may be any byte, as in C; it is kept as 1 or 2. Without a wait
-    /// every event is refused ([`NoWait`](Refusal::NoWait)).
+    /// The identity's rule may be any byte, as in C; it is kept as 1 or 2.
     pub fn from_parts(mut me: Replica, table: T, store: S) -> Self {
         me.settings = Settings::from(me.settings).into();
         Laptop { me, table, store }
@@ -471,7 +411,7 @@ impl<T: AsRef<[u8]>, S: AsRef<[u8]>> Laptop<T, S> {
     ///
     /// # Errors
     ///
-    /// Questions 28 and 1 to 5, then [`NotReadable`](Refusal::NotReadable).
+    /// Questions 1 to 5, then [`NotReadable`](Refusal::NotReadable).
     pub fn read(&self, i: usize) -> Result<&[u8], Refusal> {
         let read = raw::read(self.me, self.table(), self.store(), i);
         Refusal::check(read.number)?;
@@ -511,7 +451,6 @@ impl<T: AsRef<[u8]>, S: AsRef<[u8]>> fmt::Debug for Laptop<T, S> {
         f.debug_struct("Laptop")
             .field("number", &self.number())
             .field("rule", &self.settings().rule)
-            .field("wait", &self.settings().wait)
             .field("epoch", &self.epoch())
             .field("view", &format_args!("{}", self.view()))
             .field("count", &self.count())
@@ -533,8 +472,7 @@ impl<'a> Memory<'a> {
         Ok(left.expect("a message leaves each of these events"))
     }
 
-    /// What leaves a tick of record `i`, or the delivery of a message of this sender
-    /// about it.
+    /// What leaves the delivery of a message of this sender about record `i`.
     fn replied(self, i: usize, answer: Answer, sender: u8) -> Result<Reply<'a>, Refusal> {
         let leaving = self.leaving(i, answer, sender)?;
         Ok(Reply { leaving })

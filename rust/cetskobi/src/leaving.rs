@@ -12,10 +12,10 @@ use crate::{Arriving, Envelope, Members};
 ///
 /// ```
 /// #![deny(unused_must_use)]
-/// use cetskobi::{packet, Laptop, Leaving, Refusal, Rule, Settings};
+/// use cetskobi::{packet, Laptop, Leaving, Refusal, Rule};
 ///
 /// # fn main() -> Result<(), Refusal> {
-/// let mut net = Laptop::start(0, 0b11, Settings::new(Rule::Lower, 20), 2)?;
+/// let mut net = Laptop::start(0, 0b11, Rule::Lower, 2)?;
 /// let mut outbox: Vec<Leaving<'static>> = Vec::new();
 /// outbox.push(net.write(0, b"Wren")?.into_owned());
 /// outbox.push(net.write(1, b"Robin")?.into_owned());
@@ -32,28 +32,28 @@ use crate::{Arriving, Envelope, Members};
 ///
 /// ```compile_fail
 /// #![deny(unused_must_use)]
-/// # use cetskobi::{Laptop, Refusal, Rule, Settings};
+/// # use cetskobi::{Laptop, Refusal, Rule};
 /// # fn main() -> Result<(), Refusal> {
-/// # let mut net = Laptop::start(0, 0b11, Settings::new(Rule::Lower, 20), 2)?;
+/// # let mut net = Laptop::start(0, 0b11, Rule::Lower, 2)?;
 /// net.write(0, b"Wren")?;
 /// # Ok(())
 /// # }
 /// ```
 ///
 /// Thrown away by name, as by `.ok()`, `.is_ok()` or `Ok(_)`, it goes without a
-/// warning, and counts as lost on air: ticks mend that.
+/// warning, and counts as lost on air: a resend mends that.
 ///
 /// A further event, which may bring the record a newer text, does not compile
 /// while an earlier message still wants its bytes:
 ///
 /// ```compile_fail,E0499
-/// # use cetskobi::{packet, Laptop, Refusal, Rule, Settings};
+/// # use cetskobi::{packet, Laptop, Refusal, Rule};
 /// # fn main() -> Result<(), Refusal> {
-/// # let mut net = Laptop::start(0, 0b11, Settings::new(Rule::Lower, 20), 2)?;
+/// # let mut net = Laptop::start(0, 0b11, Rule::Lower, 2)?;
 /// # let mut bytes = [0; packet::PACKET_MAX];
 /// let wren = net.write(0, b"Wren")?;
 /// let robin = net.write(1, b"Robin")?;
-/// let len = packet::pack(Settings::new(Rule::Lower, 20), [wren, robin], &mut bytes)?;
+/// let len = packet::pack(Rule::Lower, [wren, robin], &mut bytes)?;
 /// # Ok(())
 /// # }
 /// ```
@@ -95,9 +95,8 @@ impl<'a> Leaving<'a> {
     }
 }
 
-/// What a delivery or a tick answers: for an INV an ACK leaves, for the last ACK of
-/// a write or replay a VAL, for a tick on reaching the wait an INV, and otherwise
-/// nothing.
+/// What a delivery answers: for an INV an ACK leaves, for the last ACK of a
+/// write or replay a VAL, and otherwise nothing.
 ///
 /// It borrows the laptop as [`Leaving`] does, and dropped unseen it does not
 /// compile either:

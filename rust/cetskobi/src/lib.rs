@@ -4,18 +4,15 @@
 //! protocol with membership epochs, over a radio link that loses, repeats and
 //! holds back messages. The engine behind this crate is written in Rattle and
 //! proved: for every input the answer, the records and the store are what
-//! document 01 says, with Wishes 1, 2 and 4 to 7 of document 02. This crate calls
+//! document 01 says, with Wishes 1, 2, 4, 5 and 6 of document 02. This crate calls
 //! it with Rust's types and adds no rule.
 //!
-//! * [`Settings`] are what is fixed at a group's start: by which [`Rule`] a tie goes,
-//!   and how many ticks a record waits until its laptop helps itself.
+//! * [`Settings`] are what is fixed at a group's start: by which [`Rule`] a tie goes.
 //! * [`Laptop`] is one laptop with its records. Each event on it is accepted,
 //!   with what leaves, or refused with its [`Refusal`]; a refused event has
 //!   changed nothing.
 //! * [`Laptop::ask`] opens a record, and [`Laptop::commit`] saves over what was
 //!   [`Opened`], if the record is still as it was opened.
-//! * [`Laptop::tick`] is the clock: called once a second, say, for every record, it
-//!   sends again what was lost.
 //! * [`Leaving`] is what leaves an event: a message, its bytes and who gets it.
 //!   [`Arriving`] is what comes in.
 //! * [`packet`] puts messages into the bytes that go on air, and takes them out.
@@ -25,13 +22,12 @@
 //! * [`raw`] has the exported functions as they are, over slices and numbers.
 //!
 //! ```
-//! use cetskobi::{Laptop, Refusal, Rule, Settings};
+//! use cetskobi::{Laptop, Refusal, Rule};
 //!
 //! # fn main() -> Result<(), Refusal> {
 //! // Laptops 0 and 1 of a group of two, one record each.
-//! let settings = Settings::new(Rule::Lower, 20);
-//! let mut net = Laptop::start(0, 0b11, settings, 1)?;
-//! let mut hut = Laptop::start(1, 0b11, settings, 1)?;
+//! let mut net = Laptop::start(0, 0b11, Rule::Lower, 1)?;
+//! let mut hut = Laptop::start(1, 0b11, Rule::Lower, 1)?;
 //!
 //! // A ringer at the net opens the record, and saves over what she saw. Until the
 //! // hut has acknowledged, neither shows it.

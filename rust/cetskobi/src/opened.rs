@@ -16,10 +16,10 @@ use crate::{Refusal, Timestamp};
 /// Nor does it know its group: drop it at a fresh start, where timestamps begin anew.
 ///
 /// ```
-/// use cetskobi::{Laptop, Refusal, Rule, Settings};
+/// use cetskobi::{Laptop, Refusal, Rule};
 ///
 /// # fn main() -> Result<(), Refusal> {
-/// # let mut net = Laptop::start(0, 0b11, Settings::new(Rule::Lower, 20), 1)?;
+/// # let mut net = Laptop::start(0, 0b11, Rule::Lower, 1)?;
 /// let opened = net.ask(0)?;
 /// assert_eq!(opened.text(), b"");
 /// assert_eq!(opened.timestamp().to_string(), "(0,0)");
@@ -41,9 +41,9 @@ use crate::{Refusal, Timestamp};
 /// None is copied:
 ///
 /// ```compile_fail,E0599
-/// # use cetskobi::{Laptop, Refusal, Rule, Settings};
+/// # use cetskobi::{Laptop, Refusal, Rule};
 /// # fn main() -> Result<(), Refusal> {
-/// # let net = Laptop::start(0, 0b11, Settings::new(Rule::Lower, 20), 1)?;
+/// # let net = Laptop::start(0, 0b11, Rule::Lower, 1)?;
 /// let opened = net.ask(0)?;
 /// let twice = opened.clone();
 /// # Ok(())
@@ -53,9 +53,9 @@ use crate::{Refusal, Timestamp};
 /// And none is saved over twice:
 ///
 /// ```compile_fail,E0382
-/// # use cetskobi::{Laptop, Refusal, Rule, Settings};
+/// # use cetskobi::{Laptop, Refusal, Rule};
 /// # fn main() -> Result<(), Refusal> {
-/// # let mut net = Laptop::start(0, 0b11, Settings::new(Rule::Lower, 20), 1)?;
+/// # let mut net = Laptop::start(0, 0b11, Rule::Lower, 1)?;
 /// let opened = net.ask(0)?;
 /// let inv = net.commit(opened, b"Wren")?.into_owned();
 /// let again = net.commit(opened, b"Robin")?.into_owned();
@@ -99,10 +99,10 @@ impl Opened {
 /// 5 are asked before, and tell nothing of it:
 ///
 /// ```
-/// use cetskobi::{Laptop, Refusal, Rule, Settings};
+/// use cetskobi::{Laptop, Refusal, Rule};
 ///
 /// # fn main() -> Result<(), Refusal> {
-/// # let mut net = Laptop::start(0, 0b11, Settings::new(Rule::Lower, 20), 1)?;
+/// # let mut net = Laptop::start(0, 0b11, Rule::Lower, 1)?;
 /// let opened = net.ask(0)?;
 /// let no = net.commit(opened, &[b'x'; 193]).unwrap_err();
 /// assert_eq!(no.refusal(), Refusal::ValueTooLong);

@@ -11,10 +11,10 @@
 //! for one message.
 //!
 //! ```
-//! use cetskobi::{packet, Laptop, Refusal, Rule, Settings};
+//! use cetskobi::{packet, Laptop, Refusal, Rule};
 //!
 //! # fn main() -> Result<(), Refusal> {
-//! let mut laptop = Laptop::start(2, 0b10_0110, Settings::new(Rule::Lower, 20), 8)?;
+//! let mut laptop = Laptop::start(2, 0b10_0110, Rule::Lower, 8)?;
 //! let settings = laptop.settings(); // now: what leaves borrows the laptop
 //! let inv = laptop.write(7, b"Wren")?;
 //! let mut bytes = [0; packet::PACKET_MAX];

@@ -153,21 +153,6 @@ pub fn resend(me: Replica, table: &mut [u8], store: &[u8], i: usize) -> Answer {
     }
 }
 
-/// Tick of record `i`: an INV leaves on reaching the wait, and otherwise nothing.
-pub fn tick(me: Replica, table: &mut [u8], store: &[u8], i: usize) -> Answer {
-    // SAFETY: two slices; the table is borrowed mutably, so apart.
-    unsafe {
-        sys::cetskobi_tick(
-            me,
-            table.as_mut_ptr(),
-            table.len(),
-            store.as_ptr(),
-            store.len(),
-            i,
-        )
-    }
-}
-
 /// How many bytes of record `i` the message takes along that left an event with
 /// this answer: 0 unless it is an INV; [`GONE`] where the record no longer has
 /// the INV's timestamp, or is not there with all its bytes.

@@ -19,7 +19,7 @@ pub enum State {
     InvalidWrite,
     /// This laptop's write waits for acknowledgements.
     Write,
-    /// This laptop's replay, of a write that another left open, waits for
+    /// This laptop's replay, for a writer that was struck off, waits for
     /// acknowledgements.
     Replay,
 }
@@ -135,8 +135,6 @@ pub struct Record {
     pub acks: Members,
     /// The length of its value in bytes.
     pub len: u8,
-    /// The ticks that it has waited: below the group's wait, and 0 while it is valid.
-    pub waited: u8,
 }
 
 impl Record {
@@ -149,14 +147,14 @@ impl Record {
 
     /// The record that these bytes of the table are. None where the state is
     /// none of the five: every event on such bytes is refused as
-    /// [`UnsoundRecord`](crate::Refusal::UnsoundRecord).
+    /// [`UnsoundRecord`](crate::Refusal::UnsoundRecord). Byte 15 is not looked at.
     pub fn from_bytes(bytes: [u8; RECORD_BYTES]) -> Option<Record> {
         #[rustfmt::skip]
         let [
             state, tie, writer, written_tie,
             v0, v1, v2, v3,
             w0, w1, w2, w3,
-            a0, a1, len, waited,
+            a0, a1, len, _,
         ] = bytes;
         Some(Record {
             state: *State::ALL.get(usize::from(state))?,
@@ -171,11 +169,10 @@ impl Record {
             },
             acks: Members::from_bits(u16::from_le_bytes([a0, a1])),
             len,
-            waited,
         })
     }
 
-    /// The record as bytes of the table.
+    /// The record as bytes of the table. Byte 15, which is nobody's, is 0.
     pub const fn to_bytes(self) -> [u8; RECORD_BYTES] {
         let [v0, v1, v2, v3] = self.timestamp.version.to_le_bytes();
         let [w0, w1, w2, w3] = self.written.version.to_le_bytes();
@@ -185,7 +182,7 @@ impl Record {
             self.state.number(), self.timestamp.tie, self.writer, self.written.tie,
             v0, v1, v2, v3,
             w0, w1, w2, w3,
-            a0, a1, self.len, self.waited,
+            a0, a1, self.len, 0,
         ];
         bytes
     }

@@ -5,7 +5,7 @@ use std::fmt;
 
 /// Why an event or a packet was refused: the first question of document 01, or
 /// from 26 on of document 02, whose answer is no. A refused event has changed
-/// nothing. Later versions may have more: document 02 announces 29 to 37.
+/// nothing. Later versions may have more: document 02 announces 28 to 37.
 #[derive(Clone, Copy, Debug, PartialEq, Eq, Hash, PartialOrd, Ord)]
 #[non_exhaustive]
 #[repr(u8)]
@@ -18,8 +18,7 @@ pub enum Refusal {
     StruckOff = 3,
     /// 4: no record has that number.
     StrayRecord = 4,
-    /// 5: what stands in the table there is no sound record of a group with this
-    /// wait.
+    /// 5: what stands in the table there is no sound record.
     UnsoundRecord = 5,
     /// 6: a read of a record that is not valid, or an ask for it.
     NotReadable = 6,
@@ -70,8 +69,6 @@ pub enum Refusal {
     NotAsOpened = 26,
     /// 27: the packet is of a group with the other rule of ties.
     OtherRule = 27,
-    /// 28: the settings have no wait: it is 0. It is asked before 1, wherever 1 is.
-    NoWait = 28,
     /// A script that is longer than the player takes, or has too little room to
     /// print. No question of document 01, so its number, 255, is none there.
     PlayerRoom = 255,
@@ -107,7 +104,6 @@ impl Refusal {
         Refusal::PacketRoom,
         Refusal::NotAsOpened,
         Refusal::OtherRule,
-        Refusal::NoWait,
         Refusal::PlayerRoom,
     ];
 
@@ -187,7 +183,6 @@ impl Refusal {
                  it was opened with"
             }
             Refusal::OtherRule => "the packet is of a group with the other rule of ties",
-            Refusal::NoWait => "the settings have no wait: it is 0",
             Refusal::PlayerRoom => "the script is longer than 65,536 bytes or lacks room to print",
         }
     }

@@ -50,26 +50,25 @@ impl fmt::Display for Rule {
     }
 }
 
-/// What is fixed at a group's start: today the [`Rule`] of ties, and the wait.
-/// Document 02 announces more.
+/// What is fixed at a group's start: today the [`Rule`] of ties. Document 02
+/// announces more.
 ///
 /// [`Laptop::start`](crate::Laptop::start) takes them, a change of view keeps them,
 /// and nothing changes them. All laptops of a group start with the same settings:
-/// their agreement rests on it.
+/// their agreement rests on it. A `Rule` stands for the settings with that rule.
 ///
 /// Two laptops save one ring at once, and all show the text of the rule's winner:
 ///
 /// ```
-/// use cetskobi::{Laptop, Leaving, Refusal, Rule, Settings};
+/// use cetskobi::{Laptop, Leaving, Refusal, Rule};
 /// use std::collections::VecDeque;
 ///
 /// # fn main() -> Result<(), Refusal> {
 /// for (rule, stands) in [(Rule::Higher, "Robin"), (Rule::Lower, "Wren")] {
-///     let settings = Settings::new(rule, 20);
 ///     let mut group = [
-///         Laptop::start(0, 0b111, settings, 1)?,
-///         Laptop::start(1, 0b111, settings, 1)?,
-///         Laptop::start(2, 0b111, settings, 1)?,
+///         Laptop::start(0, 0b111, rule, 1)?,
+///         Laptop::start(1, 0b111, rule, 1)?,
+///         Laptop::start(2, 0b111, rule, 1)?,
 ///     ];
 ///     // Timestamps (1,0) and (1,2): a tie.
 ///     let mut air = VecDeque::new();
@@ -84,7 +83,7 @@ impl fmt::Display for Rule {
 ///         }
 ///     }
 ///     for laptop in &group {
-///         assert_eq!(laptop.settings(), settings);
+///         assert_eq!(laptop.settings().rule, rule);
 ///         assert_eq!(laptop.read(0)?, stands.as_bytes());
 ///     }
 /// }
@@ -96,11 +95,11 @@ impl fmt::Display for Rule {
 /// ([`OtherRule`](crate::Refusal::OtherRule)):
 ///
 /// ```
-/// use cetskobi::{packet, Laptop, Refusal, Rule, Settings};
+/// use cetskobi::{packet, Laptop, Refusal, Rule};
 ///
 /// # fn main() -> Result<(), Refusal> {
-/// let mut ours = Laptop::start(0, 0b11, Settings::new(Rule::Lower, 20), 1)?;
-/// let mut theirs = Laptop::start(1, 0b11, Settings::new(Rule::Higher, 20), 1)?;
+/// let mut ours = Laptop::start(0, 0b11, Rule::Lower, 1)?;
+/// let mut theirs = Laptop::start(1, 0b11, Rule::Higher, 1)?;
 /// let mut bytes = [0; packet::PACKET_MAX];
 /// let len = packet::pack(theirs.settings(), [theirs.write(0, b"Wren")?], &mut bytes)?;
 /// let no = packet::messages(ours.settings(), &bytes[..len]).err();
@@ -109,42 +108,42 @@ impl fmt::Display for Rule {
 /// # Ok(())
 /// # }
 /// ```
-///
-/// No laptop starts without a wait ([`NoWait`](crate::Refusal::NoWait)):
-///
-/// ```
-/// # use cetskobi::{Laptop, Refusal, Rule, Settings};
-/// let no = Laptop::start(0, 0b11, Settings::new(Rule::Lower, 0), 1).err();
-/// assert_eq!(no, Some(Refusal::NoWait));
-/// ```
 #[derive(Clone, Copy, Debug, PartialEq, Eq, Hash)]
 #[non_exhaustive]
 pub struct Settings {
     /// The rule of ties.
     pub rule: Rule,
-    /// The wait, 1 to 255: after so many ticks a record that waits helps itself
-    /// ([`Laptop::tick`](crate::Laptop::tick)). 0 is no wait, and the start refuses
-    /// it ([`NoWait`](crate::Refusal::NoWait)).
-    pub wait: u8,
 }
 
 impl Settings {
-    /// The settings with this rule of ties and this wait.
-    pub const fn new(rule: Rule, wait: u8) -> Settings {
-        Settings { rule, wait }
+    /// The settings with this rule of ties.
+    pub const fn new(rule: Rule) -> Settings {
+        Settings { rule }
+    }
+}
+
+impl From<Rule> for Settings {
+    fn from(rule: Rule) -> Settings {
+        Settings::new(rule)
     }
 }
 
 /// As the engine reads them: every byte is a rule.
 impl From<sys::Settings> for Settings {
     fn from(settings: sys::Settings) -> Settings {
-        Settings::new(Rule::of(settings.rule), settings.wait)
+        Settings::new(Rule::of(settings.rule))
     }
 }
 
 impl From<Settings> for sys::Settings {
     fn from(settings: Settings) -> sys::Settings {
-        let (rule, wait) = (settings.rule.number(), settings.wait);
-        sys::Settings { rule, wait }
+        let rule = settings.rule.number();
+        sys::Settings { rule }
+    }
+}
+
+impl From<Rule> for sys::Settings {
+    fn from(rule: Rule) -> sys::Settings {
+        Settings::new(rule).into()
     }
 }

@@ -22,12 +22,9 @@ pub struct Settings {
     /// The rule of ties: 2 is [`Rule::Lower`](crate::Rule::Lower); every other value,
     /// 0 too, is [`Rule::Higher`](crate::Rule::Higher).
     pub rule: u8,
-    /// The wait, 1 to 255: how many ticks until a record that waits helps itself.
-    /// 0 is no wait, and question 28 refuses it.
-    pub wait: u8,
 }
 
-/// The identity of a replica, a laptop of a group, in 12 bytes.
+/// The identity of a replica, a laptop of a group.
 #[repr(C)]
 #[derive(Clone, Copy, Debug, PartialEq, Eq, Hash)]
 pub struct Replica {
@@ -199,8 +196,6 @@ unsafe extern "C" {
     pub fn cetskobi_validate(me: Replica, table: *mut u8, table_len: usize, store: *const u8, store_len: usize, i: usize) -> Answer;
     /// Resend of record i: see [`Laptop::resend`](crate::Laptop::resend).
     pub fn cetskobi_resend(me: Replica, table: *mut u8, table_len: usize, store: *const u8, store_len: usize, i: usize) -> Answer;
-    /// Tick of record i: see [`Laptop::tick`](crate::Laptop::tick).
-    pub fn cetskobi_tick(me: Replica, table: *mut u8, table_len: usize, store: *const u8, store_len: usize, i: usize) -> Answer;
     /// How many bytes what left an event on record i takes along, or [`GONE`]: see [`Leaving::body`](crate::Leaving::body).
     pub fn cetskobi_body(table: *const u8, table_len: usize, store: *const u8, store_len: usize, i: usize, left: Answer) -> usize;
     /// Who gets a message of this kind: see [`Leaving::recipients`](crate::Leaving::recipients).

@@ -4,10 +4,10 @@
 
 use cetskobi::raw::{self, Accepted, Answer, Arrival, Fetched, Message, Replica, Settings};
 
-const SETTINGS: Settings = Settings { rule: 2, wait: 20 };
+const RULE: Settings = Settings { rule: 2 };
 const ME: Replica = Replica {
     number: 2,
-    settings: SETTINGS,
+    settings: RULE,
     view: 0b10_0110,
     epoch: 9,
 };
@@ -27,7 +27,7 @@ const WORDS: [u32; 6 * raw::MESSAGE_WORDS] = [
 
 fn packet() -> Vec<u8> {
     let mut out = [0; 104];
-    let written = raw::pack(SETTINGS, &WORDS, b"wing", &mut out);
+    let written = raw::pack(RULE, &WORDS, b"wing", &mut out);
     assert_eq!((written.number, written.len), (0, out.len()));
     out.to_vec()
 }
@@ -59,8 +59,8 @@ type Memory = ([u8; 2 * raw::RECORD_BYTES], [u8; 2 * 192]);
 /// Two fresh records, and a store that is not zero.
 #[rustfmt::skip]
 const MEMORY: Memory = ([
-    0, 1, 1, 1, 0, 0, 0, 0, 0, 0, 0, 0, 0, 0, 0, 0,
-    0, 1, 1, 1, 0, 0, 0, 0, 0, 0, 0, 0, 0, 0, 0, 0,
+    0, 1, 1, 1, 0, 0, 0, 0, 0, 0, 0, 0, 0, 0, 0, 9,
+    0, 1, 1, 1, 0, 0, 0, 0, 0, 0, 0, 0, 0, 0, 0, 9,
 ], [7; 2 * 192]);
 
 /// A refused fetch.
@@ -159,16 +159,16 @@ fn taken(packet: &[u8], accepted: Accepted, i: usize) -> (Fetched, Answer, Memor
 fn what_is_accepted_is_what_is_fetched() {
     let mut answers = [0; 256];
     for packet in altered() {
-        let accepted = raw::accept(SETTINGS, &packet);
-        let first = raw::fetch(SETTINGS, &packet, 0).number;
+        let accepted = raw::accept(RULE, &packet);
+        let first = raw::fetch(RULE, &packet, 0).number;
         assert_eq!(accepted.number, first, "{packet:?}");
-        let count = (0..300).take_while(|i| raw::fetch(SETTINGS, &packet, *i).number == 0);
+        let count = (0..300).take_while(|i| raw::fetch(RULE, &packet, *i).number == 0);
         assert_eq!(usize::from(accepted.count), count.count(), "{packet:?}");
         for i in NUMBERS {
             let mut memory = MEMORY;
             let (table, store) = (&mut memory.0, &mut memory.1);
             let answer = raw::deliver_packet(ME, table, store, &packet, i);
-            let each = (raw::fetch(SETTINGS, &packet, i), answer, memory);
+            let each = (raw::fetch(RULE, &packet, i), answer, memory);
             let once = taken(&packet, accepted, i);
             assert_eq!(once, each, "message {i} of {packet:?}");
             answers[usize::from(answer.number)] += 1;
@@ -216,10 +216,7 @@ fn nothing_outside_the_packet_is_read() {
             let mut bytes = vec![around; 64 + len + 8192];
             bytes[64..][..len].copy_from_slice(&whole[..len]);
             let part = &bytes[64..][..len];
-            assert_eq!(
-                raw::accept(SETTINGS, part),
-                raw::accept(SETTINGS, &whole[..len])
-            );
+            assert_eq!(raw::accept(RULE, part), raw::accept(RULE, &whole[..len]));
             for count in [6, 255] {
                 let accepted = Accepted { number: 0, count };
                 for i in NUMBERS {

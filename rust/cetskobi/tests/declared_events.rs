@@ -3,8 +3,8 @@
 
 use cetskobi::sys::*;
 
-const HIGHER: Settings = Settings { rule: 1, wait: 20 };
-const LOWER: Settings = Settings { rule: 2, wait: 20 };
+const HIGHER: Settings = Settings { rule: 1 };
+const LOWER: Settings = Settings { rule: 2 };
 
 /// Laptop 2 with view {1,2,5} at epoch 9: two records, and its store.
 const ME: Replica = Replica {
@@ -16,11 +16,10 @@ const ME: Replica = Replica {
 /// A version with four different bytes: 4, 3, 2, 1 in the table.
 const VERSION: u32 = 0x0102_0304;
 
-/// A record as the table has it. The last byte is the count of ticks waited: 9 in
-/// most records here that wait.
+/// A record as the table has it. The last byte is nobody's, and stays.
 type Bytes = [u8; RECORD_BYTES];
 
-const FRESH: Bytes = [0, 1, 1, 1, 0, 0, 0, 0, 0, 0, 0, 0, 0, 0, 0, 0];
+const FRESH: Bytes = [0, 1, 1, 1, 0, 0, 0, 0, 0, 0, 0, 0, 0, 0, 0, 9];
 
 /// A table whose record 1 is this one, record 0 fresh; its store.
 fn table(record: Bytes) -> (Vec<u8>, Vec<u8>) {
@@ -44,7 +43,7 @@ fn start() {
         cetskobi_start(
             number,
             view,
-            Settings { rule, wait: 20 },
+            Settings { rule },
             table.as_mut_ptr(),
             table.len(),
             store.as_mut_ptr(),
@@ -90,7 +89,7 @@ fn view() {
     // Every byte is a rule. An accepted view keeps it, as 1 or 2; a refused one gives the
     // identity as it was passed.
     for rule in 0..=255 {
-        let settings = Settings { rule, wait: 20 };
+        let settings = Settings { rule };
         let me = Replica { settings, ..ME };
         let changed = Replica {
             number: 2,
@@ -107,7 +106,7 @@ fn view() {
 
 #[test]
 fn read() {
-    let (table, store) = table([0, 5, 5, 1, 4, 3, 2, 1, 0, 0, 0, 0, 0, 0, 62, 0]);
+    let (table, store) = table([0, 5, 5, 1, 4, 3, 2, 1, 0, 0, 0, 0, 0, 0, 62, 9]);
     let call = |i| unsafe {
         cetskobi_read(
             ME,
@@ -122,10 +121,9 @@ fn read() {
     assert_eq!(call(2), Reading { number: 4, len: 0 });
 }
 
-/// Over an invalid record: the new timestamp sets its count to 0.
 #[test]
 fn write() {
-    let (mut table, mut store) = table([1, 5, 5, 1, 3, 3, 2, 1, 0, 0, 0, 0, 0, 0, 62, 9]);
+    let (mut table, mut store) = table([0, 5, 5, 1, 3, 3, 2, 1, 0, 0, 0, 0, 0, 0, 62, 9]);
     let (t, s) = (table.as_mut_ptr(), store.as_mut_ptr());
     let value = [b"wing".as_slice(), &[9; 189]].concat();
     let call = |len| unsafe {
@@ -134,7 +132,7 @@ fn write() {
     };
     assert_eq!(call(193), answer(8, 0, 0, 0));
     assert_eq!(call(4), answer(0, 1, 2, VERSION));
-    let written = [3, 2, 2, 2, 4, 3, 2, 1, 4, 3, 2, 1, 0, 0, 4, 0];
+    let written = [3, 2, 2, 2, 4, 3, 2, 1, 4, 3, 2, 1, 0, 0, 4, 9];
     assert_eq!(table, [FRESH, written].as_flattened());
     assert_eq!(store[..192], [7; 192]);
     assert_eq!(store[192..196], *b"wing");
@@ -144,7 +142,7 @@ fn write() {
 /// What a read answers, and the record's timestamp: not the last-write one, (6,3).
 #[test]
 fn ask() {
-    let valid = [0, 5, 4, 3, 4, 3, 2, 1, 6, 0, 0, 0, 0b10, 0, 62, 0];
+    let valid = [0, 5, 4, 3, 4, 3, 2, 1, 6, 0, 0, 0, 0b10, 0, 62, 9];
     let asked = |record, i| {
         let (table, store) = table(record);
         let (t, s) = (table.as_ptr(), store.as_ptr());
@@ -173,7 +171,7 @@ fn ask() {
 /// A valid record of this version, with tie-breaker 5.
 const fn opened(version: u32) -> Bytes {
     let [a, b, c, d] = version.to_le_bytes();
-    [0, 5, 4, 3, a, b, c, d, 6, 0, 0, 0, 0b10, 0, 62, 0]
+    [0, 5, 4, 3, a, b, c, d, 6, 0, 0, 0, 0b10, 0, 62, 9]
 }
 
 /// Commit to record 1, which was this one: the answer, and the memory after it.
@@ -208,7 +206,7 @@ fn commit_to(
 fn commit() {
     let (left, table, store) = commit_to(opened(VERSION - 1), 1, (VERSION - 1, 5), b"wing");
     assert_eq!(left, answer(0, 1, 2, VERSION));
-    let written = [3, 2, 2, 2, 4, 3, 2, 1, 4, 3, 2, 1, 0, 0, 4, 0];
+    let written = [3, 2, 2, 2, 4, 3, 2, 1, 4, 3, 2, 1, 0, 0, 4, 9];
     assert_eq!(table, [FRESH, written].as_flattened());
     assert_eq!(store[..192], [7; 192]);
     assert_eq!(store[192..196], *b"wing");
@@ -293,7 +291,7 @@ fn deliver() {
     assert_eq!(call(Message { kind: 3, ..inv }, b"").number, 14);
     assert_eq!(call(Message { kind: 4, ..inv }, b"").number, 12);
     assert_eq!(call(inv, b"weight"), answer(0, 2, 4, VERSION));
-    let overtaken = [2, 4, 5, 2, 4, 3, 2, 1, 6, 0, 0, 0, 0b10, 0, 6, 0];
+    let overtaken = [2, 4, 5, 2, 4, 3, 2, 1, 6, 0, 0, 0, 0b10, 0, 6, 9];
     assert_eq!(table, [FRESH, overtaken].as_flattened());
     assert_eq!(store[..192], [7; 192]);
     assert_eq!(store[192..198], *b"weight");
@@ -305,7 +303,7 @@ fn deliver() {
 fn overtakes(rule: u8, version: u32, tie: u8) -> bool {
     let writing = [3, 2, 2, 2, 4, 3, 2, 1, 4, 3, 2, 1, 0b10, 0, 62, 9];
     let (mut table, mut store) = table(writing);
-    let settings = Settings { rule, wait: 20 };
+    let settings = Settings { rule };
     let (t, s) = (table.as_mut_ptr(), store.as_mut_ptr());
     let inv = Message {
         kind: 1,
@@ -320,7 +318,7 @@ fn overtakes(rule: u8, version: u32, tie: u8) -> bool {
     // An ACK always leaves.
     assert_eq!(left, answer(0, 2, tie, version));
     let [a, b, c, d] = version.to_le_bytes();
-    let taken = [2, tie, 5, 2, a, b, c, d, 4, 3, 2, 1, 0b10, 0, 0, 0];
+    let taken = [2, tie, 5, 2, a, b, c, d, 4, 3, 2, 1, 0b10, 0, 0, 9];
     let is_taken = table[RECORD_BYTES..] == taken;
     assert!(is_taken || table[RECORD_BYTES..] == writing);
     assert_eq!(store[192..] == [0; 192], is_taken);
@@ -345,9 +343,7 @@ fn deliver_by_the_rule() {
 /// Acknowledgements of record 1 in this state: by 1, and by 8 and 15, which are
 /// not in the view, before; now by 5, the last of the view.
 fn last_ack(state: u8) -> (Answer, Vec<u8>) {
-    let waited = if state == 0 { 0 } else { 9 };
-    #[rustfmt::skip]
-    let record = [state, 4, 2, 4, 4, 3, 2, 1, 4, 3, 2, 1, 0b10, 0x81, 62, waited];
+    let record = [state, 4, 2, 4, 4, 3, 2, 1, 4, 3, 2, 1, 0b10, 0x81, 62, 9];
     let (mut table, mut store) = table(record);
     let ack = Message {
         kind: 2,
@@ -364,18 +360,16 @@ fn last_ack(state: u8) -> (Answer, Vec<u8>) {
     (answer, table[RECORD_BYTES..].to_vec())
 }
 
-/// A VAL leaves write and replay, which are valid then; invalid-write counts, and
-/// has waited as long as before.
+/// A VAL leaves write and replay, which are valid then; invalid-write counts.
 #[test]
 fn deliver_the_last_ack() {
-    for (state, after, waited, left) in [
-        (3, 0, 0, answer(0, 3, 4, VERSION)),
-        (4, 0, 0, answer(0, 3, 4, VERSION)),
-        (2, 2, 9, answer(0, 0, 0, 0)),
+    for (state, after, left) in [
+        (3, 0, answer(0, 3, 4, VERSION)),
+        (4, 0, answer(0, 3, 4, VERSION)),
+        (2, 2, answer(0, 0, 0, 0)),
     ] {
-        #[rustfmt::skip]
         let counted = [
-            after, 4, 2, 4, 4, 3, 2, 1, 4, 3, 2, 1, 0b10_0010, 0x81, 62, waited,
+            after, 4, 2, 4, 4, 3, 2, 1, 4, 3, 2, 1, 0b10_0010, 0x81, 62, 9,
         ];
         assert_eq!(last_ack(state), (left, counted.to_vec()));
     }
@@ -386,17 +380,13 @@ fn deliver_the_last_ack() {
     }
 }
 
-/// The four events that take the table and only look at the store's length.
+/// The three events that take the table and only look at the store's length.
 type OnTable = unsafe extern "C" fn(Replica, *mut u8, usize, *const u8, usize, usize) -> Answer;
 
 fn on_table(f: OnTable, i: usize, record: Bytes) -> (Answer, Vec<u8>) {
-    on_table_of(ME, f, i, record)
-}
-
-fn on_table_of(me: Replica, f: OnTable, i: usize, record: Bytes) -> (Answer, Vec<u8>) {
     let (mut table, store) = table(record);
     let t = table.as_mut_ptr();
-    let answer = unsafe { f(me, t, table.len(), store.as_ptr(), store.len(), i) };
+    let answer = unsafe { f(ME, t, table.len(), store.as_ptr(), store.len(), i) };
     assert_eq!(table[..RECORD_BYTES], FRESH);
     (answer, table[RECORD_BYTES..].to_vec())
 }
@@ -404,14 +394,11 @@ fn on_table_of(me: Replica, f: OnTable, i: usize, record: Bytes) -> (Answer, Vec
 /// Another's text in this state, by this last writer; 1 has acknowledged what the
 /// laptop itself wrote before, of version 6.
 const fn taken(state: u8, writer: u8) -> Bytes {
-    let waited = if state == 0 { 0 } else { 9 };
-    #[rustfmt::skip]
-    let taken = [state, 4, writer, 2, 4, 3, 2, 1, 6, 0, 0, 0, 0b10, 0, 62, waited];
-    taken
+    [state, 4, writer, 2, 4, 3, 2, 1, 6, 0, 0, 0, 0b10, 0, 62, 9]
 }
 
 /// Invalid, and by Wish 2 of document 02 invalid-write: what the laptop itself
-/// wrote is given up, with the acknowledgement of it. The count stays.
+/// wrote is given up, with the acknowledgement of it.
 #[test]
 fn replay() {
     for state in [1, 2] {
@@ -443,7 +430,7 @@ fn validate() {
     // off, as the last one missing was.
     let acknowledged = [3, 2, 2, 2, 4, 3, 2, 1, 4, 3, 2, 1, 0x22, 0x81, 62, 9];
     let mut valid = acknowledged;
-    (valid[0], valid[15]) = (0, 0);
+    valid[0] = 0;
     let (validated, record) = on_table(cetskobi_validate, 1, acknowledged);
     assert_eq!(validated, answer(0, 3, 2, VERSION));
     assert_eq!(record, valid);
@@ -455,130 +442,13 @@ fn validate() {
 #[test]
 fn resend() {
     for (state, kind) in [(0, 3), (3, 1), (4, 1)] {
-        let waited = if state == 0 { 0 } else { 9 };
-        #[rustfmt::skip]
-        let own = [state, 5, 2, 5, 4, 3, 2, 1, 4, 3, 2, 1, 0b10, 0, 62, waited];
+        let own = [state, 5, 2, 5, 4, 3, 2, 1, 4, 3, 2, 1, 0b10, 0, 62, 9];
         let (resent, record) = on_table(cetskobi_resend, 1, own);
         assert_eq!(resent, answer(0, kind, 5, VERSION));
         assert_eq!(record, own);
     }
     let (refused, _) = on_table(cetskobi_resend, 0, FRESH);
     assert_eq!(refused, answer(17, 0, 0, 0));
-}
-
-/// The record after so many ticks waited.
-const fn waiting(mut record: Bytes, waited: u8) -> Bytes {
-    record[15] = waited;
-    record
-}
-
-/// Laptop 2 of a group with this wait.
-const fn of_wait(wait: u8) -> Replica {
-    let settings = Settings { rule: 2, wait };
-    Replica { settings, ..ME }
-}
-
-/// Below the wait only the count grows. On reaching it write and replay send their
-/// INV again; invalid and invalid-write are replayed, whoever the last writer is:
-/// 4 is not in the view, 5 is. A valid record is as it was.
-#[test]
-fn tick() {
-    for (wait, writer) in [1, 2, 20, 254, 255]
-        .into_iter()
-        .flat_map(|wait| [4, 5].map(|writer| (wait, writer)))
-    {
-        let ticked = |record| on_table_of(of_wait(wait), cetskobi_tick, 1, record);
-        let valid = taken(0, writer);
-        assert_eq!(ticked(valid), (answer(0, 0, 0, 0), valid.to_vec()));
-        for (state, waited) in (1..=4).flat_map(|state| (0..wait).map(move |n| (state, n))) {
-            let before = taken(state, writer);
-            let (left, after) = match (waited + 1 < wait, state) {
-                (true, _) => (answer(0, 0, 0, 0), waiting(before, waited + 1)),
-                (false, 3 | 4) => (answer(0, 1, 4, VERSION), waiting(before, 0)),
-                (false, _) => (
-                    answer(0, 1, 4, VERSION),
-                    [4, 4, 2, 4, 4, 3, 2, 1, 4, 3, 2, 1, 0, 0, 62, 0],
-                ),
-            };
-            let case = format!("state {state}, {waited} of {wait}");
-            assert_eq!(
-                ticked(waiting(before, waited)),
-                (left, after.to_vec()),
-                "{case}"
-            );
-        }
-    }
-    let (refused, _) = on_table(cetskobi_tick, 2, FRESH);
-    assert_eq!(refused, answer(4, 0, 0, 0));
-}
-
-/// Question 5: the count is below the wait, and 0 of a valid record.
-#[test]
-fn a_count_at_the_wait_is_no_record() {
-    let unsound = |wait, record| {
-        let (refused, after) = on_table_of(of_wait(wait), cetskobi_tick, 1, record);
-        assert_eq!(after == record, refused.number == 5);
-        refused.number == 5
-    };
-    for (wait, waited) in (1..=255).flat_map(|wait| (0..=255).map(move |n| (wait, n))) {
-        for state in 1..=4 {
-            let record = waiting(taken(state, 5), waited);
-            // With a wait of 1, and only then, a tick of write leaves every byte as it is.
-            if (wait, waited) != (1, 0) {
-                assert_eq!(unsound(wait, record), waited >= wait, "{waited} of {wait}");
-            }
-        }
-        if waited > 0 {
-            assert!(unsound(wait, waiting(taken(0, 5), waited)));
-        }
-    }
-}
-
-/// Question 28 comes before all others: the identity is no laptop's, there is no
-/// record, and the lengths are wrong.
-#[test]
-fn no_wait() {
-    let nobody = Replica {
-        number: 16,
-        ..of_wait(0)
-    };
-    let none = [9; 1];
-    let mut lent = [9; 3];
-    let (t, s, v) = (lent.as_mut_ptr(), [9; 2].as_mut_ptr(), none.as_ptr());
-    let inv = Message {
-        kind: 1,
-        sender: 5,
-        tie: 4,
-        epoch: 9,
-        version: VERSION,
-    };
-    for me in [of_wait(0), nobody] {
-        let events = unsafe {
-            [
-                cetskobi_write(me, t, 3, s, 2, 7, v, 1),
-                cetskobi_commit(me, t, 3, s, 2, 7, 0, 0, v, 1),
-                cetskobi_deliver(me, t, 3, s, 2, 7, inv, v, 1),
-                cetskobi_replay(me, t, 3, s, 2, 7),
-                cetskobi_validate(me, t, 3, s, 2, 7),
-                cetskobi_resend(me, t, 3, s, 2, 7),
-                cetskobi_tick(me, t, 3, s, 2, 7),
-            ]
-        };
-        assert_eq!(events, [answer(28, 0, 0, 0); 7]);
-        let read = unsafe { cetskobi_read(me, t, 3, s, 2, 7) };
-        assert_eq!((read.number, read.len), (28, 0));
-        let asked = unsafe { cetskobi_ask(me, t, 3, s, 2, 7) };
-        let stamp = (asked.version, asked.tie);
-        assert_eq!((asked.number, stamp, asked.len), (28, (0, 0), 0));
-        let (number, replica) = (28, me);
-        let viewed = unsafe { cetskobi_view(me, 9, 0) };
-        assert_eq!(viewed, Admission { number, replica });
-        // A start gives the identity that was asked for.
-        let replica = Replica { epoch: 0, ..me };
-        let started = unsafe { cetskobi_start(me.number, me.view, me.settings, t, 3, s, 2) };
-        assert_eq!(started, Admission { number, replica });
-    }
-    assert_eq!(lent, [9; 3]);
 }
 
 #[test]

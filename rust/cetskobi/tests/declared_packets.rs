@@ -3,8 +3,8 @@
 
 use cetskobi::sys::*;
 
-const HIGHER: Settings = Settings { rule: 1, wait: 20 };
-const LOWER: Settings = Settings { rule: 2, wait: 20 };
+const HIGHER: Settings = Settings { rule: 1 };
+const LOWER: Settings = Settings { rule: 2 };
 
 const ME: Replica = Replica {
     number: 2,
@@ -155,9 +155,9 @@ fn number_of(rule: u8, first: u8) -> u8 {
 /// accept and the delivery of a message ask alike.
 #[test]
 fn every_rule_and_every_byte_0() {
-    let fresh = [0, 1, 1, 1, 0, 0, 0, 0, 0, 0, 0, 0, 0, 0, 0, 0];
+    let fresh = [0, 1, 1, 1, 0, 0, 0, 0, 0, 0, 0, 0, 0, 0, 0, 9];
     for (rule, first) in (0..=255).flat_map(|rule| (0..=255).map(move |first| (rule, first))) {
-        let settings = Settings { rule, wait: 20 };
+        let settings = Settings { rule };
         let packet = with(0, first);
         let (p, p_len) = (packet.as_ptr(), packet.len());
         let number = number_of(rule, first);
@@ -179,49 +179,6 @@ fn every_rule_and_every_byte_0() {
         assert_eq!(table == before, number != 0, "{case}");
         assert_eq!(store == vec![7; 2 * 192], number != 0, "{case}");
     }
-}
-
-/// Packets have no wait: who has none may fetch, accept and pack. The delivery of a
-/// message asks 28 behind all of the packet's own questions, and before 1.
-#[test]
-fn no_wait() {
-    let fresh = [0, 1, 1, 1, 0, 0, 0, 0, 0, 0, 0, 0, 0, 0, 0, 0];
-    let settings = Settings { rule: 2, wait: 0 };
-    let (mut table, mut store) = ([fresh, fresh].concat(), vec![7; 2 * 192]);
-    let (t, s) = (table.as_mut_ptr(), store.as_mut_ptr());
-    let deliver = |number, packet: &[u8], i| {
-        let (p, p_len) = (packet.as_ptr(), packet.len());
-        let me = Replica {
-            number,
-            settings,
-            ..ME
-        };
-        let accepted = unsafe { cetskobi_accept(settings, p, p_len) };
-        let arrival = unsafe {
-            cetskobi_deliver_accepted(me, t, 2 * RECORD_BYTES, s, 2 * 192, p, p_len, accepted, i)
-        };
-        let answer =
-            unsafe { cetskobi_deliver_packet(me, t, 2 * RECORD_BYTES, s, 2 * 192, p, p_len, i) };
-        assert_eq!(arrival.answer, answer);
-        (answer.number, arrival.epoch, arrival.sender, arrival.index)
-    };
-    for number in [2, 16] {
-        assert_eq!(deliver(number, &PACKET_OF_TWO, 0), (28, 9, 5, 1));
-        assert_eq!(deliver(number, &PACKET_OF_TWO, 1), (28, 0, 5, 7));
-        assert_eq!(deliver(number, &PACKET_OF_TWO, 2), (23, 0, 0, 0));
-        assert_eq!(deliver(number, &with(4, 9), 0), (22, 0, 0, 0));
-        assert_eq!(deliver(number, &with(0, 1), 0), (27, 0, 0, 0));
-        assert_eq!(deliver(number, &with(0, 3), 0), (20, 0, 0, 0));
-    }
-    assert_eq!(table, [fresh, fresh].as_flattened());
-    assert_eq!(store, [7; 2 * 192]);
-    let (p, p_len) = (PACKET_OF_TWO.as_ptr(), PACKET_OF_TWO.len());
-    assert_eq!(unsafe { cetskobi_fetch(settings, p, p_len, 0) }, INV);
-    assert_eq!(unsafe { cetskobi_accept(settings, p, p_len) }, TWO);
-    let (words, bodies, mut out) = (WORDS_OF_TWO.as_ptr(), b"wing".as_ptr(), [0; 40]);
-    let packed = unsafe { cetskobi_pack(settings, words, 14, bodies, 4, out.as_mut_ptr(), 40) };
-    assert_eq!(packed, Written { number: 0, len: 40 });
-    assert_eq!(out, PACKET_OF_TWO);
 }
 
 #[test]
@@ -268,7 +225,7 @@ fn pack() {
     let o = out.as_mut_ptr();
     let by = |rule, messages_len, bodies_len, out_len| unsafe {
         let (words, bodies) = (WORDS_OF_TWO.as_ptr(), bodies.as_ptr());
-        let settings = Settings { rule, wait: 20 };
+        let settings = Settings { rule };
         cetskobi_pack(
             settings,
             words,
@@ -297,7 +254,7 @@ fn pack() {
 
 #[test]
 fn deliver_packet() {
-    let fresh = [0, 1, 1, 1, 0, 0, 0, 0, 0, 0, 0, 0, 0, 0, 0, 0];
+    let fresh = [0, 1, 1, 1, 0, 0, 0, 0, 0, 0, 0, 0, 0, 0, 0, 9];
     let mut table = [fresh, fresh].concat();
     let mut store = vec![7; 2 * 192];
     let (t, s) = (table.as_mut_ptr(), store.as_mut_ptr());
@@ -325,7 +282,7 @@ fn deliver_packet() {
     assert_eq!(call(&PACKET_OF_TWO, 2).number, 23);
     assert_eq!(call(&PACKET_OF_TWO, 1).number, 4);
     assert_eq!(call(&PACKET_OF_TWO, 0), accepted);
-    let invalid = [1, 4, 5, 1, 4, 3, 2, 1, 0, 0, 0, 0, 0, 0, 4, 0];
+    let invalid = [1, 4, 5, 1, 4, 3, 2, 1, 0, 0, 0, 0, 0, 0, 4, 9];
     assert_eq!(table, [fresh, invalid].as_flattened());
     assert_eq!(store[..192], [7; 192]);
     assert_eq!(store[192..196], *b"wing");
@@ -334,7 +291,7 @@ fn deliver_packet() {
 
 #[test]
 fn deliver_accepted() {
-    let fresh = [0, 1, 1, 1, 0, 0, 0, 0, 0, 0, 0, 0, 0, 0, 0, 0];
+    let fresh = [0, 1, 1, 1, 0, 0, 0, 0, 0, 0, 0, 0, 0, 0, 0, 9];
     let mut table = [fresh, fresh].concat();
     let mut store = vec![7; 2 * 192];
     let (t, s) = (table.as_mut_ptr(), store.as_mut_ptr());
@@ -404,7 +361,7 @@ fn deliver_accepted() {
     };
     // By its facts alone: byte 0 is not looked at again.
     assert_eq!(call(&with(0, 1), TWO, 0), Arrival { answer, ..inv });
-    let invalid = [1, 4, 5, 1, 4, 3, 2, 1, 0, 0, 0, 0, 0, 0, 4, 0];
+    let invalid = [1, 4, 5, 1, 4, 3, 2, 1, 0, 0, 0, 0, 0, 0, 4, 9];
     assert_eq!(table, [fresh, invalid].as_flattened());
     assert_eq!(store[..192], [7; 192]);
     assert_eq!(store[192..196], *b"wing");

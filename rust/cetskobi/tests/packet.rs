@@ -2,10 +2,10 @@
 
 use cetskobi::packet::{self, MESSAGES_MAX, PACKET_MAX};
 use cetskobi::{play, raw, Arriving, Envelope, Laptop, Leaving, Message, Refusal, Reply};
-use cetskobi::{Rule, Settings, Timestamp, SCRIPT_MAX};
+use cetskobi::{Rule, Timestamp, SCRIPT_MAX};
 
-/// With document 01's rule. `rules.rs` has both.
-const SETTINGS: Settings = Settings::new(Rule::Higher, 20);
+/// Document 01's. `rules.rs` has both.
+const RULE: Rule = Rule::Higher;
 const STAMP: Timestamp = Timestamp { version: 1, tie: 2 };
 
 /// Document 01's packet: laptop 5 acknowledges (1,2) for record 7.
@@ -13,7 +13,7 @@ const ACK: [u8; 20] = [1, 1, 0, 20, 2, 5, 0, 0, 0, 0, 0, 7, 0, 0, 0, 1, 2, 0, 20
 
 /// Laptop 5 saves a value of each length, in records from 0 on.
 fn saved(lengths: &[usize]) -> Vec<Leaving<'static>> {
-    let mut laptop = Laptop::start(5, 0b10_0110, SETTINGS, 4096).unwrap();
+    let mut laptop = Laptop::start(5, 0b10_0110, RULE, 4096).unwrap();
     let mut saved = |(i, &len): (usize, &usize)| {
         let value = vec![i as u8; len];
         laptop.write(i, &value).unwrap().into_owned()
@@ -23,12 +23,12 @@ fn saved(lengths: &[usize]) -> Vec<Leaving<'static>> {
 
 #[test]
 fn the_packet_of_document_01() {
-    let mut two = Laptop::start(2, 0b10_0110, SETTINGS, 8).unwrap();
-    let mut five = Laptop::start(5, 0b10_0110, SETTINGS, 8).unwrap();
+    let mut two = Laptop::start(2, 0b10_0110, RULE, 8).unwrap();
+    let mut five = Laptop::start(5, 0b10_0110, RULE, 8).unwrap();
     let inv = two.write(7, b"wren").unwrap();
     let ack = five.deliver(inv.arriving()).unwrap().leaving().unwrap();
     let mut out = [0xee; 21];
-    assert_eq!(packet::pack(SETTINGS, [&ack], &mut out), Ok(20));
+    assert_eq!(packet::pack(RULE, [&ack], &mut out), Ok(20));
     assert_eq!((&out[..20], out[20]), (&ACK[..], 0xee));
     let envelope = Envelope {
         sender: 5,
@@ -38,19 +38,19 @@ fn the_packet_of_document_01() {
     };
     assert_eq!(ack.envelope(), envelope);
     assert_eq!(
-        packet::fetch(SETTINGS, &ACK, 0),
+        packet::fetch(RULE, &ACK, 0),
         Ok(Arriving::new(envelope, b""))
     );
-    assert_eq!(packet::fetch(SETTINGS, &ACK, 1), Err(Refusal::PacketIndex));
+    assert_eq!(packet::fetch(RULE, &ACK, 1), Err(Refusal::PacketIndex));
 }
 
 #[test]
 fn what_is_packed_is_fetched() {
     let outbox = saved(&[0, 1, 2, 3, 4, 5]);
     let mut out = [0; PACKET_MAX];
-    let len = packet::pack(SETTINGS, &outbox, &mut out).unwrap();
+    let len = packet::pack(RULE, &outbox, &mut out).unwrap();
     let sent: Vec<Arriving> = outbox.iter().map(Leaving::arriving).collect();
-    let fetched: Vec<Arriving> = packet::messages(SETTINGS, &out[..len]).unwrap().collect();
+    let fetched: Vec<Arriving> = packet::messages(RULE, &out[..len]).unwrap().collect();
     assert_eq!(fetched, sent);
 }
 
@@ -60,18 +60,18 @@ fn packets_of_1400_and_1401_bytes() {
     let of = |last| saved(&[192, 192, 192, 192, 192, 192, last]);
     let mut out = [0xee; PACKET_MAX + 1];
     assert_eq!(
-        packet::pack(SETTINGS, &of(133), &mut out),
+        packet::pack(RULE, &of(133), &mut out),
         Err(Refusal::PacketRoom)
     );
     assert_eq!(out, [0xee; PACKET_MAX + 1]);
     assert_eq!(
-        packet::pack(SETTINGS, &of(132), &mut out[..1399]),
+        packet::pack(RULE, &of(132), &mut out[..1399]),
         Err(Refusal::PacketRoom)
     );
-    assert_eq!(packet::pack(SETTINGS, &of(132), &mut out), Ok(1400));
-    assert_eq!(packet::messages(SETTINGS, &out[..1400]).unwrap().count(), 7);
+    assert_eq!(packet::pack(RULE, &of(132), &mut out), Ok(1400));
+    assert_eq!(packet::messages(RULE, &out[..1400]).unwrap().count(), 7);
     assert_eq!(
-        packet::messages(SETTINGS, &out).err(),
+        packet::messages(RULE, &out).err(),
         Some(Refusal::PacketHead)
     );
 }
@@ -81,15 +81,15 @@ fn messages_64_and_65() {
     let mut out = [0; PACKET_MAX];
     let outbox = saved(&[0; 1000]);
     let none = Err(Refusal::PacketMessages);
-    assert_eq!(packet::pack(SETTINGS, &outbox[..0], &mut out), none);
+    assert_eq!(packet::pack(RULE, &outbox[..0], &mut out), none);
     assert_eq!(
-        packet::pack(SETTINGS, &outbox[..MESSAGES_MAX + 1], &mut out),
+        packet::pack(RULE, &outbox[..MESSAGES_MAX + 1], &mut out),
         none
     );
-    assert_eq!(packet::pack(SETTINGS, &outbox, &mut out), none);
-    let len = packet::pack(SETTINGS, &outbox[..MESSAGES_MAX], &mut out).unwrap();
+    assert_eq!(packet::pack(RULE, &outbox, &mut out), none);
+    let len = packet::pack(RULE, &outbox[..MESSAGES_MAX], &mut out).unwrap();
     assert_eq!(len, 4 + 16 * 64);
-    assert_eq!(packet::messages(SETTINGS, &out[..len]).unwrap().count(), 64);
+    assert_eq!(packet::messages(RULE, &out[..len]).unwrap().count(), 64);
 }
 
 /// What left the last of the most records goes into a packet whole.
@@ -97,8 +97,8 @@ fn messages_64_and_65() {
 fn the_last_record() {
     let last = saved(&[0; 4096]).pop().unwrap();
     let mut out = [0; PACKET_MAX];
-    let len = packet::pack(SETTINGS, [last], &mut out).unwrap();
-    let came = packet::fetch(SETTINGS, &out[..len], 0).unwrap();
+    let len = packet::pack(RULE, [last], &mut out).unwrap();
+    let came = packet::fetch(RULE, &out[..len], 0).unwrap();
     assert_eq!(came.envelope().record, 4095);
 }
 
@@ -106,12 +106,12 @@ fn the_last_record() {
 #[test]
 fn broken_packets() {
     let refused = |packet: &[u8]| {
-        let mut laptop = Laptop::start(2, 0b10_0110, SETTINGS, 8).unwrap();
+        let mut laptop = Laptop::start(2, 0b10_0110, RULE, 8).unwrap();
         assert!(laptop.write(7, b"wren").is_ok());
         let before = laptop.clone();
-        let refusal = packet::messages(SETTINGS, packet).err();
+        let refusal = packet::messages(RULE, packet).err();
         for i in [0, 1, 63, 64, usize::MAX] {
-            assert_eq!(packet::fetch(SETTINGS, packet, i).err(), refusal);
+            assert_eq!(packet::fetch(RULE, packet, i).err(), refusal);
             assert_eq!(laptop.deliver_packet(packet, i).err(), refusal);
         }
         assert_eq!(laptop, before);
@@ -145,19 +145,19 @@ fn messages_are_what_is_fetched() {
         &[192; 6],
         &[0; 64],
     ] {
-        let len = packet::pack(SETTINGS, saved(lengths), &mut out).unwrap();
+        let len = packet::pack(RULE, saved(lengths), &mut out).unwrap();
         let packet = &out[..len];
-        let mut messages = packet::messages(SETTINGS, packet).unwrap();
+        let mut messages = packet::messages(RULE, packet).unwrap();
         for i in 0..lengths.len() {
             let left = lengths.len() - i;
             assert_eq!(messages.len(), left);
             assert_eq!(messages.size_hint(), (left, Some(left)));
             // A clone goes on by itself.
             assert_eq!(messages.clone().count(), left);
-            assert_eq!(messages.next(), packet::fetch(SETTINGS, packet, i).ok());
+            assert_eq!(messages.next(), packet::fetch(RULE, packet, i).ok());
         }
         assert_eq!((messages.len(), messages.next()), (0, None));
-        let beyond = packet::fetch(SETTINGS, packet, lengths.len());
+        let beyond = packet::fetch(RULE, packet, lengths.len());
         assert_eq!(
             (messages.next(), beyond.err()),
             (None, Some(Refusal::PacketIndex))
@@ -196,7 +196,7 @@ fn replied(reply: Result<Reply, Refusal>) -> Result<Option<Leaving<'static>>, Re
 /// by its number, and each by a fetch and a delivery: answers, what leaves, memory.
 #[test]
 fn a_packet_in_one_pass() {
-    let mut start = Laptop::start(2, 0b10_0110, SETTINGS, 8).unwrap();
+    let mut start = Laptop::start(2, 0b10_0110, RULE, 8).unwrap();
     start.change_view(1, 0b10_0110).unwrap();
     assert!(start.write(0, b"wren").is_ok());
     let mut numbers = [0; 32];
@@ -208,14 +208,14 @@ fn a_packet_in_one_pass() {
             .copied()
             .collect();
         let texts = words.chunks(7).filter(|w| w[0] == 1).count();
-        let written = raw::pack(SETTINGS.into(), &words, &b"wing".repeat(texts), &mut out);
+        let written = raw::pack(RULE.into(), &words, &b"wing".repeat(texts), &mut out);
         assert_eq!(written.number, 0);
         let packet = &out[..written.len];
 
         let [mut once, mut each, mut by_hand] = [start.clone(), start.clone(), start.clone()];
-        let mut messages = packet::messages(SETTINGS, packet).unwrap();
+        let mut messages = packet::messages(RULE, packet).unwrap();
         for i in 0..count {
-            let came = packet::fetch(SETTINGS, packet, i).unwrap();
+            let came = packet::fetch(RULE, packet, i).unwrap();
             let arrival = once.deliver_next(&mut messages).expect("one more");
             let told = (arrival.sender(), arrival.epoch(), arrival.record());
             let Envelope {
@@ -250,8 +250,8 @@ fn a_packet_in_one_pass() {
 fn a_refused_arrival_tells_which_message_it_was() {
     let mut out = [0; PACKET_MAX];
     let mut told = |me: &Laptop, words: [u32; raw::MESSAGE_WORDS]| {
-        let written = raw::pack(SETTINGS.into(), &words, b"", &mut out);
-        let mut messages = packet::messages(SETTINGS, &out[..written.len]).unwrap();
+        let written = raw::pack(RULE.into(), &words, b"", &mut out);
+        let mut messages = packet::messages(RULE, &out[..written.len]).unwrap();
         let mut laptop = me.clone();
         let arrival = laptop.deliver_next(&mut messages).unwrap();
         let message = (arrival.sender(), arrival.epoch(), arrival.record());
@@ -259,7 +259,7 @@ fn a_refused_arrival_tells_which_message_it_was() {
         assert_eq!(laptop, *me);
         (message, refusal)
     };
-    let mut me = Laptop::start(2, 0b10_0110, SETTINGS, 2).unwrap();
+    let mut me = Laptop::start(2, 0b10_0110, RULE, 2).unwrap();
     me.change_view(3, 0b10_0110).unwrap();
     // A view that it missed, and a message that is late.
     assert_eq!(
@@ -304,10 +304,10 @@ fn a_refused_arrival_tells_which_message_it_was() {
 /// What the iterator gave is passed by, and a delivery goes on behind it.
 #[test]
 fn a_message_that_was_looked_at_is_taken() {
-    let mut two = Laptop::start(2, 0b10_0110, SETTINGS, 8).unwrap();
+    let mut two = Laptop::start(2, 0b10_0110, RULE, 8).unwrap();
     let mut out = [0; PACKET_MAX];
-    let len = packet::pack(SETTINGS, saved(&[1, 2, 3]), &mut out).unwrap();
-    let mut messages = packet::messages(SETTINGS, &out[..len]).unwrap();
+    let len = packet::pack(RULE, saved(&[1, 2, 3]), &mut out).unwrap();
+    let mut messages = packet::messages(RULE, &out[..len]).unwrap();
     let mut next = || {
         two.deliver_next(&mut messages)
             .map(|a| (a.record(), messages.next()))
@@ -321,13 +321,13 @@ fn a_message_that_was_looked_at_is_taken() {
 
 #[test]
 fn a_write_by_packets() {
-    let mut net = Laptop::start(0, 0b111, SETTINGS, 2).unwrap();
-    let mut hut = Laptop::start(1, 0b111, SETTINGS, 2).unwrap();
+    let mut net = Laptop::start(0, 0b111, RULE, 2).unwrap();
+    let mut hut = Laptop::start(1, 0b111, RULE, 2).unwrap();
     let mut out = [0; PACKET_MAX];
 
     let inv = net.write(1, b"wren").unwrap();
     assert_eq!((inv.body(), inv.recipients().bits()), (&b"wren"[..], 0b110));
-    let len = packet::pack(SETTINGS, [inv], &mut out).unwrap();
+    let len = packet::pack(RULE, [inv], &mut out).unwrap();
 
     let reply = hut.deliver_packet(&out[..len], 0).unwrap();
     let ack = reply.leaving().unwrap().into_owned();
@@ -337,7 +337,7 @@ fn a_write_by_packets() {
     assert_eq!((ack.body(), ack.recipients().bits()), (&b""[..], 0b001));
     assert_eq!(hut.store(), net.store());
 
-    let len = packet::pack(SETTINGS, [ack], &mut out).unwrap();
+    let len = packet::pack(RULE, [ack], &mut out).unwrap();
     let mut taken = |packet: &[u8], i| net.deliver_packet(packet, i).map(|r| r.leaving().is_some());
     assert_eq!(taken(&out[..len], 0), Ok(false));
     assert_eq!(taken(&out[..len], 0), Err(Refusal::StrayAck));
@@ -351,14 +351,14 @@ fn a_write_by_packets() {
 #[test]
 fn the_last_acknowledgement_of_a_packet() {
     let [mut net, mut hut, mut warden] =
-        [0, 1, 2].map(|n| Laptop::start(n, 0b111, SETTINGS, 2).unwrap());
+        [0, 1, 2].map(|n| Laptop::start(n, 0b111, RULE, 2).unwrap());
     let mut out = [0; PACKET_MAX];
     let inv = net.write(1, b"wren").unwrap();
     let acks = [&mut hut, &mut warden].map(|l| {
         let reply = l.deliver(inv.arriving()).unwrap();
         reply.leaving().unwrap().into_owned()
     });
-    let len = packet::pack(SETTINGS, &acks, &mut out).unwrap();
+    let len = packet::pack(RULE, &acks, &mut out).unwrap();
     assert_eq!(net.deliver_packet(&out[..len], 0).unwrap().leaving(), None);
     let val = net.deliver_packet(&out[..len], 1).unwrap().leaving();
     let val = val.expect("the last").into_owned();
@@ -373,7 +373,7 @@ fn the_last_acknowledgement_of_a_packet() {
     assert_eq!((val.body(), val.recipients().bits()), (&b""[..], 0b110));
     assert_eq!(net.validate(1), Err(Refusal::NotFinished));
 
-    let len = packet::pack(SETTINGS, [val], &mut out).unwrap();
+    let len = packet::pack(RULE, [val], &mut out).unwrap();
     for laptop in [&mut hut, &mut warden] {
         let reply = laptop.deliver_packet(&out[..len], 0).unwrap();
         assert_eq!(reply.leaving(), None);

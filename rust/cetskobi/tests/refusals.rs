@@ -8,13 +8,13 @@ fn every_number_comes_back() {
         assert_eq!(Refusal::from_number(refusal.number()), Some(refusal));
     }
     let numbers: Vec<u8> = Refusal::ALL.iter().map(|r| r.number()).collect();
-    assert_eq!(numbers[..28], (1..=28).collect::<Vec<u8>>());
-    assert_eq!(numbers[28..], [255]);
+    assert_eq!(numbers[..27], (1..=27).collect::<Vec<u8>>());
+    assert_eq!(numbers[27..], [255]);
 }
 
 #[test]
 fn no_other_number_is_a_refusal() {
-    for number in (29..255).chain([0]) {
+    for number in (28..255).chain([0]) {
         assert_eq!(Refusal::from_number(number), None);
     }
 }

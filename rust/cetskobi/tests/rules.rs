@@ -1,5 +1,5 @@
 //! Document 02, Wish 6: the rule of ties, fixed at a group's start. To whom a tie
-//! goes, who keeps the settings, and packets of a group with the other rule.
+//! goes, who keeps the rule, and packets of a group with the other one.
 
 use cetskobi::packet::{self, PACKET_MAX};
 use cetskobi::{raw, sys, Arriving, Envelope, Laptop, Leaving, Message, Refusal, Reply};
@@ -8,19 +8,13 @@ use std::collections::VecDeque;
 
 /// Laptops 1, 2 and 5.
 const VIEW: u16 = 0b10_0110;
-/// The wait of every group here; `laptop.rs` has others.
-const WAIT: u8 = 20;
 
 fn stamp(version: u32, tie: u8) -> Timestamp {
     Timestamp { version, tie }
 }
 
-const fn of(rule: Rule) -> Settings {
-    Settings::new(rule, WAIT)
-}
-
 fn start(number: u8, rule: Rule) -> Laptop {
-    Laptop::start(number, VIEW, of(rule), 3).expect("a laptop of the first view")
+    Laptop::start(number, VIEW, rule, 3).expect("a laptop of the first view")
 }
 
 const fn other(rule: Rule) -> Rule {
@@ -34,7 +28,7 @@ const fn other(rule: Rule) -> Rule {
 const fn identity(rule: u8) -> Replica {
     Replica {
         number: 2,
-        settings: sys::Settings { rule, wait: WAIT },
+        settings: sys::Settings { rule },
         view: VIEW,
         epoch: 0,
     }
@@ -50,35 +44,28 @@ fn rules_and_settings() {
     );
     for &rule in Rule::ALL {
         assert_eq!(rule.to_string(), rule.name());
-        for wait in 0..=255 {
-            let settings = Settings::new(rule, wait);
-            assert_eq!((settings.rule, settings.wait), (rule, wait));
-            let raw = sys::Settings {
-                rule: rule.number(),
-                wait,
-            };
-            assert_eq!(sys::Settings::from(settings), raw);
-            assert_eq!(Settings::from(raw), settings);
-        }
+        assert_eq!(Settings::from(rule), Settings::new(rule));
+        assert_eq!(Settings::new(rule).rule, rule);
+        let raw = sys::Settings {
+            rule: rule.number(),
+        };
+        assert_eq!(sys::Settings::from(rule), raw);
+        assert_eq!(sys::Settings::from(Settings::new(rule)), raw);
     }
     // Every byte is a rule: the new one's number is the new one.
     for byte in 0..=255 {
-        let read = Settings::from(sys::Settings {
-            rule: byte,
-            wait: WAIT,
-        });
+        let read = Settings::from(sys::Settings { rule: byte });
         assert_eq!(read.rule == Rule::Lower, byte == 2);
-        assert_eq!(read.wait, WAIT);
     }
 }
 
-/// Settings and those of another laptop start alike; a fresh start is the same under
-/// both rules and every wait, but for the settings.
+/// A rule, settings or those of another laptop start alike; a fresh start is the
+/// same under both, but for the rule.
 #[test]
 fn a_start_takes_settings() {
     for &rule in Rule::ALL {
         let l = start(2, rule);
-        assert_eq!(l.settings(), of(rule));
+        assert_eq!(l.settings(), Settings::new(rule));
         assert_eq!(l.identity(), identity(rule.number()));
         assert_eq!(Laptop::start(2, VIEW, l.settings(), 3), Ok(l.clone()));
         assert_eq!(
@@ -86,24 +73,17 @@ fn a_start_takes_settings() {
             Ok(l.clone())
         );
         let [table, store] = [vec![9; 3 * 16], vec![9; 3 * 192]];
-        let lent = Laptop::start_in(2, VIEW, of(rule), table, store).expect("a laptop");
-        assert_eq!(lent.table(), l.table());
+        let lent = Laptop::start_in(2, VIEW, rule, table, store).expect("a laptop");
         assert_eq!((lent.settings(), lent.store()), (l.settings(), l.store()));
         assert_eq!(l.record(2).map(|r| r.timestamp), Some(stamp(0, 1)));
-        let told = format!("number: 2, rule: {rule:?}, wait: 20, epoch: 0");
-        assert!(format!("{l:?}").contains(&told));
-        for wait in 1..=255 {
-            let other = Laptop::start(2, VIEW, Settings::new(rule, wait), 3).expect("a laptop");
-            assert_eq!(other == l, wait == WAIT);
-            assert_eq!((other.table(), other.store()), (l.table(), l.store()));
-        }
+        assert!(format!("{l:?}").contains(&format!("number: 2, rule: {rule:?}, epoch: 0")));
     }
     let [old, new] = [Rule::Higher, Rule::Lower].map(|rule| start(2, rule));
     assert_ne!(old, new);
     assert_eq!((old.table(), old.store()), (new.table(), new.store()));
     for rule in [Rule::Higher, Rule::Lower] {
         assert_eq!(
-            Laptop::start(0, VIEW, of(rule), 3).err(),
+            Laptop::start(0, VIEW, rule, 3).err(),
             Some(Refusal::StruckOff)
         );
     }
@@ -115,9 +95,9 @@ fn the_settings_stay() {
     for &rule in Rule::ALL {
         let mut l = start(2, rule);
         assert_eq!(l.change_view(0, VIEW), Err(Refusal::OldEpoch));
-        assert_eq!(l.settings(), of(rule));
+        assert_eq!(l.settings().rule, rule);
         assert_eq!(l.change_view(4, VIEW), Ok(()));
-        assert_eq!((l.settings(), l.epoch()), (of(rule), 4));
+        assert_eq!((l.settings().rule, l.epoch()), (rule, 4));
         assert!(l.write(0, b"wren").is_ok());
         let inv = Envelope {
             sender: 1,
@@ -126,8 +106,7 @@ fn the_settings_stay() {
             message: Message::Inv(stamp(1, 1)),
         };
         assert!(l.deliver(Arriving::new(inv, b"robin")).is_ok());
-        assert!(l.tick(0).is_ok());
-        assert_eq!(l.settings(), of(rule));
+        assert_eq!(l.settings().rule, rule);
         // A tie goes by the same rule as before the view.
         let state = l.record(0).map(|r| r.state);
         let right = match rule {
@@ -139,7 +118,7 @@ fn the_settings_stay() {
         assert_eq!(l.change_view(5, 0b10_0010), Ok(()));
         assert_eq!(l.read(1), Err(Refusal::StruckOff));
         let (me, table, store) = l.into_parts();
-        assert_eq!(Laptop::from_parts(me, table, store).settings(), of(rule));
+        assert_eq!(Laptop::from_parts(me, table, store).settings().rule, rule);
     }
 }
 
@@ -289,7 +268,8 @@ fn ack(rule: Rule) -> [u8; 20] {
 #[test]
 fn byte_0_of_a_packet() {
     for &rule in Rule::ALL {
-        let mut five = Laptop::start(5, VIEW, of(rule), 8).unwrap();
+        let mut five = Laptop::start(5, VIEW, rule, 8).unwrap();
+        let settings = five.settings();
         let inv = Envelope {
             sender: 2,
             epoch: 0,
@@ -301,13 +281,13 @@ fn byte_0_of_a_packet() {
             .unwrap()
             .leaving()
             .unwrap();
-        for wait in [0, 1, WAIT, 255] {
-            let (mut out, settings) = ([0xee; 21], Settings::new(rule, wait));
-            assert_eq!(packet::pack(settings, [&left], &mut out), Ok(20));
+        for byte_0 in [settings, rule.into()] {
+            let mut out = [0xee; 21];
+            assert_eq!(packet::pack(byte_0, [&left], &mut out), Ok(20));
             assert_eq!((&out[..20], out[20]), (&ack(rule)[..], 0xee));
         }
         let packet = ack(rule);
-        let came = packet::fetch(of(rule), &packet, 0).unwrap();
+        let came = packet::fetch(rule, &packet, 0).unwrap();
         assert_eq!((came.envelope(), came.body()), (left.envelope(), &b""[..]));
     }
 }
@@ -322,13 +302,13 @@ fn replied(reply: Result<Reply, Refusal>) -> Result<Option<Leaving<'static>>, Re
 #[test]
 fn a_packet_of_the_other_rule_is_refused() {
     for &rule in Rule::ALL {
-        let mut l = Laptop::start(2, VIEW, of(rule), 8).unwrap();
+        let mut l = Laptop::start(2, VIEW, rule, 8).unwrap();
         assert!(l.write(7, b"wren").is_ok());
         let before = l.clone();
         let mut refused = |packet: &[u8]| {
-            let refusal = packet::messages(of(rule), packet).err();
+            let refusal = packet::messages(rule, packet).err();
             for i in [0, 1, 64, usize::MAX] {
-                assert_eq!(packet::fetch(of(rule), packet, i).err(), refusal);
+                assert_eq!(packet::fetch(rule, packet, i).err(), refusal);
                 assert_eq!(l.deliver_packet(packet, i).err(), refusal);
             }
             assert_eq!(l, before);
@@ -362,7 +342,7 @@ fn three(rule: Rule) -> Vec<u8> {
     let mut five = start(5, rule);
     let outbox = [0, 1, 2].map(|i| five.write(i, &[b'a'; 9][..3 * i]).unwrap().into_owned());
     let mut out = vec![0; PACKET_MAX];
-    let len = packet::pack(of(rule), &outbox, &mut out).unwrap();
+    let len = packet::pack(rule, &outbox, &mut out).unwrap();
     out.truncate(len);
     out
 }
@@ -401,24 +381,6 @@ fn messages_judged_by_other_settings() {
     }
 }
 
-/// A packet has no wait: one that was judged by another is taken as it is.
-#[test]
-fn messages_judged_by_another_wait() {
-    for &rule in Rule::ALL {
-        let bytes = three(rule);
-        for wait in [0, 1, 255] {
-            let mut l = start(2, rule);
-            let mut messages = packet::messages(Settings::new(rule, wait), &bytes).unwrap();
-            for record in 0..3 {
-                let arrival = l.deliver_next(&mut messages).expect("one more");
-                assert_eq!((arrival.sender(), arrival.record()), (5, record));
-                assert!(matches!(replied(arrival.reply()), Ok(Some(_))));
-            }
-            assert_eq!(l.deliver_next(&mut messages), None);
-        }
-    }
-}
-
 /// An identity whose rule is another byte of the same meaning has the same settings:
 /// its messages are taken as they were judged.
 #[test]
@@ -427,14 +389,11 @@ fn messages_for_an_identity_with_any_byte() {
     for byte in [0, 1, 3, 255] {
         let (_, table, store) = start(2, Rule::Higher).into_parts();
         let mut l = Laptop::from_parts(identity(byte), table, store);
-        let mut messages = packet::messages(of(Rule::Higher), &bytes).unwrap();
+        let mut messages = packet::messages(Rule::Higher, &bytes).unwrap();
         let arrival = l.deliver_next(&mut messages).expect("one more");
         assert_eq!((arrival.sender(), arrival.record()), (5, 0));
         assert!(arrival.reply().is_ok());
-        let settings = sys::Settings {
-            rule: byte,
-            wait: WAIT,
-        };
+        let settings = sys::Settings { rule: byte };
         assert_eq!(raw::accept(settings, &bytes).count, 3);
         assert_eq!(packet::messages(settings, &bytes).unwrap().len(), 3);
     }

@@ -5,7 +5,7 @@
 //! tests/picture.sh compares docs/states.svg with the dot.
 
 use cetskobi::{Arriving, Envelope, Laptop, Leaving, Members, Message, NotCommitted, Opened};
-use cetskobi::{Record, Refusal, Rule, Settings, State, Timestamp};
+use cetskobi::{Record, Refusal, Rule, State, Timestamp};
 use std::collections::BTreeSet;
 use std::fs;
 
@@ -14,9 +14,6 @@ const ME: u8 = 2;
 const VIEW: u16 = 38;
 const OTHERS: [u8; 2] = [1, 5];
 const STRANGER: u8 = 7;
-/// The group's wait, and how long a record that is not valid has waited.
-const WAIT: u8 = 20;
-const WAITED: u8 = 7;
 
 /// The events as the guide's table has them in its first column, and the
 /// picture at its edges. `Other` is one that both say is refused in every state.
@@ -35,14 +32,12 @@ enum Kind {
     Replay,
     ResendSelf,
     Resend,
-    Tick,
-    LastTick,
     View,
     Other(Refusal),
 }
 
 /// A kind with its words in the picture, and in the table.
-const WORDS: [(Kind, &str, &str); 16] = [
+const WORDS: [(Kind, &str, &str); 14] = [
     (Kind::Read, "read", "read"),
     (Kind::Ask, "ask", "ask"),
     (Kind::Write, "write", "write"),
@@ -80,13 +75,11 @@ const WORDS: [(Kind, &str, &str); 16] = [
     ),
     (Kind::ResendSelf, "resend", "resend"),
     (Kind::Resend, "resend", "resend"),
-    (Kind::Tick, "tick", "tick, below the wait"),
-    (Kind::LastTick, "last tick", "tick, on reaching the wait"),
     (Kind::View, "view", "view"),
 ];
 
 /// What the picture's note says of those words: the kinds above are meant so.
-const NOTE: [&str; 12] = [
+const NOTE: [&str; 9] = [
     "Commit: it brings the record's stamp.",
     "A greater INV has a greater stamp than the record, any other INV an equal or lesser one.",
     "A VAL that comes has the record's stamp.",
@@ -95,9 +88,6 @@ const NOTE: [&str; 12] = [
     "Validate: all others in the view have acknowledged.",
     "Replay: the last writer is not in the view.",
     "Resend from valid: this laptop is the last writer.",
-    "Tick: the count of ticks waited stays below the group's wait.",
-    "Last tick: it reaches the wait, and returns to 0.",
-    "A last tick replays also if the last writer is in the view.",
     "A view event leaves every record's state as it is.",
 ];
 
@@ -129,7 +119,6 @@ fn records() -> Vec<Record> {
                             written,
                             acks,
                             len: 5,
-                            waited: if state == State::Valid { 0 } else { WAITED },
                         });
                     }
                 }
@@ -154,10 +143,9 @@ fn opened(timestamp: Timestamp) -> Opened {
         written: timestamp,
         acks: Members::default(),
         len: 5,
-        waited: 0,
     };
     // No rule is asked here.
-    let opened = laptop(Settings::new(Rule::Higher, WAIT), &seen).ask(0);
+    let opened = laptop(Rule::Higher, &seen).ask(0);
     opened.expect("a valid record is opened")
 }
 
@@ -199,15 +187,14 @@ fn kind_of(rule: Rule, r: &Record, envelope: &Envelope) -> Kind {
     }
 }
 
-/// The record as the one of laptop 2 in a group with these settings.
-fn laptop(settings: Settings, r: &Record) -> Laptop {
-    let fresh = Laptop::start(ME, VIEW, settings, 1).expect("a laptop");
+/// The record as the one of laptop 2.
+fn laptop(rule: Rule, r: &Record) -> Laptop {
+    let fresh = Laptop::start(ME, VIEW, rule, 1).expect("a laptop");
     let (me, _, store) = fresh.into_parts();
     Laptop::from_parts(me, r.to_bytes().to_vec(), store)
 }
 
-/// An event of a kind on that laptop. A new stamp, or being valid, is a count of 0;
-/// otherwise only ticks change it.
+/// An event of a kind on that laptop.
 fn attempt(
     before: &Laptop,
     kind: Kind,
@@ -218,19 +205,11 @@ fn attempt(
     if answer.is_err() {
         assert_eq!(laptop, *before);
     }
-    let record = |laptop: &Laptop| laptop.record(0).expect("a record");
-    let (was, is) = (record(before), record(&laptop));
-    let waited = match kind {
-        _ if is.timestamp != was.timestamp || is.state == State::Valid => 0,
-        Kind::Tick => was.waited + 1,
-        Kind::LastTick => 0,
-        _ => was.waited,
-    };
-    assert_eq!(is.waited, waited, "{kind:?}: {was:?}");
+    let state = |laptop: &Laptop| laptop.record(0).expect("a record").state;
     Tried {
         kind,
-        from: was.state,
-        to: answer.map(|_| is.state),
+        from: state(before),
+        to: answer.map(|_| state(&laptop)),
         left: answer.unwrap_or(None),
     }
 }
@@ -249,7 +228,7 @@ fn all_tried() -> Vec<Tried> {
 fn tried_by(rule: Rule) -> Vec<Tried> {
     let mut tried = Vec::new();
     for r in records() {
-        let before = laptop(Settings::new(rule, WAIT), &r);
+        let before = laptop(rule, &r);
         let all_acknowledged = OTHERS.iter().all(|&n| r.acks.contains(n));
         let validate = match all_acknowledged {
             true => Kind::Validate,
@@ -284,17 +263,6 @@ fn tried_by(rule: Rule) -> Vec<Tried> {
         tried.push(attempt(&before, Kind::View, |l| {
             l.change_view(1, 6).map(|()| None)
         }));
-        for (kind, wait, waited) in [
-            (Kind::Tick, WAIT, WAIT - 2),
-            (Kind::LastTick, WAIT, WAIT - 1),
-            (Kind::LastTick, 1, 0),
-        ] {
-            let waited = if r.state == State::Valid { 0 } else { waited };
-            let before = laptop(Settings::new(rule, wait), &Record { waited, ..r });
-            tried.push(attempt(&before, kind, |l| {
-                Ok(l.tick(0)?.leaving().and_then(sent))
-            }));
-        }
         for m in messages() {
             let body: &[u8] = match m.message {
                 Message::Inv(_) => b"wren",
@@ -314,7 +282,6 @@ fn kinds_named(words: &str, from: State) -> Vec<Kind> {
     match words {
         "any INV comes" => return vec![Kind::InvGreater, Kind::InvNotGreater],
         "any ACK comes" => return vec![Kind::LastAck, Kind::OtherAck],
-        "any tick" => return vec![Kind::Tick, Kind::LastTick],
         // Only from valid a resend asks for the last writer: see `NOTE`.
         "resend" if from != State::Valid => return vec![Kind::Resend],
         _ => {}
@@ -376,7 +343,7 @@ fn drawn() -> BTreeSet<String> {
 #[test]
 fn a_fresh_start_is_valid() {
     for &rule in Rule::ALL {
-        let fresh = Laptop::start(ME, VIEW, Settings::new(rule, WAIT), 1).expect("a laptop");
+        let fresh = Laptop::start(ME, VIEW, rule, 1).expect("a laptop");
         assert_eq!(fresh.record(0).map(|r| r.state), Some(State::Valid));
     }
 }

@@ -18,7 +18,8 @@ pub struct Fields {
     pub written_version: u32,
     pub acks: u16,
     pub len: u8,
-    pub waited: u8,
+    /// Byte 15, which is nobody's.
+    pub unused: u8,
 }
 
 impl Fields {
@@ -36,7 +37,7 @@ impl Fields {
             written_version: number(8, 12),
             acks: number(12, 14) as u16,
             len: bytes[14],
-            waited: bytes[15],
+            unused: bytes[15],
         }
     }
 
@@ -53,7 +54,7 @@ impl Fields {
         bytes[12] = self.acks as u8;
         bytes[13] = (self.acks >> 8) as u8;
         bytes[14] = self.len;
-        bytes[15] = self.waited;
+        bytes[15] = self.unused;
         bytes
     }
 
@@ -66,12 +67,11 @@ impl Fields {
             last_write: Timestamp::new(self.written_version, self.written_tie),
             acks: self.acks,
             len: self.len,
-            waited: self.waited,
         })
     }
 
-    /// Of the model's record.
-    pub fn of_record(record: &Record) -> Fields {
+    /// Of the model's record, with this byte 15.
+    pub fn of_record(record: &Record, unused: u8) -> Fields {
         let state = State::ALL.iter().position(|&state| state == record.state);
         Fields {
             state: state.expect("one of all") as u8,
@@ -82,7 +82,7 @@ impl Fields {
             written_version: record.last_write.version,
             acks: record.acks,
             len: record.len,
-            waited: record.waited,
+            unused,
         }
     }
 
@@ -108,14 +108,14 @@ pub fn rule_of(settings: Settings) -> Rule {
 
 /// The model's settings.
 pub fn model_of(settings: Settings) -> engine::Settings {
-    let (rule, wait) = (rule_of(settings), settings.wait);
-    engine::Settings { rule, wait }
+    let rule = rule_of(settings);
+    engine::Settings { rule }
 }
 
-/// The settings of a group with this rule, by its number, and this wait.
-pub fn settings_of(rule: Rule, wait: u8) -> Settings {
+/// The settings of a group with this rule, by its number.
+pub fn settings_of(rule: Rule) -> Settings {
     let rule = rule.byte();
-    Settings { rule, wait }
+    Settings { rule }
 }
 
 /// The rule that the group does not have.

@@ -81,8 +81,6 @@ pub struct Tally {
     pub replayed: [u64; 2],
     /// INVs that a write sent, and a commit (02, Wish 5), with their bytes.
     pub saved: [u64; 2],
-    /// INVs that a tick sent (02, Wish 7): by a replay, and again.
-    pub ticked: [u64; 2],
 }
 
 /// Random events of the usual count.
@@ -107,9 +105,6 @@ pub fn compare(settings: &Settings, other: Leaving) -> Result<Tally, Box<Found<C
                 let state = case.event.record.state;
                 if case.event.event == Event::Replay && case.kind == 1 && seen.was_sent {
                     tally.replayed[usize::from(state == 2)] += 1;
-                }
-                if case.event.event == Event::Tick && case.kind == 1 && seen.was_sent {
-                    tally.ticked[usize::from(state >= 3)] += 1;
                 }
                 let by = [Kind::Write, Kind::Commit];
                 let by = by.iter().position(|&kind| kind == case.event.kind());
@@ -154,7 +149,7 @@ fn difference(bench: &mut single::Bench, case: &Case, other: Leaving) -> Result<
     Ok(Seen {
         len: a.1,
         was_sent: outcome.sent == (left.kind, left.tie, left.version),
-        sound: record.is_some_and(|record| record.is_sound(me.number, me.settings.wait))
+        sound: record.is_some_and(|record| record.is_sound(me.number))
             && memory.store().len() == 12 * memory.table().len(),
     })
 }

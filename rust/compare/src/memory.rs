@@ -60,9 +60,12 @@ impl Memory {
         }
     }
 
-    /// Record `i` becomes that of the model.
+    /// Record `i` becomes that of the model. Its last byte, which is nobody's,
+    /// stays.
     pub fn move_record(&mut self, i: usize, record: &Record) {
-        self.put_record(i, &Fields::of_record(record));
+        if let Some(before) = self.record(i) {
+            self.put_record(i, &Fields::of_record(record, before.unused));
+        }
     }
 
     pub fn put_slot(&mut self, i: usize, slot: &Slot) {

@@ -67,15 +67,13 @@ fn random_deliveries() {
             assert!(tally.later >= 100);
             each_case("foreign facts", &tally.foreign, 1000);
             // Its own questions, also 12: nobody has asked 22.
-            let answers = [0, 28, 1, 2, 3, 4, 5, 10, 11, 12, 13, 14];
+            let answers = [0, 1, 2, 3, 4, 5, 10, 11, 12, 13, 14];
             often("an entry's delivery answers", &tally.entries, &answers, 100);
             println!("{:8} entries that 22 was not asked of", tally.unasked);
             assert!(tally.unasked >= 1000);
-            // 02, Wish 6: the rarest is 27 before 21, some 120 under each rule.
+            // 02, Wish 6: the rarest is 27 before 21, some 130 under each rule.
             tally.heads.often(&[0, 21, 22, 23], 50);
             assert!(tally.own[27] >= 5000);
-            // 02, Wish 7: 8,242 and 4,386.
-            assert!(tally.own[28] >= 4000 && tally.entries[28] >= 2000);
             println!("ties by each rule, not taken and taken: {:?}", tally.ties);
             assert!(tally.ties.as_flattened().iter().all(|&times| times >= 1500));
             println!("{:8} entries of the other rule", tally.unruled);
@@ -91,7 +89,7 @@ fn random_deliveries() {
 #[test]
 fn a_full_packet() {
     for rule in Rule::ALL {
-        full_packet(settings_of(rule, 1), &full(rule));
+        full_packet(settings_of(rule), &full(rule));
     }
 }
 
@@ -104,8 +102,7 @@ fn full_packet(group: Group, packet: &[u8]) {
         assert_eq!(raw::fetch_accepted(packet, own, i), fetched);
     }
     for rule in 0..=255 {
-        // The wait plays no part: any, 0 too.
-        let other = Group { rule, wait: rule };
+        let other = Group { rule };
         let by_other = raw::accept(other, packet);
         assert_eq!(by_other, facts::by_model(other, packet));
         if rule_of(other) == rule_of(group) {
@@ -240,7 +237,7 @@ fn wrong_readers() {
 fn by_its_own(group: Group, packet: &[u8], numbers: &[u8]) -> Accepted {
     let right = facts::by_model(group, packet);
     let rule = packet.first().copied().unwrap_or(0);
-    let own = facts::by_model(Group { rule, ..group }, packet);
+    let own = facts::by_model(Group { rule }, packet);
     match right.number == 27 && numbers.contains(&own.number) {
         true => own,
         false => right,

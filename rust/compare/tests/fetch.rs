@@ -7,8 +7,8 @@ use compare::packet::packet_of;
 use compare::settings::Settings;
 use model::engine::Rule;
 
-const OLD: Group = Group { rule: 1, wait: 1 };
-const NEW: Group = Group { rule: 2, wait: 0 };
+const OLD: Group = Group { rule: 1 };
+const NEW: Group = Group { rule: 2 };
 
 fn often(tally: &Tally) {
     println!("{} packets, {} damaged", tally.packets, tally.damaged);
@@ -75,10 +75,9 @@ fn number(group: Group, packet: &[u8], i: usize) -> u8 {
 #[test]
 fn every_byte_0_by_every_rule() {
     let mut packet = packet_of(Rule::Higher, &ringing()).expect("the paper's packet");
-    let mut counts = [0; 29];
+    let mut counts = [0; 28];
     for rule in 0..=255 {
-        // The wait plays no part: any, 0 too.
-        let group = Group { rule, wait: rule };
+        let group = Group { rule };
         for byte in 0..=255 {
             packet[0] = byte;
             let named = Rule::of_byte(byte);
@@ -134,7 +133,7 @@ fn packets_of_1400_and_1401() {
         assert_eq!(packet.len(), 1400);
         let last = by_engine(group, &packet, 6);
         assert_eq!((last.number, last.at, last.len), (0, 1268, 132));
-        let other = settings_of(other_rule(rule_of(group)), group.wait);
+        let other = settings_of(other_rule(rule_of(group)));
         assert_eq!(number(other, &packet, 6), 27);
         // The same with a last body of 133 bytes.
         packet.push(7);
@@ -206,11 +205,7 @@ fn wrong_readers() {
 
 /// What a group with the packet's own rule answers.
 fn by_its_own(packet: &[u8], i: usize) -> Fetched {
-    let group = Group {
-        rule: packet[0],
-        wait: 1,
-    };
-    by_model(group, packet, i)
+    by_model(Group { rule: packet[0] }, packet, i)
 }
 
 /// 27 is asked after this question: of the other rule the packet gets the question's

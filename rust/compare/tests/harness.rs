@@ -1,7 +1,7 @@
 //! The comparison can fail: wrong models are found, and the case that shows it
 //! is small.
 
-use cetskobi::raw::{Message, RECORD_BYTES};
+use cetskobi::raw::{Message, Settings as Group, RECORD_BYTES};
 use compare::bytes::Bytes;
 use compare::crossing::{rule_of, Fields};
 use compare::memory::Memory;
@@ -131,7 +131,6 @@ fn settling(case: &Case, memory: &mut Memory, settles: fn(&Fields, u16) -> bool)
         );
         let (version, tie) = record.stamp();
         record.state = if settled { 0 } else { case.record.state };
-        record.waited = if settled { 0 } else { case.record.waited };
         outcome.sent = if settled {
             (3, tie, version)
         } else {
@@ -461,7 +460,7 @@ fn by_rule(case: &Case, memory: &mut Memory, rule: u8) -> Outcome {
         return by_model(case, memory);
     };
     let mut other = case.clone();
-    other.me.settings.rule = rule;
+    other.me.settings = Group { rule };
     let me = case.me;
     Outcome {
         me,
@@ -546,7 +545,6 @@ fn ordered(
             tie,
             writer: sender,
             len: value.len() as u8,
-            waited: 0,
             ..held
         };
         memory.put_record(case.i, &taken);
@@ -761,325 +759,37 @@ fn bytes_that_are_no_record_are_rewritten() {
     assert_eq!(case.record, no_state);
 }
 
-// Document 02, Wish 7: wrong ticks, counts and waits.
-
-/// An accepted event of this kind, after which a wrong model makes another record of it.
-fn counting(case: &Case, memory: &mut Memory, kind: Kind, made: fn(&Case, &mut Fields)) -> Outcome {
-    let outcome = by_model(case, memory);
-    let moved = case.kind() == kind && outcome.number == 0;
-    if let Some(mut record) = memory.record(case.i).filter(|_| moved) {
-        made(case, &mut record);
-        memory.put_record(case.i, &record);
-    }
-    outcome
-}
-
-/// What keeps the count, or sets it to 0, against the rule: the case has waited one
-/// tick of two.
 #[test]
-fn a_count_is_kept_or_set_to_0() {
-    fn keeps(case: &Case, memory: &mut Memory, kind: Kind) -> Outcome {
-        counting(case, memory, kind, |case, record| {
-            record.waited = case.record.waited;
-        })
-    }
-    fn resets(case: &Case, memory: &mut Memory, kind: Kind) -> Outcome {
-        counting(case, memory, kind, |_, record| record.waited = 0)
-    }
-    let wrongs: [(Play, Kind); 11] = [
-        (|c, m| keeps(c, m, Kind::Write), Kind::Write),
-        (|c, m| keeps(c, m, Kind::Inv), Kind::Inv),
-        (|c, m| keeps(c, m, Kind::Ack), Kind::Ack),
-        (|c, m| keeps(c, m, Kind::Val), Kind::Val),
-        (|c, m| keeps(c, m, Kind::Validate), Kind::Validate),
-        (|c, m| keeps(c, m, Kind::Tick), Kind::Tick),
-        (|c, m| resets(c, m, Kind::Replay), Kind::Replay),
-        (|c, m| resets(c, m, Kind::Resend), Kind::Resend),
-        (|c, m| resets(c, m, Kind::Inv), Kind::Inv),
-        (|c, m| resets(c, m, Kind::Ack), Kind::Ack),
-        (|c, m| resets(c, m, Kind::View), Kind::View),
-    ];
-    for (wrong, kind) in wrongs {
-        let case = caught(wrong);
-        assert_eq!((case.kind(), case.table, case.i), (kind, RECORD_BYTES, 0));
-        let (waited, wait) = (case.record.waited, case.me.settings.wait);
-        match kind {
-            Kind::Tick => assert!((waited, wait) == (0, 2) || (waited, wait) == (1, 2)),
-            // A view looks at no record.
-            Kind::View => assert_eq!(waited, 1),
-            _ => assert_eq!((waited, wait), (1, 2), "{kind:?}"),
+fn the_last_byte_of_a_record_moves() {
+    fn wrong(case: &Case, memory: &mut Memory) -> Outcome {
+        let outcome = by_model(case, memory);
+        if let (Event::Write { .. }, 0) = (&case.event, outcome.number) {
+            memory.lend().0[RECORD_BYTES * case.i + 15] = 0;
         }
+        outcome
     }
-}
-
-/// A fresh start leaves byte 15 as it was.
-#[test]
-fn a_start_keeps_the_count() {
-    let kept = |case: &Case, memory: &mut Memory| {
-        counting(case, memory, Kind::Start, |case, record| {
-            record.waited = case.record.waited;
-        })
-    };
-    let case = caught(kept);
-    one_record(&case);
-    assert_eq!((case.event, case.record.waited), (Event::Start, 1));
-}
-
-/// A tick by the wrong models below: the case, on one record.
-fn tick_by(wrong: Play) -> Case {
     let case = caught(wrong);
     one_record(&case);
-    assert_eq!(case.event, Event::Tick);
-    case
-}
-
-/// A tick by the model with another wait than the group's.
-fn by_wait(case: &Case, memory: &mut Memory, wait: u8) -> Outcome {
-    let mut other = case.clone();
-    other.me.settings.wait = wait;
-    let me = case.me;
-    match (&case.event, by_model(case, &mut memory.clone()).number) {
-        (Event::Tick, 0) => Outcome {
-            me,
-            ..by_model(&other, memory)
-        },
-        _ => by_model(case, memory),
-    }
-}
-
-#[test]
-fn a_tick_acts_too_soon() {
-    let case = tick_by(|case, memory| match case.me.settings.wait {
-        wait if wait > case.record.waited + 1 => by_wait(case, memory, wait - 1),
-        _ => by_model(case, memory),
-    });
-    assert_eq!((case.record.waited, case.me.settings.wait), (0, 2));
-    assert_ne!(case.record.state, 0);
-}
-
-/// The count grows to the wait, and is no record's any more; with a wait of 255 it
-/// grows to 255.
-#[test]
-fn a_tick_acts_too_late() {
-    let late = |case: &Case, memory: &mut Memory| match case.me.settings.wait {
-        0 | 255 => by_model(case, memory),
-        wait => by_wait(case, memory, wait + 1),
+    let last = Fields {
+        unused: 1,
+        ..Fields::default()
     };
-    let case = tick_by(late);
-    assert_eq!((case.record.waited, case.me.settings.wait), (0, 1));
-    fn past(case: &Case, memory: &mut Memory) -> Outcome {
-        let mut outcome = by_model(case, memory);
-        if case.kind() == Kind::Tick && outcome.sent.0 != 0 && case.record.waited == 254 {
-            let waited = 255;
-            let record = Fields {
-                waited,
-                ..case.record
-            };
-            memory.put_record(case.i, &record);
-            outcome.sent = (0, 0, 0);
-        }
-        outcome
-    }
-    let case = tick_by(past);
-    assert_eq!((case.record.waited, case.me.settings.wait), (254, 255));
-}
-
-/// It wraps at 16, say, and never reaches a long wait.
-#[test]
-fn a_count_wraps() {
-    let case =
-        tick_by(|case, memory| counting(case, memory, Kind::Tick, |_, record| record.waited %= 16));
-    assert_eq!((case.record.waited, case.me.settings.wait), (15, 17));
+    assert_eq!(case.record, last);
 }
 
 #[test]
-fn a_valid_record_counts() {
-    let case = tick_by(|case, memory| {
-        counting(case, memory, Kind::Tick, |case, record| {
-            let more = case.record.waited + 1;
-            let below = more < case.me.settings.wait;
-            if record.state == 0 && below {
-                record.waited = more;
-            }
-        })
-    });
-    assert_eq!((case.record.state, case.me.settings.wait), (0, 2));
-}
-
-/// On reaching the wait a valid record sends its VAL again.
-#[test]
-fn a_valid_record_sends() {
-    let case = tick_by(|case, memory| {
-        let mut outcome = by_model(case, memory);
-        let valid = case.kind() == Kind::Tick && outcome.number == 0 && case.record.state == 0;
-        if valid && case.me.settings.wait == 1 && case.record.writer == case.me.number {
-            let (version, tie) = case.record.stamp();
-            outcome.sent = (3, tie, version);
-        }
-        outcome
-    });
-    assert_eq!((case.record.state, case.me.settings.wait), (0, 1));
-}
-
-/// A write is replayed too: its acknowledgements are gone.
-#[test]
-fn a_tick_replays_a_write() {
-    let case = tick_by(|case, memory| {
+fn a_start_clears_the_last_bytes() {
+    fn wrong(case: &Case, memory: &mut Memory) -> Outcome {
         let outcome = by_model(case, memory);
-        if case.kind() == Kind::Tick && outcome.sent.0 == 1 && case.record.state == 3 {
-            let replayed = Fields {
-                state: 4,
-                writer: case.me.number,
-                written_version: case.record.version,
-                written_tie: case.record.tie,
-                acks: 0,
-                waited: 0,
-                ..case.record
-            };
-            memory.put_record(case.i, &replayed);
-        }
-        outcome
-    });
-    assert_eq!((case.record.state, case.me.settings.wait), (3, 1));
-}
-
-/// What a wrong model keeps of the record that a tick replays.
-#[test]
-fn a_tick_keeps_what_a_replay_does_not() {
-    type Keep = fn(&Case, &mut Fields);
-    fn keeping(case: &Case, memory: &mut Memory, keep: Keep) -> Outcome {
-        counting(case, memory, Kind::Tick, keep)
-    }
-    fn acks(case: &Case, memory: &mut Memory) -> Outcome {
-        keeping(case, memory, |case, record| record.acks = case.record.acks)
-    }
-    fn stamp(case: &Case, memory: &mut Memory) -> Outcome {
-        keeping(case, memory, |case, record| {
-            (record.written_version, record.written_tie) = case.record.written();
-        })
-    }
-    fn writer(case: &Case, memory: &mut Memory) -> Outcome {
-        keeping(case, memory, |case, record| {
-            record.writer = case.record.writer;
-        })
-    }
-    for wrong in [acks as Play, stamp, writer] {
-        let case = tick_by(wrong);
-        assert_eq!((case.record.state, case.me.settings.wait), (1, 1));
-    }
-}
-
-/// A tick asks 16, as a replay by hand does.
-#[test]
-fn a_tick_asks_for_the_writer() {
-    let case = tick_by(|case, memory| {
-        let before = memory.clone();
-        let outcome = by_model(case, memory);
-        let replayed = case.kind() == Kind::Tick && outcome.sent.0 == 1 && case.record.state < 3;
-        if replayed && case.me.view >> case.record.writer & 1 == 1 {
-            memory.clone_from(&before);
-            let (number, sent) = (16, (0, 0, 0));
-            return Outcome {
-                number,
-                sent,
-                ..outcome
-            };
-        }
-        outcome
-    });
-    assert_eq!((case.record.state, case.me.settings.wait), (1, 1));
-}
-
-/// Question 5 does not look at the count of a valid record; nor at one that is the wait.
-#[test]
-fn a_count_is_not_asked_after() {
-    fn lets(case: &Case, memory: &mut Memory, so: fn(&Fields, u8) -> bool) -> Outcome {
-        let outcome = by_model(case, memory);
-        if outcome.number == 5 && so(&case.record, case.me.settings.wait) {
-            let mut other = memory.clone();
-            let mut sound = case.record;
-            sound.waited = 0;
-            other.put_record(case.i, &sound);
-            return by_model(case, &mut other);
+        if (&case.event, outcome.number) == (&Event::Start, 0) {
+            let records = memory.lend().0.as_chunks_mut::<RECORD_BYTES>().0;
+            records.iter_mut().for_each(|record| record[15] = 0);
         }
         outcome
     }
-    let valid = |case: &Case, memory: &mut Memory| lets(case, memory, |r, _| r.state == 0);
-    let case = caught(valid);
+    let case = caught(wrong);
     one_record(&case);
-    assert_eq!((case.record.state, case.record.waited), (0, 1));
-    let equal = |case: &Case, memory: &mut Memory| {
-        lets(case, memory, |r, wait| r.state != 0 && r.waited == wait)
-    };
-    let case = caught(equal);
-    one_record(&case);
-    assert_eq!((case.record.waited, case.me.settings.wait), (1, 1));
-}
-
-/// 28 is asked after 1, by each kind of event; or not at all.
-#[test]
-fn the_wait_is_asked_too_late() {
-    fn late(case: &Case, memory: &mut Memory, kind: Kind) -> Outcome {
-        let mut outcome = by_model(case, memory);
-        let nobody = case.me.number > 15 || case.me.view.count_ones() < 2;
-        if outcome.number == 28 && case.kind() == kind && nobody {
-            outcome.number = 1;
-        }
-        outcome
-    }
-    let wrongs: [(Play, Kind); 14] = [
-        (|c, m| late(c, m, Kind::Start), Kind::Start),
-        (|c, m| late(c, m, Kind::View), Kind::View),
-        (|c, m| late(c, m, Kind::Read), Kind::Read),
-        (|c, m| late(c, m, Kind::Write), Kind::Write),
-        (|c, m| late(c, m, Kind::Ask), Kind::Ask),
-        (|c, m| late(c, m, Kind::Commit), Kind::Commit),
-        (|c, m| late(c, m, Kind::Replay), Kind::Replay),
-        (|c, m| late(c, m, Kind::Inv), Kind::Inv),
-        (|c, m| late(c, m, Kind::Ack), Kind::Ack),
-        (|c, m| late(c, m, Kind::Val), Kind::Val),
-        (|c, m| late(c, m, Kind::Unknown), Kind::Unknown),
-        (|c, m| late(c, m, Kind::Validate), Kind::Validate),
-        (|c, m| late(c, m, Kind::Resend), Kind::Resend),
-        (|c, m| late(c, m, Kind::Tick), Kind::Tick),
-    ];
-    for (wrong, kind) in wrongs {
-        let case = caught(wrong);
-        assert_eq!((case.kind(), case.me.settings.wait), (kind, 0));
-    }
-    let never = |case: &Case, memory: &mut Memory| match case.me.settings.wait {
-        0 => {
-            let mut other = case.clone();
-            other.me.settings.wait = 1;
-            by_model(&other, memory)
-        }
-        _ => by_model(case, memory),
-    };
-    assert_eq!(caught(never).me.settings.wait, 0);
-}
-
-/// A start or a view that has another wait than was passed, accepted and refused.
-#[test]
-fn an_identity_has_another_wait() {
-    fn after(case: &Case, memory: &mut Memory, kind: Kind, refused: bool) -> Outcome {
-        let mut outcome = by_model(case, memory);
-        if case.kind() == kind && (outcome.number != 0) == refused {
-            outcome.me.settings.wait = 1;
-        }
-        outcome
-    }
-    for (wrong, kind) in [
-        (
-            (|c, m| after(c, m, Kind::Start, false)) as Play,
-            Kind::Start,
-        ),
-        (|c, m| after(c, m, Kind::Start, true), Kind::Start),
-        (|c, m| after(c, m, Kind::View, false), Kind::View),
-        (|c, m| after(c, m, Kind::View, true), Kind::View),
-    ] {
-        let case = admission_by(wrong, kind);
-        assert_ne!(case.me.settings.wait, 1);
-    }
+    assert_eq!((case.event, case.record.unused), (Event::Start, 1));
 }
 
 #[test]

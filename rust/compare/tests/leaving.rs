@@ -14,12 +14,10 @@ fn after_random_events() {
             assert!(tally.kinds.iter().all(|&times| times >= 1000));
             assert!(tally.sent[1..].iter().all(|&times| times >= 1000));
             assert!(tally.last >= 1000);
-            // Some 3,000 of each.
+            // Some 3,100 of each.
             assert!(tally.replayed.iter().all(|&times| times >= 2000));
-            // Writes and, 02, Wish 5, commits: 5,833 and 5,009.
+            // Writes and, 02, Wish 5, commits: 6,397 and 5,463.
             assert!(tally.saved.iter().all(|&times| times >= 3500));
-            // 02, Wish 7: INVs of ticks, 1,519 by a replay and 1,450 again.
-            assert!(tally.ticked.iter().all(|&times| times >= 700));
             assert!(tally.bodies >= 1000 && tally.gone.iter().all(|&times| times >= 1000));
         }
         Err(found) => panic!("{settings}\n{found}"),

@@ -4,8 +4,8 @@ use std::ptr::{null, null_mut};
 
 use cetskobi::sys::{self, Accepted, Answer, Message, Replica, Settings, GONE};
 
-/// Of a group with the new rule of ties (02, Wish 6) and a wait (Wish 7).
-const GROUP: Settings = Settings { rule: 2, wait: 1 };
+/// Of a group with the new rule of ties (02, Wish 6).
+const GROUP: Settings = Settings { rule: 2 };
 
 const ME: Replica = Replica {
     number: 0,
@@ -49,7 +49,6 @@ fn no_memory() {
         assert_eq!(sys::cetskobi_replay(ME, t, 0, s, 0, 0).number, 2);
         assert_eq!(sys::cetskobi_validate(ME, t, 0, s, 0, 0).number, 2);
         assert_eq!(sys::cetskobi_resend(ME, t, 0, s, 0, 0).number, 2);
-        assert_eq!(sys::cetskobi_tick(ME, t, 0, s, 0, 0).number, 2);
         let delivered = sys::cetskobi_deliver(ME, t, 0, s, 0, 0, INV, null(), 0);
         assert_eq!(delivered.number, 2);
         let packet = PACKET.as_ptr();

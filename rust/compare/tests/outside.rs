@@ -58,7 +58,7 @@ impl Fenced {
 /// How often each answer came.
 #[derive(Default)]
 struct Tally {
-    own: [u64; 29],
+    own: [u64; 28],
     foreign: [u64; 5],
     /// Values that were taken from a packet.
     taken: u64,
@@ -151,7 +151,7 @@ fn pages_that_may_not_be_read() {
     }
     // Every length, to the last byte of each.
     for rule in Rule::ALL {
-        let (group, full) = (settings_of(rule, 1), fetch::full(rule));
+        let (group, full) = (settings_of(rule), fetch::full(rule));
         for len in 0..full.len() {
             let packet = (&full[..len], &full[..]);
             look(&mut tally, &mut rng, &mut page, group, packet);

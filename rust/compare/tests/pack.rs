@@ -17,7 +17,7 @@ fn random_lists() {
             println!("{:8} of 1,400 bytes", tally.full);
             println!("{:8} of 1,401 bytes", tally.over);
             assert!(tally.full >= 100 && tally.over >= 100);
-            // 02, Wish 6: 94,183 and 93,545 were counted. Each was refused by 27 in a
+            // 02, Wish 6: 93,541 and 93,693 were counted. Each was refused by 27 in a
             // group with the other rule.
             println!("{:?} under the rules", tally.rules);
             assert!(tally.rules.iter().all(|&times| times >= 50_000));
@@ -33,8 +33,7 @@ fn the_papers_packet() {
     // 02, Wish 6: byte 0 is the number of the group's rule, and every byte is a rule.
     for rule in 0..=255 {
         packet[0] = if rule == 2 { 2 } else { 1 };
-        // The wait plays no part: any, 0 too.
-        let group = Group { rule, wait: rule };
+        let group = Group { rule };
         for pack in [by_engine, by_model] {
             let mut out = [9; 21];
             let ack = [2, 5, 0, 7, 1, 2, 0];
@@ -61,7 +60,7 @@ fn packets_of_1400_and_1401() {
             (by_model, 1),
             (by_model, 2),
         ] {
-            let group = Group { rule, wait: 0 };
+            let group = Group { rule };
             let written = pack(group, words.as_flattened(), &bodies, &mut [9; 1500]);
             assert_eq!((written.number, written.len), (number, len));
         }
@@ -110,7 +109,7 @@ fn wrong_writers() {
 #[test]
 fn wrong_rules_are_written() {
     fn always_1(_: Group, words: &[u32], bodies: &[u8], out: &mut [u8]) -> Written {
-        by_model(Group { rule: 1, wait: 1 }, words, bodies, out)
+        by_model(Group { rule: 1 }, words, bodies, out)
     }
     let case = caught(always_1);
     assert_eq!((case.settings.rule, case.out), (2, 20));

@@ -1,8 +1,8 @@
 //! The rows of document 01, "From the ringing table", and of document 02's Wishes
-//! 1, 2 and 5 to 7, the last acknowledgement, the record hung after two saves, the
-//! record that is asked for and saved, ties that go to the lower number, and laptops
-//! that wait, one by one, in the engine and in the model. Document 01's keep the old
-//! rule of ties. The rows of packets stand in `fetch` and `pack`.
+//! 1, 2, 5 and 6, the last acknowledgement, the record hung after two saves, the
+//! record that is asked for and saved, and ties that go to the lower number, one by
+//! one, in the engine and in the model. Document 01's keep the old rule of ties. The
+//! rows of packets stand in `fetch` and `pack`.
 
 use cetskobi::raw::{Message, Replica, Settings};
 use compare::bytes::Bytes;
@@ -37,14 +37,10 @@ fn set(numbers: &[u8]) -> u16 {
     numbers.iter().fold(0, |set, number| set | 1 << number)
 }
 
-/// What lies in every byte of the table before.
+/// What lies in every byte of the table before. Byte 15 of each record keeps it.
 const OLD: u8 = 0xde;
 
-/// The group's wait, unless a row says another.
-const WAIT: u8 = 3;
-
-/// A record: state, stamp, last writer, last-write stamp, acknowledgements, length. It
-/// has waited no tick.
+/// A record: state, stamp, last writer, last-write stamp, acknowledgements, length.
 const fn record(
     state: u8,
     (version, tie): (u32, u8),
@@ -62,7 +58,7 @@ const fn record(
         written_version,
         acks,
         len,
-        waited: 0,
+        unused: OLD,
     }
 }
 
@@ -78,10 +74,6 @@ struct Laptop {
 const HIGHER: u8 = 1;
 const LOWER: u8 = 2;
 
-fn group(rule: u8) -> Settings {
-    Settings { rule, wait: WAIT }
-}
-
 impl Laptop {
     /// Laptop 2, view {1,2,5}, in memory that was not clean before.
     fn lent(count: usize) -> Laptop {
@@ -95,7 +87,7 @@ impl Laptop {
         Laptop {
             me: Replica {
                 number: 2,
-                settings: group(rule),
+                settings: Settings { rule },
                 view: set(&[1, 2, 5]),
                 epoch: 0,
             },
@@ -643,217 +635,6 @@ fn records_4095_and_4096() {
     assert_eq!(laptop.engine.record(4095), Some(fresh));
 }
 
-/// Document 02, Wish 7: record 0 of 2 is so, in a group with this wait.
-fn waiting(wait: u8, record: Fields) -> Laptop {
-    let mut laptop = Laptop::fresh();
-    laptop.me.settings.wait = wait;
-    laptop.lay(&record);
-    laptop
-}
-
-/// A fresh start sets the count to 0, and gives the wait back as it was passed.
-#[test]
-fn a_start_by_each_wait() {
-    for wait in [1, 2, 254, 255] {
-        let mut laptop = Laptop::lent(2);
-        laptop.me.settings.wait = wait;
-        assert_eq!(laptop.play(0, Event::Start), DONE);
-        assert_eq!(laptop.me.settings.wait, wait);
-        let fresh = record(VALID, (0, 1), 1, (0, 1), 0, 0);
-        assert_eq!(laptop.engine.record(1), Some(fresh));
-    }
-    // No wait: 28, before 1, 2 and 3.
-    for (number, count) in [(2, 1), (16, 1), (2, 0), (0, 1)] {
-        let mut laptop = Laptop::lent(count);
-        (laptop.me.number, laptop.me.settings.wait) = (number, 0);
-        let asked_for = laptop.me;
-        let refused = laptop.outcome(0, Event::Start);
-        assert_eq!((refused.number, refused.me), (28, asked_for));
-    }
-}
-
-#[test]
-fn ticks_of_a_valid_record() {
-    for wait in [1, 2, 255] {
-        let mut laptop = waiting(wait, SHOWN);
-        for _ in 0..300 {
-            assert_eq!(laptop.play(0, Event::Tick), DONE);
-        }
-        assert_eq!(laptop.record(), SHOWN);
-    }
-}
-
-/// A write and a replay send their INV again, and nothing else of them changes.
-#[test]
-fn ticks_of_a_write_and_a_replay() {
-    for state in [WRITE, REPLAY] {
-        for wait in [1, 2, 3, 254, 255] {
-            let held = record(state, (1, 2), 2, (1, 2), 1 << 5, 2);
-            let mut laptop = waiting(wait, held);
-            for _ in 0..2 {
-                for waited in 1..wait {
-                    assert_eq!(laptop.play(0, Event::Tick), DONE);
-                    assert_eq!(laptop.record(), Fields { waited, ..held });
-                }
-                assert_eq!(laptop.play(0, Event::Tick), sent(INV, 1, 2));
-                assert_eq!(laptop.record(), held);
-            }
-        }
-    }
-}
-
-/// Invalid and invalid-write are replayed, the last writer being in the view or not.
-#[test]
-fn ticks_of_an_invalid_record() {
-    for state in [INVALID, INVALID_WRITE] {
-        for wait in [1, 2, 3, 254, 255] {
-            for writer in [5, 1, 2, 7] {
-                let held = record(state, (1, 5), writer, (1, 2), 1 << 1, 1);
-                let mut laptop = waiting(wait, held);
-                for waited in 1..wait {
-                    assert_eq!(laptop.play(0, Event::Tick), DONE);
-                    assert_eq!(laptop.record(), Fields { waited, ..held });
-                }
-                assert_eq!(laptop.play(0, Event::Tick), sent(INV, 1, 5));
-                assert_eq!(laptop.record(), GIVEN_UP);
-                // Then the INV again.
-                for _ in 1..wait {
-                    assert_eq!(laptop.play(0, Event::Tick), DONE);
-                }
-                assert_eq!(laptop.play(0, Event::Tick), sent(INV, 1, 5));
-                assert_eq!(laptop.record(), GIVEN_UP);
-            }
-        }
-    }
-}
-
-/// The VAL of 5's save is lost: 2 replays it, 5 and 1 acknowledge.
-#[test]
-fn a_lost_validation() {
-    let mut laptop = Laptop::fresh();
-    assert_eq!(laptop.deliver(5, (INV, 1, 5), b"B"), sent(ACK, 1, 5));
-    assert_eq!(laptop.play(0, Event::Replay), refused(16));
-    assert_eq!(laptop.play(0, Event::Tick), DONE);
-    assert_eq!(laptop.play(0, Event::Tick), DONE);
-    assert_eq!(laptop.play(0, Event::Tick), sent(INV, 1, 5));
-    assert_eq!(laptop.record(), GIVEN_UP);
-    assert_eq!(laptop.deliver(5, (ACK, 1, 5), b""), DONE);
-    assert_eq!(laptop.deliver(1, (ACK, 1, 5), b""), sent(VAL, 1, 5));
-    assert_eq!(laptop.read(0), Some(b"B".to_vec()));
-    assert_eq!(laptop.play(0, Event::Tick), DONE);
-    assert_eq!(laptop.record().waited, 0);
-}
-
-/// The own save of an invalid-write is given up by a tick too: an acknowledgement of
-/// it, of this very epoch, is none.
-#[test]
-fn an_overtaken_save_is_given_up_by_a_tick() {
-    let mut laptop = overtaken();
-    laptop.me.settings.wait = 1;
-    assert_eq!(laptop.play(0, Event::Tick), sent(INV, 1, 5));
-    assert_eq!(laptop.record(), GIVEN_UP);
-    assert_eq!(laptop.deliver(5, (ACK, 1, 2), b""), refused(13));
-    assert_eq!(laptop.deliver(1, (ACK, 1, 5), b""), DONE);
-    assert_eq!(laptop.deliver(5, (ACK, 1, 5), b""), sent(VAL, 1, 5));
-}
-
-/// The count after this event on a record in this state, which had waited 2 of 3 ticks.
-fn count_after(state: u8, acks: u16, event: impl Fn(&mut Laptop) -> Answer) -> u8 {
-    let held = record(state, (1, 5), 7, (1, 2), acks, 1);
-    let mut laptop = waiting(3, Fields { waited: 2, ..held });
-    assert_eq!(event(&mut laptop).0, 0);
-    laptop.record().waited
-}
-
-/// A new stamp, or becoming valid, sets the count to 0; all else leaves it.
-#[test]
-fn what_a_count_comes_to() {
-    let every = [INVALID, INVALID_WRITE, WRITE, REPLAY];
-    assert_eq!(count_after(INVALID, 0, |l| l.write(0, b"C")), 0);
-    for state in every {
-        assert_eq!(
-            count_after(state, 0, |l| l.deliver(1, (INV, 2, 1), b"C")),
-            0
-        );
-        assert_eq!(count_after(state, 0, |l| l.deliver(1, (VAL, 1, 5), b"")), 0);
-        assert_eq!(
-            count_after(state, 0, |l| l.deliver(1, (INV, 1, 5), b"B")),
-            2
-        );
-        assert_eq!(
-            count_after(state, 0, |l| l.deliver(1, (INV, 1, 1), b"A")),
-            2
-        );
-        assert_eq!(count_after(state, 0, |l| l.view(1, &[1, 2])), 2);
-    }
-    for state in [WRITE, REPLAY] {
-        let last = count_after(state, 1 << 1, |l| l.deliver(5, (ACK, 1, 2), b""));
-        let first = count_after(state, 0, |l| l.deliver(5, (ACK, 1, 2), b""));
-        assert_eq!((last, first), (0, 2));
-        let all = set(&[1, 5]);
-        assert_eq!(count_after(state, all, |l| l.play(0, Event::Validate)), 0);
-        assert_eq!(count_after(state, 0, |l| l.play(0, Event::Resend)), 2);
-    }
-    let of_own = |l: &mut Laptop| l.deliver(5, (ACK, 1, 2), b"");
-    assert_eq!(count_after(INVALID_WRITE, 1 << 1, of_own), 2);
-    for state in [INVALID, INVALID_WRITE] {
-        // 7, the last writer, is in no view.
-        assert_eq!(count_after(state, 0, |l| l.play(0, Event::Replay)), 2);
-    }
-}
-
-/// Question 5: the count is below the wait, and 0 when valid.
-#[test]
-fn counts_that_are_not_sound() {
-    for (state, wait, waited, answer) in [
-        (VALID, 1, 0, 0),
-        (VALID, 1, 1, 5),
-        (VALID, 255, 1, 5),
-        (VALID, 255, 255, 5),
-        (WRITE, 1, 0, 0),
-        (WRITE, 1, 1, 5),
-        (REPLAY, 3, 2, 0),
-        (REPLAY, 3, 3, 5),
-        (INVALID, 3, 4, 5),
-        (INVALID_WRITE, 254, 254, 5),
-        (INVALID, 255, 254, 0),
-        (INVALID, 255, 255, 5),
-    ] {
-        let held = record(state, (1, 5), 5, (1, 2), 0, 1);
-        let mut laptop = waiting(wait, Fields { waited, ..held });
-        let what = format!("{waited} of {wait} at {state}");
-        assert_eq!(laptop.play(0, Event::Tick).0, answer, "{what}");
-    }
-}
-
-/// No wait: 28, before 1, by every event on a record and by a view.
-#[test]
-fn no_wait() {
-    let held = record(INVALID, (1, 5), 7, (1, 2), 0, 1);
-    for number in [2, 16] {
-        let mut laptop = waiting(0, held);
-        laptop.me.number = number;
-        for event in [
-            Event::Read,
-            Event::Ask,
-            Event::Replay,
-            Event::Validate,
-            Event::Resend,
-            Event::Tick,
-        ] {
-            assert_eq!(laptop.play(0, event), refused(28));
-        }
-        assert_eq!(laptop.write(0, b"C"), refused(28));
-        assert_eq!(laptop.commit(0, (1, 5), b"C"), refused(28));
-        for kind in [INV, ACK, VAL, 0] {
-            assert_eq!(laptop.deliver(5, (kind, 1, 5), b""), refused(28));
-        }
-        assert_eq!(laptop.view(1, &[1, 2]), refused(28));
-        assert_eq!(laptop.record(), held);
-        assert_eq!((laptop.me.settings.wait, laptop.me.epoch), (0, 0));
-    }
-}
-
 /// Document 02, Wish 6: under both rules a fresh record has the lowest number in the
 /// view. The start names the rule, whatever byte is passed; also a refused one.
 #[test]
@@ -861,14 +642,14 @@ fn a_start_by_each_rule() {
     for (byte, named) in [(1, 1), (2, 2), (0, 1), (3, 1), (128, 1), (255, 1)] {
         let laptop = Laptop::fresh_by(byte);
         assert_eq!(laptop.record(), record(VALID, (0, 1), 1, (0, 1), 0, 0));
-        assert_eq!(laptop.me.settings, group(named));
+        assert_eq!(laptop.me.settings, Settings { rule: named });
 
         for (number, count, answer) in [(16, 1, 1), (2, 0, 2), (0, 1, 3)] {
             let mut laptop = Laptop::lent_by(byte, count);
             laptop.me.number = number;
             laptop.me.epoch = 7;
             let asked_for = Replica {
-                settings: group(named),
+                settings: Settings { rule: named },
                 epoch: 0,
                 ..laptop.me
             };
@@ -886,14 +667,14 @@ fn a_view_by_each_rule() {
         laptop.me.settings.rule = byte;
         for (epoch, numbers, answer) in [(0, &[1, 2][..], 18), (1, &[1], 19), (1, &[1, 3], 19)] {
             assert_eq!(laptop.view(epoch, numbers), refused(answer));
-            assert_eq!(laptop.me.settings, group(byte));
+            assert_eq!(laptop.me.settings, Settings { rule: byte });
         }
         assert_eq!(laptop.view(1, &[1, 2]), DONE);
-        assert_eq!(laptop.me.settings, group(named));
+        assert_eq!(laptop.me.settings, Settings { rule: named });
         // And from then on.
         assert_eq!(laptop.view(3, &[1, 2]), DONE);
         assert_eq!(laptop.view(3, &[1, 2]), refused(18));
-        assert_eq!(laptop.me.settings, group(named));
+        assert_eq!(laptop.me.settings, Settings { rule: named });
     }
 }
 

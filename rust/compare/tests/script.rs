@@ -113,15 +113,6 @@ fn no_line_asks_or_commits() {
     assert_eq!(played(script.as_bytes()), printed);
 }
 
-/// Nor does Wish 7: a record waits for ever, and a replay asks for its writer.
-#[test]
-fn no_line_ticks() {
-    let script = "group 2\ntick 0\ntick\ntick 0 0\nwrite 0 A\ndeliver 1 0\ntick 0\ntick 1\n\
-                  replay 1\nread 1";
-    let printed = "?\n?\n?\n0 W 1 0 0\n0 I 1 0 1\n?\n?\n16 I 1 0 -\n6 I 1 0 -\n";
-    assert_eq!(played(script.as_bytes()), printed);
-}
-
 #[test]
 fn limits() {
     // 65,536 bytes of line feeds and of reads; one byte more is beyond.

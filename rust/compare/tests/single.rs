@@ -16,7 +16,7 @@ fn random_events() {
             assert!(tally.total() >= 1_000_000);
             assert_eq!(tally.stray(), 0);
             assert!(tally.least() >= 100, "some answer is rare:\n{tally}");
-            // Some 26,000 are accepted at invalid, and at invalid-write; and some 4,400
+            // Some 28,000 are accepted at invalid, and at invalid-write; and some 5,000
             // refused there, the last writer being in the view.
             let [invalid, invalid_write] = tally.replays();
             for [accepted, refused] in [invalid, invalid_write] {
@@ -24,20 +24,15 @@ fn random_events() {
             }
             tally.opened_often();
             tally.tied_often();
-            tally.ticked_often();
         }
         Err(found) => panic!("{settings}\n{found}"),
     }
 }
 
-/// Laptop 2 with view {1,2,5} at epoch 9, in a group with the old rule. Of its wait the
-/// record below has one tick to go.
+/// Laptop 2 with view {1,2,5} at epoch 9, in a group with the old rule.
 const ME: Replica = Replica {
     number: 2,
-    settings: Group {
-        rule: 1,
-        wait: 0xab,
-    },
+    settings: Group { rule: 1 },
     view: 0b10_0110,
     epoch: 9,
 };
@@ -52,18 +47,8 @@ const RECORD: Fields = Fields {
     written_version: 0x3132_3334,
     acks: 0x8122,
     len: 62,
-    waited: 0xaa,
+    unused: 0xaa,
 };
-
-/// The same in this state. A valid record has waited no tick.
-fn held(state: u8) -> Fields {
-    let waited = if state == 0 { 0 } else { RECORD.waited };
-    Fields {
-        state,
-        waited,
-        ..RECORD
-    }
-}
 
 /// Every event on a record, with the messages that this one takes.
 fn events() -> Vec<Event> {
@@ -92,7 +77,6 @@ fn events() -> Vec<Event> {
         Event::Replay,
         Event::Validate,
         Event::Resend,
-        Event::Tick,
         deliver(1, RECORD.stamp(), b"wing 63"),
         deliver(1, (RECORD.version + 1, 0), b"wing 64"),
         // Ties: each rule takes one of them.
@@ -121,15 +105,12 @@ fn every_byte_of_a_record() {
     let mut accepted = [0; 2];
     for (event, rule) in events().into_iter().flat_map(|e| [(e.clone(), 1), (e, 2)]) {
         let me = Replica {
-            settings: Group {
-                rule,
-                ..ME.settings
-            },
+            settings: Group { rule },
             ..ME
         };
         for (state, place) in (0..5).flat_map(|s| (0..RECORD_BYTES).map(move |k| (s, k))) {
             for value in 0..=u8::MAX {
-                let mut bytes = held(state).bytes();
+                let mut bytes = Fields { state, ..RECORD }.bytes();
                 bytes[place] = value;
                 let mut case = Case::on(me, 1, event.clone());
                 case.lend(3);
@@ -157,21 +138,17 @@ fn every_byte_of_a_rule() {
     let (mut admitted, mut kept, mut ties) = (0, 0, [0; 2]);
     for rule in 0..=u8::MAX {
         let me = Replica {
-            settings: Group {
-                rule,
-                ..ME.settings
-            },
+            settings: Group { rule },
             ..ME
         };
         let named = Group {
             rule: if rule == 2 { 2 } else { 1 },
-            ..ME.settings
         };
         for (event, state) in all.iter().flat_map(|e| (0..5).map(move |s| (e, s))) {
             let mut case = Case::on(me, 1, event.clone());
             case.lend(3);
             case.part = 1;
-            case.record = held(state);
+            case.record = Fields { state, ..RECORD };
             // As `event` leaves it in the engine.
             let mut memory = bench.lay(&case).clone();
             by_engine(&case, &mut memory);
@@ -205,60 +182,4 @@ fn every_byte_of_a_rule() {
     }
     assert_eq!((admitted, ties), (256 * 5 * 2, [256 * 5; 2]));
     assert!(kept >= 256 * 5 * 10);
-}
-
-/// 02, Wish 7: every wait with every count, at every state, for a tick; and every wait
-/// for every event, at counts around it.
-#[test]
-fn every_wait() {
-    let settings = Settings::from_env();
-    let mut bench = Bench::new(&mut settings.rng("every wait"));
-    let view = |epoch| Event::View { epoch, set: 0b110 };
-    let all = [events(), vec![view(ME.epoch), view(ME.epoch + 1)]].concat();
-    // Of ticks: valid, below the wait, on reaching it, refused by 5, refused by 28.
-    let mut ticks = [0; 5];
-    for wait in 0..=u8::MAX {
-        let group = Group {
-            wait,
-            ..ME.settings
-        };
-        let me = Replica {
-            settings: group,
-            ..ME
-        };
-        let mut on = |event: &Event, state, waited| {
-            let mut case = Case::on(me, 0, event.clone());
-            case.lend(1);
-            case.record = Fields {
-                state,
-                waited,
-                ..RECORD
-            };
-            same(&settings, &mut bench, case)
-        };
-        for (state, waited) in (0..5).flat_map(|s| (0..=u8::MAX).map(move |n| (s, n))) {
-            let outcome = on(&Event::Tick, state, waited);
-            let at = match (outcome.number, outcome.sent.0) {
-                (0, 0) if state == 0 => 0,
-                (0, 0) => 1,
-                (0, _) => 2,
-                (5, _) => 3,
-                _ => 4,
-            };
-            ticks[at] += 1;
-        }
-        let around = [0, 1, wait.wrapping_sub(1), wait, wait.wrapping_add(1), 255];
-        for (event, state) in all.iter().flat_map(|e| (0..5).map(move |s| (e, s))) {
-            for waited in around {
-                let outcome = on(event, state, waited);
-                assert_eq!(outcome.number == 28, wait == 0);
-                assert_eq!(outcome.me.settings.wait, wait);
-            }
-        }
-    }
-    // Of 255 waits: all counts below the wait are sound, of a valid record 0 alone.
-    let sound = 4 * (1..=255).sum::<u64>();
-    let reached = 4 * 255;
-    let refused = 255 * 5 * 256 - 255 - sound;
-    assert_eq!(ticks, [255, sound - reached, reached, refused, 5 * 256]);
 }

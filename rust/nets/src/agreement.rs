@@ -179,14 +179,13 @@ mod tests {
             writer: 0,
             written: timestamp,
             acks: Members::default(),
-            waited: 0,
             len: 1,
         };
         let mut store = vec![0; Record::VALUE_MAX];
         store[0] = byte;
         let me = Replica {
             number,
-            settings: cetskobi::Settings::new(Rule::Lower, 8).into(),
+            settings: Rule::Lower.into(),
             view,
             epoch: 0,
         };

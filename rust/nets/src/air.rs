@@ -6,41 +6,30 @@ use crate::Tick;
 /// Ticks of an hour.
 const HOUR: u64 = 3600;
 
-/// The packets while birds come, and each laptop's bytes of them.
+/// The bytes of each laptop's packets while birds come.
 #[derive(Clone, Debug, PartialEq, Eq)]
 pub(crate) struct Air {
     until: Tick,
     bytes: Vec<u64>,
-    packets: u64,
 }
 
 impl Air {
     /// So many laptops; birds come until this tick.
     pub fn new(laptops: u8, until: Tick) -> Air {
         let bytes = vec![0; laptops.into()];
-        Air {
-            until,
-            bytes,
-            packets: 0,
-        }
+        Air { until, bytes }
     }
 
     /// A laptop sends a packet of this length.
     pub fn sent(&mut self, now: Tick, from: u8, len: usize) {
         if now < self.until {
             self.bytes[usize::from(from)] += len as u64;
-            self.packets += 1;
         }
     }
 
     /// Bytes an hour of all laptops together.
     pub fn group(&self) -> u64 {
         self.hourly(self.bytes.iter().sum(), 1)
-    }
-
-    /// Packets an hour of all laptops together.
-    pub fn packets(&self) -> u64 {
-        self.hourly(self.packets, 1)
     }
 
     /// Bytes an hour of a laptop, on average.
@@ -76,7 +65,7 @@ mod tests {
         air.sent(7, 2, 1400);
         // No more birds come.
         air.sent(1800, 2, 1);
-        assert_eq!((air.group(), air.packets()), (7600, 8));
+        assert_eq!(air.group(), 7600);
         // 2,533 and a third
         assert_eq!(air.average(), 2533);
         assert_eq!(air.busiest(), (1, 2800));

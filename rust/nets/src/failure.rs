@@ -77,13 +77,6 @@ pub enum Cause {
         /// The other one.
         loser: Timestamp,
     },
-    /// A tick did something else than the group's wait asks (document 02, Wish 7).
-    WrongTick {
-        /// The record.
-        record: usize,
-        /// The laptop.
-        laptop: u8,
-    },
     /// A packet of the other station, whose group has the other rule, was not refused
     /// by 27, or something changed.
     TakenIn {
@@ -130,7 +123,6 @@ impl Cause {
             | Cause::Untold { record, .. }
             | Cause::Twice { record, .. }
             | Cause::WrongTie { record, .. }
-            | Cause::WrongTick { record, .. }
             | Cause::TakenIn { record, .. }
             | Cause::Refused { record, .. } => *record,
         }
@@ -185,9 +177,6 @@ impl fmt::Display for Cause {
                 loser,
             } => {
                 write!(f, "laptop {laptop} heard of two saves of record {record} with one version, {winner} and {loser}, and the first does not stand there")
-            }
-            Cause::WrongTick { record, laptop } => {
-                write!(f, "a tick of record {record} at laptop {laptop} did not do what the group's wait asks")
             }
             Cause::TakenIn { record, laptop } => {
                 write!(f, "laptop {laptop} did not refuse by 27 a packet of the other station, about record {record}, or changed by it")

@@ -40,12 +40,11 @@ mod tests {
             writer: timestamp.tie,
             written: SAVED,
             acks: Members::default(),
-            waited: 0,
             len: 0,
         };
         let me = Replica {
             number: 0,
-            settings: cetskobi::Settings::new(Rule::Lower, 8).into(),
+            settings: Rule::Lower.into(),
             view,
             epoch: 1,
         };

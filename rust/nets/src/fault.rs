@@ -1,7 +1,7 @@
 //! Deliberate faults. Each breaks a premise of the agreement (docs/AGREEMENT.md)
 //! or a rule of the guide, so that the checks can be seen to fail.
 
-use cetskobi::{packet, raw, Message, Settings};
+use cetskobi::{packet, raw, Message, Rule};
 use model::rng::Rng;
 
 /// What is broken.
@@ -16,10 +16,8 @@ pub enum Fault {
     Sender,
     /// Hut software drops validations.
     Val,
-    /// Hut software drops acknowledgements.
-    Ack,
-    /// Hut software neither replays from invalid-write nor ticks there: no laptop
-    /// could do so before document 02's Wishes 2 and 7.
+    /// Hut software never replays from invalid-write, as no laptop could before
+    /// document 02's Wish 2.
     Replay,
     /// Hut software refuses the saves of one record in seven.
     Save,
@@ -36,12 +34,6 @@ pub enum Fault {
     Tie,
     /// Hut software takes the rule from the packet and not from the group.
     Byte,
-    /// The last laptop is started with another wait (document 02, Wish 7).
-    Wait,
-    /// Hut software never ticks.
-    Tick,
-    /// Hut software ticks, and drops what leaves.
-    Mute,
 }
 
 impl Fault {
@@ -56,7 +48,6 @@ impl Fault {
             "epoch" => Ok(Fault::Epoch),
             "sender" => Ok(Fault::Sender),
             "val" => Ok(Fault::Val),
-            "ack" => Ok(Fault::Ack),
             "replay" => Ok(Fault::Replay),
             "save" => Ok(Fault::Save),
             "blind" => Ok(Fault::Blind),
@@ -64,11 +55,8 @@ impl Fault {
             "rule" => Ok(Fault::Rule),
             "tie" => Ok(Fault::Tie),
             "byte" => Ok(Fault::Byte),
-            "wait" => Ok(Fault::Wait),
-            "tick" => Ok(Fault::Tick),
-            "mute" => Ok(Fault::Mute),
             _ => Err(
-                "--fault: text, epoch, sender, val, ack, replay, save, blind, forget, rule, tie, byte, wait, tick or mute"
+                "--fault: text, epoch, sender, val, replay, save, blind, forget, rule, tie or byte"
                     .to_owned(),
             ),
         }
@@ -81,7 +69,7 @@ const ALTERED: usize = 20;
 /// The packet as a faulty link hands it on.
 pub(crate) fn in_flight(
     fault: Fault,
-    settings: Settings,
+    rule: Rule,
     bytes: &[u8],
     laptops: u8,
     rng: &mut Rng,
@@ -91,8 +79,8 @@ pub(crate) fn in_flight(
         return None;
     }
     let mut out = bytes.to_vec();
-    let accepted = raw::accept(settings.into(), bytes);
-    for (k, m) in packet::messages(settings, bytes).ok()?.enumerate() {
+    let accepted = raw::accept(rule.into(), bytes);
+    for (k, m) in packet::messages(rule, bytes).ok()?.enumerate() {
         match (fault, m.envelope().message) {
             (Fault::Text, Message::Inv(_)) if !m.body().is_empty() => {
                 out[raw::fetch_accepted(bytes, accepted, k).at] ^= 1;

@@ -6,7 +6,6 @@ use std::fmt;
 use crate::layout::{grouped, line, line_of, seconds};
 use crate::report::Report;
 use crate::spread::Spread;
-use crate::Tick;
 
 /// A morning's figures.
 pub(crate) struct Figures<'a>(pub &'a Report);
@@ -25,13 +24,11 @@ impl Figures<'_> {
         let heading = ["number", "median", "95 of 100", "worst"].map(str::to_owned);
         row(f, "", heading, "")?;
         let remark = "every laptop of the view has it";
-        row(f, "save to finished", cells(&times.finished), remark)?;
+        row(f, "save to finished", cells(times.finished), remark)?;
         let remark = "a later save of another laptop stands";
-        row(f, "save to replaced", cells(&times.replaced), remark)?;
-        let remark = "the record is valid at every laptop in service";
-        row(f, "save to all huts", cells(&times.everywhere), remark)?;
+        row(f, "save to replaced", cells(times.replaced), remark)?;
         let remark = "at one laptop";
-        row(f, "record unreadable", cells(&times.unreadable), remark)
+        row(f, "record unreadable", cells(times.unreadable), remark)
     }
 
     fn leftovers(&self, f: &mut fmt::Formatter<'_>) -> fmt::Result {
@@ -61,19 +58,15 @@ impl Figures<'_> {
 
     /// The part of the record-time that is unreadable, to a thousandth of a percent.
     fn share(&self) -> String {
-        share(self.0.unreadable())
+        let all = self.0.times.served * self.0.settings.records as u64;
+        let share = (self.0.times.dark * 100_000 + all / 2) / all.max(1);
+        format!("{}.{:03} %", share / 1000, share % 1000)
     }
 }
 
-/// So much of all, to a thousandth of a percent.
-pub(crate) fn share([part, all]: [u64; 2]) -> String {
-    let share = (part * 100_000 + all / 2) / all.max(1);
-    format!("{}.{:03} %", share / 1000, share % 1000)
-}
-
 /// How many, and three durations.
-fn cells(durations: &[Tick]) -> [String; 4] {
-    match Spread::of(durations) {
+fn cells(spread: Option<Spread>) -> [String; 4] {
+    match spread {
         None => ["0", "-", "-", "-"].map(str::to_owned),
         Some(s) => [
             grouped(s.count as u64),

@@ -3,8 +3,8 @@
 
 use cetskobi::packet::{self, Messages};
 use cetskobi::{Arriving, Envelope, Laptop, Leaving, Members, Message, Opened, Record, Refusal};
-use cetskobi::{Reply, State};
-use std::collections::{BTreeMap, BTreeSet};
+use cetskobi::{Reply, Rule, State};
+use std::collections::BTreeMap;
 
 use crate::agreement::Agreement;
 use crate::failure::Cause;
@@ -12,7 +12,6 @@ use crate::history::{kind_of, Answer, Event, History, Kind};
 use crate::opening::Openings;
 use crate::saves::{Save, Saves};
 use crate::settings::Settings;
-use crate::ticks::{self, Ticks};
 use crate::ties::Ties;
 use crate::times::Times;
 use crate::{holdings, Tick};
@@ -55,10 +54,6 @@ impl EventCounts {
 /// The group under watch.
 pub(crate) struct Group {
     laptops: Vec<Laptop>,
-    /// The settings of the group, with which all its laptops are to be started.
-    pub settings: cetskobi::Settings,
-    /// At each laptop the records that are not valid.
-    waiting: Vec<BTreeSet<usize>>,
     pub agreement: Agreement,
     openings: Openings,
     pub history: History,
@@ -66,9 +61,8 @@ pub(crate) struct Group {
     pub times: Times,
     pub saves: Saves,
     pub ties: Ties,
-    pub ticks: Ticks,
     pub now: Tick,
-    /// When a record, but for its count of ticks, or a view last changed.
+    /// When a record or a view last changed.
     pub last_change: Tick,
     /// The record that changed last.
     pub last_changed: usize,
@@ -113,8 +107,6 @@ impl Group {
             .collect();
         Ok(Group {
             laptops: laptops?,
-            settings: settings.of_group(),
-            waiting: vec![BTreeSet::new(); settings.laptops.into()],
             agreement: Agreement::new(settings.records, settings.rule),
             openings: Openings::new(settings.rule),
             history: History::new(settings.records),
@@ -122,7 +114,6 @@ impl Group {
             times: Times::new(settings.ticks),
             saves: Saves::default(),
             ties: Ties::new(settings.rule),
-            ticks: Ticks::default(),
             now: 0,
             last_change: 0,
             last_changed: 0,
@@ -133,10 +124,9 @@ impl Group {
         &self.laptops[usize::from(number)]
     }
 
-    /// The records of a laptop that are not valid.
-    pub fn waiting(&self, number: u8) -> Vec<usize> {
-        let waiting = &self.waiting[usize::from(number)];
-        waiting.iter().copied().collect()
+    /// The group's rule of ties.
+    pub fn rule(&self) -> Rule {
+        self.ties.rule
     }
 
     /// The lower half of the numbers, which belong to the ringers in charge: those
@@ -243,49 +233,6 @@ impl Group {
         self.watched(number, i, Kind::Resend, None, answer)
     }
 
-    /// A tick of a record that is not valid (document 02, Wish 7). One that only counts
-    /// is compared with what it is to do, and not remembered: state, timestamp and text
-    /// stand, and with them all that was checked before.
-    pub fn tick(&mut self, number: u8, i: usize) -> Watched {
-        let before = self.record(number, i);
-        let text = self.bytes(number, i);
-        let answer = self.act(number, i, |l| replied(l.tick(i)));
-        let (laptop, wait) = (&self.laptops[usize::from(number)], self.settings.wait);
-        let right = match (&answer, before) {
-            (Ok(left), Some(before)) => {
-                let (after, leaves) = ticks::due(number, wait, before);
-                let inv = |left: &Leaving| ticks::is_inv(left, laptop, i, after);
-                laptop.record(i) == Some(after)
-                    && left.is_some() == leaves
-                    && left.iter().all(inv)
-                    && text == self.bytes(number, i)
-            }
-            _ => false,
-        };
-        let acted = right && before.is_some_and(|r| self.ticks.ticked(laptop, wait, r));
-        let struck_off = before.is_some_and(|r| !laptop.view().contains(r.writer));
-        if acted && struck_off && before.map(|r| r.state) == Some(State::InvalidWrite) {
-            self.counts.given_up += 1;
-        }
-        if !right || acted {
-            let _ = self.watched(number, i, Kind::Tick, None, answer.clone())?;
-        }
-        match right {
-            true => Ok(answer),
-            false => Err(Cause::WrongTick {
-                record: i,
-                laptop: number,
-            }),
-        }
-    }
-
-    /// A tick of every record of every laptop, on copies.
-    pub fn tick_whole_tables(&self) -> Result<(), Cause> {
-        let wait = self.settings.wait;
-        let mut laptops = self.laptops.iter();
-        laptops.try_for_each(|l| ticks::whole_table(l, wait))
-    }
-
     /// The next message of a packet; None when there are no more.
     pub fn deliver_next(
         &mut self,
@@ -389,15 +336,9 @@ impl Group {
         let before = self.record(number, i);
         let answer = event(self.laptop_mut(number));
         let after = self.record(number, i);
-        let but_ticks = |r: Option<Record>| r.map(|r| Record { waited: 0, ..r });
-        if but_ticks(before) != but_ticks(after) {
+        if before != after {
             (self.last_change, self.last_changed) = (self.now, i);
         }
-        let waiting = &mut self.waiting[usize::from(number)];
-        match after.is_some_and(|r| r.state != State::Valid) {
-            true => waiting.insert(i),
-            false => waiting.remove(&i),
-        };
         if let (Some(before), Some(after)) = (before, after) {
             self.times.moved(self.now, number, i, before, after);
             if (before.state, after.state) == (State::Write, State::InvalidWrite) {
@@ -464,12 +405,6 @@ impl Group {
         }
     }
 
-    /// The 192 bytes of a record's text.
-    fn bytes(&self, number: u8, i: usize) -> [u8; Record::VALUE_MAX] {
-        let bytes = ticks::text(self.laptop(number), i, Record::VALUE_MAX);
-        bytes.try_into().unwrap_or([0; Record::VALUE_MAX])
-    }
-
     fn laptop_mut(&mut self, number: u8) -> &mut Laptop {
         &mut self.laptops[usize::from(number)]
     }
@@ -480,7 +415,7 @@ mod tests {
     use super::*;
     use crate::agreement::Disagreement;
     use crate::fault::Fault;
-    use cetskobi::{Rule, Timestamp};
+    use cetskobi::Timestamp;
 
     const SAVED: Timestamp = Timestamp { version: 1, tie: 0 };
 

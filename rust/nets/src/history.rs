@@ -17,13 +17,11 @@ pub(crate) enum Kind {
     Validate,
     Replay,
     Resend,
-    /// Of a record that is not valid, and on reaching the wait.
-    Tick,
     View,
 }
 
 impl Kind {
-    pub const ALL: [Kind; 9] = [
+    pub const ALL: [Kind; 8] = [
         Kind::Ask,
         Kind::Commit,
         Kind::Write,
@@ -31,7 +29,6 @@ impl Kind {
         Kind::Validate,
         Kind::Replay,
         Kind::Resend,
-        Kind::Tick,
         Kind::View,
     ];
 
@@ -44,7 +41,6 @@ impl Kind {
             Kind::Validate => "validate",
             Kind::Replay => "replay",
             Kind::Resend => "resend",
-            Kind::Tick => "tick",
             Kind::View => "view",
         }
     }

@@ -4,10 +4,9 @@ use cetskobi::{Laptop, Record};
 
 use crate::layout::{table, Side};
 
-const HEADING: [&str; 13] = [
+const HEADING: [&str; 11] = [
     "laptop",
     "ties to",
-    "wait",
     "epoch",
     "view",
     "state",
@@ -15,23 +14,20 @@ const HEADING: [&str; 13] = [
     "last writer",
     "last write",
     "acknowledged",
-    "waited",
     "bytes",
     "text",
 ];
 
-const SIDES: [Side; 13] = [
+const SIDES: [Side; 11] = [
     Side::Right,
     Side::Left,
     Side::Right,
-    Side::Right,
     Side::Left,
     Side::Left,
     Side::Left,
     Side::Right,
     Side::Left,
     Side::Left,
-    Side::Right,
     Side::Right,
     Side::Left,
 ];
@@ -43,13 +39,12 @@ pub(crate) fn of(laptops: &[Laptop], record: usize) -> Vec<String> {
     table(SIDES, &rows)
 }
 
-fn row(laptop: &Laptop, i: usize) -> [String; 13] {
+fn row(laptop: &Laptop, i: usize) -> [String; 11] {
     let held = laptop.record(i);
     let cell = |of: fn(&Record) -> String| held.as_ref().map_or("-".to_owned(), of);
     [
         laptop.number().to_string(),
         laptop.settings().rule.to_string(),
-        laptop.settings().wait.to_string(),
         laptop.epoch().to_string(),
         laptop.view().to_string(),
         held.map_or("no record".to_owned(), |r| r.state.to_string()),
@@ -57,7 +52,6 @@ fn row(laptop: &Laptop, i: usize) -> [String; 13] {
         cell(|r| r.writer.to_string()),
         cell(|r| r.written.to_string()),
         cell(|r| r.acks.to_string()),
-        cell(|r| r.waited.to_string()),
         cell(|r| r.len.to_string()),
         held.map_or("-".to_owned(), |r| text(laptop, i, r.len.into())),
     ]
@@ -92,7 +86,7 @@ mod tests {
         };
         let me = Replica {
             number,
-            settings: cetskobi::Settings::new(rule, number + 9).into(),
+            settings: rule.into(),
             view,
             epoch,
         };
@@ -112,13 +106,11 @@ mod tests {
             writer: 7,
             written: Timestamp { version: 9, tie: 2 },
             acks: Members::from(0b10_0010),
-            waited: 10,
             len: 6,
         };
         let valid = Record {
             state: State::Valid,
             acks: Members::default(),
-            waited: 0,
             len: 4,
             ..record
         };
@@ -130,10 +122,10 @@ mod tests {
             laptop(7, 0b1010_0110, 0, broken, b"Wren"),
         ];
         let right = [
-            "laptop  ties to  wait  epoch  view       state          timestamp  last writer  last write  acknowledged  waited  bytes  text",
-            "     2  lower      11      0  {1,2,5,7}  invalid-write  (12,7)               7  (9,2)       {1,5}             10      6  \"Wren\\n\\\"\"",
-            "     5  lower      14     17  {1,2,5}    valid          (12,7)               7  (9,2)       {}                 0      4  \"Wren\", and 2 of the bytes behind it are not 0",
-            "     7  higher     16      0  {1,2,5,7}  no record      -                    -  -           -                  -      -  -",
+            "laptop  ties to  epoch  view       state          timestamp  last writer  last write  acknowledged  bytes  text",
+            "     2  lower        0  {1,2,5,7}  invalid-write  (12,7)               7  (9,2)       {1,5}             6  \"Wren\\n\\\"\"",
+            "     5  lower       17  {1,2,5}    valid          (12,7)               7  (9,2)       {}                4  \"Wren\", and 2 of the bytes behind it are not 0",
+            "     7  higher       0  {1,2,5,7}  no record      -                    -  -           -                 -  -",
         ];
         assert_eq!(of(&laptops, 1), right);
     }

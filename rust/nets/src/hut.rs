@@ -1,5 +1,7 @@
 //! The software at one hut, as docs/GUIDE.md has it: what it does with what
-//! comes, and its ticks. It looks at no other laptop than its own.
+//! comes, and when it tries again. It looks at no other laptop than its own.
+
+use std::collections::BTreeMap;
 
 use cetskobi::packet::{self, Messages};
 use cetskobi::{Arriving, Envelope, Leaving, Members, Message, Opened, Refusal, Rule};
@@ -10,25 +12,29 @@ use crate::fate::{self, Fate};
 use crate::fault::Fault;
 use crate::group::{Came, Group, Left, Watched};
 use crate::outbox::Outbox;
-use crate::settings::{Clock, Settings};
 use crate::Tick;
 
-mod old;
+/// Ticks until a message goes again: each wait is twice the one before, up to
+/// the most, which goes on without end.
+const WAIT_FIRST: Tick = 8;
+const WAIT_INV: Tick = 32;
+/// No wait of a hut is longer than a VAL's.
+pub(crate) const WAIT_VAL: Tick = 1024;
 
-use old::Waits;
-pub(crate) use old::WAIT_VAL;
+/// When a record is tried again, and how long that wait was.
+#[derive(Clone, Copy, Debug)]
+struct Timer {
+    due: Tick,
+    wait: Tick,
+}
 
 /// The hut of one laptop.
 pub(crate) struct Hut {
     number: u8,
-    /// By which its software reads and writes packets: those of its group.
-    settings: cetskobi::Settings,
+    /// By which its software reads and writes packets: that of its group.
+    rule: Rule,
     outbox: Outbox,
-    /// Its own waits, if it has the old clock.
-    old: Option<Waits>,
-    /// Records that wait for another laptop have every so many-th tick only; 1 spares
-    /// none.
-    sparing: Tick,
+    timers: BTreeMap<usize, Timer>,
     /// The last epoch that was greater than the laptop's own, since its view; 0 if none came.
     heard: u32,
     /// Since when a view is missing here.
@@ -42,17 +48,16 @@ pub(crate) struct Hut {
 pub(crate) type Done = Result<(), Cause>;
 
 impl Hut {
-    pub fn new(number: u8, settings: &Settings) -> Hut {
+    pub fn new(number: u8, rule: Rule, fault: Option<Fault>) -> Hut {
         Hut {
             number,
-            settings: settings.spoken_at(number),
+            rule,
             outbox: Outbox::default(),
-            old: (settings.clock == Clock::Hut).then(Waits::default),
-            sparing: settings.sparing.into(),
+            timers: BTreeMap::new(),
             heard: 0,
             missing: None,
             missed: Vec::new(),
-            fault: settings.fault,
+            fault,
         }
     }
 
@@ -78,7 +83,7 @@ impl Hut {
         let stamp =
             |left: &Option<Leaving>| left.as_ref().map(|l| l.envelope().message.timestamp());
         let saved = answer.as_ref().map(stamp).map_err(|refusal| *refusal);
-        self.put(group, i, answer);
+        self.put_again(group, i, answer, WAIT_FIRST);
         Ok(saved.map(|stamp| stamp.expect("an INV leaves with a save")))
     }
 
@@ -107,13 +112,10 @@ impl Hut {
             self.hears(group, came.sender, came.epoch);
             match came.left {
                 Ok(Some(left)) if matches!(left.envelope().message, Message::Val(_)) => {
-                    // The last acknowledgement has come.
-                    self.put(group, came.record, Ok(Some(left)));
+                    // The last acknowledgement has come. Its VAL may be lost, as any.
+                    self.put_again(group, came.record, Ok(Some(left)), WAIT_FIRST);
                 }
-                Ok(Some(left)) => {
-                    self.outbox.put(left);
-                    self.tell_again(group, came.record)?;
-                }
+                Ok(Some(left)) => self.outbox.put(left),
                 Ok(None) | Err(_) => {}
             }
         }
@@ -124,11 +126,10 @@ impl Hut {
     fn messages<'a>(&self, bytes: &'a [u8]) -> Result<Messages<'a>, Refusal> {
         let named = bytes.first().copied();
         let of_packet = Rule::ALL.iter().find(|r| Some(r.number()) == named);
-        let mut settings = self.settings;
-        if let (Some(Fault::Byte), Some(rule)) = (self.fault, of_packet) {
-            settings.rule = *rule;
+        match (self.fault, of_packet) {
+            (Some(Fault::Byte), Some(rule)) => packet::messages(*rule, bytes),
+            _ => packet::messages(self.rule, bytes),
         }
-        packet::messages(settings, bytes)
     }
 
     /// A message was of this epoch. A greater one than the laptop's says that it
@@ -146,12 +147,8 @@ impl Hut {
     /// The epoch of a view that was issued and did not come here. A laptop that is
     /// struck off has missed none.
     fn missed_view(&self, group: &Group) -> Option<u32> {
-        (self.counts(group) && self.heard > 0).then_some(self.heard)
-    }
-
-    /// Whether the laptop is in its own view.
-    fn counts(&self, group: &Group) -> bool {
-        group.laptop(self.number).view().contains(self.number)
+        let counts = group.laptop(self.number).view().contains(self.number);
+        (counts && self.heard > 0).then_some(self.heard)
     }
 
     /// The warden's view comes.
@@ -165,61 +162,28 @@ impl Hut {
         self.go_over(group)
     }
 
-    /// The clock: a tick of every record that is not valid. One of a valid record
-    /// changes nothing, and nothing leaves, so that these are left out; once in a
-    /// morning it is tried (`ticks::whole_table`). A laptop that is struck off would
-    /// answer 3 to all.
+    /// The clock: records whose wait is over.
     pub fn tick(&mut self, group: &mut Group) -> Done {
-        if let Some(waits) = &self.old {
-            let due = waits.due(group.now);
-            return self.old_tick(group, due);
-        }
-        if self.fault == Some(Fault::Tick) || !self.counts(group) {
-            return Ok(());
-        }
-        for i in group.waiting(self.number) {
-            if self.gives_up(group, i) || self.spares(group, i) {
-                continue;
-            }
-            let answer = group.tick(self.number, i)?;
-            if self.fault != Some(Fault::Mute) {
-                self.put(group, i, answer);
-            }
-        }
-        Ok(())
-    }
-
-    /// Whether a record has no tick now, as another laptop is to move it on.
-    fn spares(&self, group: &Group, i: usize) -> bool {
-        let state = group.record(self.number, i).map(|r| r.state);
-        let of_another = matches!(state, Some(State::Invalid | State::InvalidWrite));
-        // Not all of them at once.
-        of_another && !(group.now + i as Tick).is_multiple_of(self.sparing)
-    }
-
-    /// An INV came. A hut that spares ticks says so again if that record is finished, by
-    /// this laptop: who still sends its INV may have missed the VAL.
-    fn tell_again(&mut self, group: &mut Group, i: usize) -> Done {
-        let laptop = group.laptop(self.number);
-        if self.sparing > 1 && laptop.shows_valid(i) {
-            let answer = group.resend(self.number, i)?;
-            self.put(group, i, answer);
+        let due = self.timers.iter().filter(|(_, t)| t.due <= group.now);
+        let due: Vec<(usize, Tick)> = due.map(|(i, t)| (*i, t.wait)).collect();
+        for (i, wait) in due {
+            let most = match group.laptop(self.number).shows_valid(i) {
+                true => WAIT_VAL,
+                false => WAIT_INV,
+            };
+            self.help(group, i, most.min(2 * wait))?;
         }
         Ok(())
     }
 
     /// The end of a tick: what waits goes on air.
     pub fn packets(&mut self) -> Vec<(Members, Vec<u8>)> {
-        self.outbox.packets(self.settings)
+        self.outbox.packets(self.rule)
     }
 
     /// Takes the next message of a packet in.
     fn take(&self, group: &mut Group, messages: &mut Messages<'_>) -> Result<Option<Came>, Cause> {
-        let dropped = |m: Arriving| match m.envelope().message {
-            Message::Val(_) => self.fault == Some(Fault::Val),
-            Message::Ack(_) => self.fault == Some(Fault::Ack),
-            _ => false,
-        };
+        let is_val = |m: Arriving| matches!(m.envelope().message, Message::Val(_));
         match self.fault {
             Some(Fault::Epoch) => {
                 let epoch = group.laptop(self.number).epoch();
@@ -231,8 +195,8 @@ impl Hut {
                 next.map(|m| self.hand(group, m, m.envelope().epoch))
                     .transpose()
             }
-            Some(Fault::Val | Fault::Ack) => {
-                while messages.clone().next().is_some_and(dropped) {
+            Some(Fault::Val) => {
+                while messages.clone().next().is_some_and(is_val) {
                     messages.next();
                 }
                 group.deliver_next(self.number, messages)
@@ -255,16 +219,20 @@ impl Hut {
         })
     }
 
-    /// Once over all records, after a change of view. A valid one needs nothing.
+    /// Once over all records, after a change of view.
     fn go_over(&mut self, group: &mut Group) -> Done {
-        if self.old.is_some() {
-            return self.old_go_over(group);
-        }
-        for i in group.waiting(self.number) {
-            let state = group.record(self.number, i).map(|r| r.state);
-            if !self.validated(group, i, state.unwrap_or(State::Valid))? {
-                let answer = self.replay(group, i)?;
-                self.put(group, i, answer);
+        for i in 0..group.laptop(self.number).count() {
+            let record = group.record(self.number, i);
+            let Some(record) = record.filter(|r| r.timestamp.version > 0) else {
+                continue;
+            };
+            if !self.validated(group, i, record.state)? {
+                // An old VAL keeps its long wait.
+                let wait = match group.laptop(self.number).shows_valid(i) {
+                    true => self.timers.get(&i).map_or(WAIT_FIRST, |t| t.wait),
+                    false => WAIT_FIRST,
+                };
+                self.help(group, i, wait)?;
             }
         }
         Ok(())
@@ -277,33 +245,41 @@ impl Hut {
             return Ok(false);
         }
         let answer = group.validate(self.number, i)?;
-        Ok(self.put(group, i, answer))
+        Ok(self.put_again(group, i, answer, WAIT_FIRST))
+    }
+
+    /// Tries what else may move a record on from here.
+    fn help(&mut self, group: &mut Group, i: usize, wait: Tick) -> Done {
+        let n = self.number;
+        let mut answer = self.replay(group, i)?;
+        if answer.is_err() {
+            answer = group.resend(n, i)?;
+        }
+        if !self.put_again(group, i, answer, wait) {
+            // Another laptop's turn.
+            self.timers.remove(&i);
+        }
+        Ok(())
     }
 
     /// Takes a save over whose laptop was struck off.
     fn replay(&self, group: &mut Group, i: usize) -> Watched {
-        match self.gives_up(group, i) {
-            true => Ok(Err(Refusal::NotReplayable)),
-            false => group.replay(self.number, i),
-        }
-    }
-
-    /// Whether its software leaves the record alone, as that is in invalid-write.
-    fn gives_up(&self, group: &Group, i: usize) -> bool {
         let state = group.record(self.number, i).map(|r| r.state);
-        self.fault == Some(Fault::Replay) && state == Some(State::InvalidWrite)
+        if self.fault == Some(Fault::Replay) && state == Some(State::InvalidWrite) {
+            return Ok(Err(Refusal::NotReplayable));
+        }
+        group.replay(self.number, i)
     }
 
-    /// Sends what leaves an event of this hut, if that was accepted. By the old clock it
-    /// goes again, as it may be lost.
-    fn put(&mut self, group: &Group, i: usize, answer: Left) -> bool {
+    /// Sends what leaves an event of this hut, if that was accepted; it goes
+    /// again after so many ticks.
+    fn put_again(&mut self, group: &Group, i: usize, answer: Left, wait: Tick) -> bool {
         let Ok(left) = answer else { return false };
         if let Some(left) = left {
             self.outbox.put(left);
         }
-        if let Some(waits) = &mut self.old {
-            waits.begin(i, group.now);
-        }
+        let due = group.now + wait;
+        self.timers.insert(i, Timer { due, wait });
         true
     }
 }
@@ -312,7 +288,7 @@ impl Hut {
 mod tests {
     use super::*;
     use crate::history::Kind;
-    use crate::ticks::Ticks;
+    use crate::settings::Settings;
 
     /// So many laptops with one record, each with its hut.
     fn huts<const N: usize>() -> (Group, [Hut; N]) {
@@ -320,24 +296,16 @@ mod tests {
     }
 
     fn huts_with<const N: usize>(rule: Rule, fault: Option<Fault>) -> (Group, [Hut; N]) {
-        huts_of(Settings {
-            rule,
-            fault,
-            ..Settings::default()
-        })
-    }
-
-    /// All with a wait of 8.
-    fn huts_of<const N: usize>(settings: Settings) -> (Group, [Hut; N]) {
         let settings = Settings {
             laptops: N as u8,
             records: 1,
-            wait: 8,
-            ..settings
+            rule,
+            fault,
+            ..Settings::default()
         };
         let group = Group::start(&settings).expect("a group");
-        let hut = |n| Hut::new(n as u8, &settings);
-        (group, std::array::from_fn(hut))
+        let hut = |n| Hut::new(n, settings.spoken_at(n), fault);
+        (group, std::array::from_fn(|n| hut(n as u8)))
     }
 
     /// The ticks from now on at which something leaves.
@@ -368,182 +336,22 @@ mod tests {
         packets.remove(0).1
     }
 
-    /// The ticks of every wait, up to this one.
-    fn every(wait: Tick, ticks: Tick) -> Vec<Tick> {
-        (1..=ticks).filter(|n| n.is_multiple_of(wait)).collect()
-    }
-
-    fn state_at(group: &Group, laptop: u8) -> State {
-        group.record(laptop, 0).expect("a record").state
-    }
-
-    /// 0's save reaches 1 alone. On reaching the wait 0 sends its INV again, and 1 takes
-    /// the save over though 0 is in its view; whoever has all acknowledgements first
-    /// ends it. Who has missed the VAL helps itself, and then all is quiet.
     #[test]
-    fn waiting_laptops_help_themselves() {
-        let (mut group, [mut zero, mut one, mut two]) = huts();
-        let group = &mut group;
-        saves(&mut zero, group, b"Wren");
-        let inv = sent(&mut zero);
-        assert_eq!(sent_at(&mut zero, group, 130), every(8, 130));
-        one.packet_came(group, &inv).expect("agreement");
-        sent(&mut one);
-        assert_eq!(sent_at(&mut one, group, 7), []);
-        assert_eq!(state_at(group, 1), State::Invalid);
-        assert_eq!(sent_at(&mut one, group, 30), [1, 9, 17, 25]);
-        assert_eq!(state_at(group, 1), State::Replay);
-        let ticks = Ticks {
-            counted: 130 + 37 - 16 - 4,
-            again: 16 + 3,
-            replayed: 1,
-            in_view: 1,
-            given_up: 0,
-        };
-        assert_eq!(group.ticks, ticks);
-
-        // 1's INV goes once more, and both acknowledge: 1 ends it, and 2 misses the VAL.
-        assert_eq!(sent_at(&mut one, group, 2), []);
-        group.now += 1;
-        one.tick(group).expect("agreement");
-        let inv = sent(&mut one);
-        for hut in [&mut zero, &mut two] {
-            hut.packet_came(group, &inv).expect("agreement");
-            one.packet_came(group, &sent(hut)).expect("agreement");
-        }
-        zero.packet_came(group, &sent(&mut one)).expect("agreement");
-        let states = [0, 1, 2].map(|n| state_at(group, n));
-        assert_eq!(states, [State::Valid, State::Valid, State::Invalid]);
-        for hut in [&mut zero, &mut one] {
-            assert_eq!(sent_at(hut, group, 500), []);
-        }
-        assert_eq!(sent_at(&mut two, group, 7), []);
-        group.now += 1;
-        two.tick(group).expect("agreement");
-        let inv = sent(&mut two);
-        for hut in [&mut zero, &mut one] {
-            hut.packet_came(group, &inv).expect("agreement");
-            two.packet_came(group, &sent(hut)).expect("agreement");
-        }
-        sent(&mut two);
-        for (n, hut) in [&mut zero, &mut one, &mut two].into_iter().enumerate() {
-            assert_eq!(group.laptop(n as u8).read(0), Ok(&b"Wren"[..]));
-            assert_eq!(sent_at(hut, group, 500), []);
-        }
-        // Nothing more was ticked.
-        let since = Ticks {
-            counted: ticks.counted + 2 + 7,
-            again: ticks.again + 1,
-            replayed: 2,
-            in_view: 2,
-            ..ticks
-        };
-        assert_eq!(group.ticks, since);
-    }
-
-    /// 0 and 1 save at once, and hear of each other. The loser gives its save up on
-    /// reaching the wait, though the winner is in the view, and finishes the winner's.
-    #[test]
-    fn an_overtaken_save_is_given_up_by_a_tick() {
-        let (mut group, [mut zero, mut one]) = huts();
-        let group = &mut group;
-        saves(&mut zero, group, b"Wren");
-        saves(&mut one, group, b"Robin");
-        one.packet_came(group, &sent(&mut zero)).expect("agreement");
-        sent(&mut one);
-        assert_eq!(state_at(group, 1), State::InvalidWrite);
-        assert_eq!(sent_at(&mut one, group, 7), []);
-        one.tick(group).expect("agreement");
-        assert_eq!(state_at(group, 1), State::Replay);
-        let given_up = (group.ticks.given_up, group.counts.given_up);
-        assert_eq!(given_up, (1, 0), "nobody was struck off");
-        zero.packet_came(group, &sent(&mut one)).expect("agreement");
-        one.packet_came(group, &sent(&mut zero)).expect("agreement");
-        zero.packet_came(group, &sent(&mut one)).expect("agreement");
-        for n in [0, 1] {
-            assert_eq!(group.laptop(n).read(0), Ok(&b"Wren"[..]));
+    fn the_guide_has_these_waits() {
+        let guide = include_str!("../../../docs/GUIDE.md");
+        for (name, wait) in [
+            ("WAIT_FIRST", WAIT_FIRST),
+            ("WAIT_INV", WAIT_INV),
+            ("WAIT_VAL", WAIT_VAL),
+        ] {
+            let line = format!("\nconst {name}: u16 = {wait};\n");
+            assert!(guide.contains(&line), "{line}");
         }
     }
 
-    /// A laptop that is told that it is struck off has no more ticks.
-    #[test]
-    fn who_is_struck_off_is_quiet() {
-        let (mut group, [_, _, mut two]) = huts();
-        let group = &mut group;
-        saves(&mut two, group, b"Wren");
-        sent(&mut two);
-        assert_eq!(sent_at(&mut two, group, 10), [8]);
-        two.view_came(group, 1, Members::from(0b011))
-            .expect("agreement");
-        assert_eq!(sent_at(&mut two, group, 50), []);
-        let refused = group.counts.refused.get(&3).copied();
-        assert_eq!(refused, Some(2), "a validation and a replay, with the view");
-    }
-
-    /// A hut that spares ticks: a record that waits for another laptop has every fourth
-    /// only. And who hears an INV of what it has finished sends its VAL again.
-    #[test]
-    fn a_hut_that_spares_ticks() {
-        let (mut group, [mut zero, mut one]) = huts_of(Settings {
-            sparing: 4,
-            ..Settings::default()
-        });
-        let group = &mut group;
-        saves(&mut zero, group, b"Wren");
-        one.packet_came(group, &sent(&mut zero)).expect("agreement");
-        zero.packet_came(group, &sent(&mut one)).expect("agreement");
-        sent(&mut zero);
-        assert_eq!(sent_at(&mut one, group, 31), []);
-        group.now += 1;
-        one.tick(group).expect("agreement");
-        zero.packet_came(group, &sent(&mut one)).expect("agreement");
-        let messages: Vec<u8> = packet::messages(zero.settings, &sent(&mut zero))
-            .expect("a packet")
-            .map(|m| m.envelope().message.kind())
-            .collect();
-        assert_eq!(messages, [2, 3], "an ACK, and the VAL");
-    }
-
-    /// Huts that never tick, and huts that drop what leaves a tick.
-    #[test]
-    fn huts_that_do_not_help() {
-        for (fault, replayed) in [(Fault::Tick, 0), (Fault::Mute, 1)] {
-            let (mut group, [mut zero, mut one]) = huts_with(Rule::Lower, Some(fault));
-            saves(&mut zero, &mut group, b"Wren");
-            let inv = sent(&mut zero);
-            one.packet_came(&mut group, &inv).expect("agreement");
-            sent(&mut one);
-            for hut in [&mut zero, &mut one] {
-                assert_eq!(sent_at(hut, &mut group, 50), []);
-            }
-            assert_eq!(group.ticks.replayed, replayed);
-        }
-    }
-
-    /// A laptop of another wait than its group's is noticed when it acts.
-    #[test]
-    fn a_laptop_with_another_wait_is_noticed() {
-        let (mut group, [_, mut one]) = huts_with(Rule::Lower, Some(Fault::Wait));
-        let group = &mut group;
-        saves(&mut one, group, b"Wren");
-        assert_eq!(group.laptop(1).settings().wait, 7);
-        for _ in 0..6 {
-            assert_eq!(one.tick(group), Ok(()));
-        }
-        let wrong = Cause::WrongTick {
-            record: 0,
-            laptop: 1,
-        };
-        assert_eq!(one.tick(group), Err(wrong));
-    }
-
-    /// The old clock.
     #[test]
     fn messages_go_again_after_these_waits() {
-        let (mut group, [mut zero, mut one, mut two]) = huts_of(Settings {
-            clock: Clock::Hut,
-            ..Settings::default()
-        });
+        let (mut group, [mut zero, mut one, mut two]) = huts();
         let group = &mut group;
         saves(&mut zero, group, b"Wren");
         let inv = sent(&mut zero);
@@ -578,9 +386,6 @@ mod tests {
         let ack = sent(&mut one);
         let view = Members::from(0b011);
         zero.view_came(group, 1, view).expect("agreement");
-        for _ in 0..8 {
-            zero.tick(group).expect("agreement");
-        }
         let inv = sent(&mut zero);
         assert_eq!((one.heard, one.missing), (0, None));
         for tick in [10, 14] {
@@ -658,7 +463,7 @@ mod tests {
                 .expect("agreement");
         }
         sent(&mut one);
-        assert_eq!(sent_at(&mut one, group, 60), every(8, 60));
+        assert_eq!(sent_at(&mut one, group, 60), [8, 24, 56]);
         assert_eq!(sent_at(&mut two, group, 60), []);
     }
 
@@ -686,8 +491,8 @@ mod tests {
             let number = loses.number;
             let state = |group: &Group| group.record(number, 0).map(|r| r.state);
             assert_eq!(state(group), Some(State::InvalidWrite));
-            // The wait is not over.
-            assert_eq!(sent_at(&mut loses, group, 5), []);
+            // The winner is in the view still: no replay, and nothing to send again.
+            assert_eq!(sent_at(&mut loses, group, 60), []);
             assert_eq!((group.counts.overtaken, group.counts.given_up), (1, 0));
 
             let left: Members = [0, number].into_iter().collect();
@@ -696,9 +501,9 @@ mod tests {
             }
             assert_eq!(state(group), Some(State::Replay));
             assert_eq!((group.counts.overtaken, group.counts.given_up), (1, 1));
-            // Lost, and sent again. A replay by hand does not set the count back.
+            // Lost, and sent again.
             sent(&mut loses);
-            assert_eq!(sent_at(&mut loses, group, 2), []);
+            assert_eq!(sent_at(&mut loses, group, 7), []);
             group.now += 1;
             loses.tick(group).expect("agreement");
             zero.packet_came(group, &sent(&mut loses))
@@ -738,7 +543,7 @@ mod tests {
             }
             // Both savers wait, and send their INV again without end.
             for hut in [&mut zero, &mut two] {
-                assert_eq!(sent_at(hut, group, 130), every(8, 130));
+                assert_eq!(sent_at(hut, group, 130).len(), 5);
             }
             let states = |group: &Group| {
                 let states = [0, 1, 2].map(|n| group.record(n, 0).map(|r| r.state));
@@ -828,9 +633,10 @@ mod tests {
                 .expect("agreement");
         }
         assert_eq!(validations(group), (1, 1));
-        assert!(zero.packets().is_empty());
-        assert_eq!(state_at(group, 0), State::Write);
-        assert_eq!(sent_at(&mut zero, group, 60), every(8, 60));
+        // The INV again, under the new epoch.
+        sent(&mut zero);
+        assert_eq!(group.record(0, 0).map(|r| r.state), Some(State::Write));
+        assert_eq!(sent_at(&mut zero, group, 60), [8, 24, 56]);
         assert_eq!(validations(group), (1, 1));
 
         for hut in [&mut zero, &mut three] {
@@ -843,7 +649,7 @@ mod tests {
             .packet_came(group, &sent(&mut zero))
             .expect("agreement");
         assert!(group.laptop(3).shows_valid(0));
-        assert_eq!(sent_at(&mut zero, group, 130), []);
+        assert_eq!(sent_at(&mut zero, group, 130), [8, 24, 56, 120]);
         assert_eq!(validations(group), (2, 1));
     }
 }

@@ -1,8 +1,7 @@
 //! A morning at the nets: a group of laptops on the proved engine, each with
 //! hut software as docs/GUIDE.md has it, over a radio link that loses, repeats
 //! and holds back packets. After every event the group's agreement is checked
-//! as document 01 words it, what document 02's Wish 5 promises of a laptop, and what
-//! its Wish 7 asks of every tick.
+//! as document 01 words it, and what document 02's Wish 5 promises of a laptop.
 //!
 //! [`run`] plays one morning. Equal [`Settings`] give equal [`Report`]s.
 
@@ -12,7 +11,6 @@
 mod agreement;
 mod air;
 mod chain;
-mod compare;
 mod counts;
 mod failure;
 mod fate;
@@ -38,14 +36,12 @@ mod settled;
 mod slip;
 mod spread;
 mod text;
-mod ticks;
 mod ties;
 mod times;
 mod unsettled;
 mod visit;
 
 pub use agreement::Disagreement;
-pub use compare::Comparison;
 pub use counts::Counts;
 pub use failure::{Cause, Failure};
 pub use fault::Fault;
@@ -53,7 +49,7 @@ pub use morning::run;
 pub use opening::Unkept;
 pub use options::{Command, HELP};
 pub use report::Report;
-pub use settings::{Clock, Settings};
+pub use settings::Settings;
 
 /// The simulation's clock. A tick is a second, as in the guide; only the units
 /// in the report rest on that.

@@ -141,11 +141,11 @@ impl Link {
 
     /// The packet unaltered, unless the link is to be broken.
     fn handed_on(&mut self, bytes: &Rc<[u8]>) -> Rc<[u8]> {
-        let (settings, laptops) = (self.settings.of_group(), self.settings.laptops);
+        let (rule, laptops) = (self.settings.rule, self.settings.laptops);
         let broken = self
             .settings
             .fault
-            .and_then(|f| fault::in_flight(f, settings, bytes, laptops, &mut self.rng));
+            .and_then(|f| fault::in_flight(f, rule, bytes, laptops, &mut self.rng));
         broken.map_or_else(|| bytes.clone(), Rc::from)
     }
 }

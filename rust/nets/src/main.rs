@@ -4,7 +4,7 @@ use std::io::{self, IsTerminal, Write};
 use std::process::ExitCode;
 use std::time::Instant;
 
-use nets::{run, Command, Comparison, Failure, Report, Settings, HELP};
+use nets::{run, Command, Failure, Report, Settings, HELP};
 
 /// Wrong options, or nobody who reads what is printed.
 const TROUBLE: u8 = 2;
@@ -16,10 +16,8 @@ fn main() -> ExitCode {
             settings,
             seeds,
             counts,
-            compare,
         }) => match seeds {
             None => one(&settings, counts),
-            Some(seeds) if compare => compared(&settings, seeds),
             Some(seeds) => many(&settings, seeds),
         },
         Err(wrong) => {
@@ -36,24 +34,11 @@ fn one(settings: &Settings, counts: bool) -> io::Result<ExitCode> {
         Ok(report) => {
             let seconds = begun.elapsed().as_secs_f64();
             say(&format!("{report}wall time          {seconds:>6.2} s\n"))?;
-            if settings.fault.is_none() {
-                match Comparison::of(settings, 1, Some(&report)) {
-                    Ok(clocks) => say(&format!("\n{clocks}"))?,
-                    Err(failure) => return failed(&failure),
-                }
-            }
             if counts {
                 say(&format!("\n{}", report.counts()))?;
             }
             Ok(ExitCode::SUCCESS)
         }
-        Err(failure) => failed(&failure),
-    }
-}
-
-fn compared(settings: &Settings, seeds: u64) -> io::Result<ExitCode> {
-    match Comparison::of(settings, seeds, None) {
-        Ok(clocks) => say(&clocks.to_string()).map(|()| ExitCode::SUCCESS),
         Err(failure) => failed(&failure),
     }
 }

@@ -15,7 +15,7 @@ use crate::neighbours::Neighbours;
 use crate::plan::Plan;
 use crate::report::Report;
 use crate::ringer::Ringers;
-use crate::settings::{Clock, Part, Settings};
+use crate::settings::{Part, Settings};
 use crate::settled::{self, Settled};
 use crate::unsettled::{self, Unsettled};
 use crate::Tick;
@@ -94,7 +94,7 @@ struct Morning {
 impl Morning {
     fn new(settings: &Settings) -> Morning {
         let plan = Plan::new(settings);
-        let hut = |n| Hut::new(n, settings);
+        let hut = |n| Hut::new(n, settings.spoken_at(n), settings.fault);
         Morning {
             settings: settings.clone(),
             group: Group::start(settings).expect("settings that were checked start a group"),
@@ -211,7 +211,6 @@ impl Morning {
             false => members.into_iter().all(heard),
         };
         if now && self.unsettled.is_none() {
-            self.group.tick_whole_tables()?;
             self.unsettled = Some(unsettled::look(&self.group, members)?);
         }
         Ok(())
@@ -222,11 +221,7 @@ impl Morning {
     /// sends again, and all of it was heard.
     fn end(&self) -> Result<Option<End>, Cause> {
         let now = self.group.now;
-        let longest = match self.settings.clock {
-            Clock::Engine => Tick::from(self.settings.wait) * Tick::from(self.settings.sparing),
-            Clock::Hut => WAIT_VAL,
-        };
-        let calm = longest + self.link.longest();
+        let calm = WAIT_VAL + self.link.longest();
         let last_view = self.plan.issues.last().map_or(0, |i| i.tick);
         let healed = self.settings.ticks.max(last_view);
         if now < healed.max(self.group.last_change) + calm {
@@ -266,7 +261,6 @@ impl Morning {
             visits: self.ringers.counts,
             air: self.air,
             events: self.group.counts,
-            ticked: self.group.ticks,
             link: self.link.counts,
             to_the_dead: self.to_the_dead,
             checks: self.group.agreement.checks,

@@ -4,7 +4,7 @@
 
 use std::collections::VecDeque;
 
-use cetskobi::{packet, Laptop, Leaving, Members, Refusal};
+use cetskobi::{packet, Laptop, Leaving, Members, Refusal, Rule};
 use model::rng::Rng;
 
 use crate::failure::Cause;
@@ -31,7 +31,7 @@ pub(crate) struct Heard {
 }
 
 pub(crate) struct Neighbours {
-    settings: cetskobi::Settings,
+    rule: Rule,
     laptops: Vec<Laptop>,
     rng: Rng,
     /// Of 100 ticks those in which it saves, and until when.
@@ -42,7 +42,7 @@ pub(crate) struct Neighbours {
 
 impl Neighbours {
     pub fn start(settings: &Settings) -> Result<Neighbours, Refusal> {
-        let theirs = cetskobi::Settings::new(other(settings.rule), settings.wait);
+        let rule = other(settings.rule);
         // A station that never saves needs no laptops.
         let count = match settings.neighbours {
             0 => 0,
@@ -50,10 +50,10 @@ impl Neighbours {
         };
         let view: Members = (0..settings.laptops).collect();
         let laptops: Result<Vec<Laptop>, Refusal> = (0..count)
-            .map(|n| Laptop::start(n, view, theirs, settings.records))
+            .map(|n| Laptop::start(n, view, rule, settings.records))
             .collect();
         Ok(Neighbours {
-            settings: theirs,
+            rule,
             laptops: laptops?,
             rng: settings.rng(Part::Neighbours),
             share: settings.neighbours,
@@ -103,7 +103,7 @@ impl Neighbours {
                 air.extend(left.ok().flatten());
             }
             let mut bytes = vec![0; packet::PACKET_MAX];
-            let len = packet::pack(self.settings, [left], &mut bytes).expect("one message fits");
+            let len = packet::pack(self.rule, [left], &mut bytes).expect("one message fits");
             bytes.truncate(len);
             packets.push(bytes);
         }
@@ -141,7 +141,7 @@ impl Neighbours {
 #[cfg(test)]
 mod tests {
     use super::*;
-    use cetskobi::{Message, Rule, Timestamp};
+    use cetskobi::{Message, Timestamp};
 
     /// A station of three, beside a group with this rule, that saves at every tick.
     fn three(rule: Rule) -> (Settings, Neighbours) {
@@ -158,21 +158,16 @@ mod tests {
 
     const ALL: u16 = 0b111;
 
-    /// Settings with this rule.
-    fn by(rule: Rule) -> cetskobi::Settings {
-        cetskobi::Settings::new(rule, 8)
-    }
-
     /// Each packet has the other rule's byte, and one message: the kind, who sent it,
     /// its epoch and its timestamp.
     fn sent(rule: Rule, packets: &[Packet]) -> Vec<(u8, u8, u32, Timestamp)> {
         let message = |Packet { record, bytes, .. }: &Packet| {
             assert_eq!(bytes[0], other(rule).number());
             assert_eq!(
-                packet::messages(by(rule), bytes).err(),
+                packet::messages(rule, bytes).err(),
                 Some(Refusal::OtherRule)
             );
-            let mut messages = packet::messages(by(other(rule)), bytes).expect("a packet");
+            let mut messages = packet::messages(other(rule), bytes).expect("a packet");
             let e = messages.next().expect("a message").envelope();
             assert_eq!((messages.len(), e.record), (0, *record));
             (e.message.kind(), e.sender, e.epoch, e.message.timestamp())
@@ -238,7 +233,7 @@ mod tests {
     fn it_is_refused_by_27_and_nothing_changes() {
         let (settings, mut station) = three(Rule::Lower);
         let laptop = |text: &[u8]| {
-            let started = Laptop::start(0, ALL, settings.of_group(), settings.records);
+            let started = Laptop::start(0, ALL, settings.rule, settings.records);
             let mut laptop = started.expect("a laptop");
             let _inv = laptop.write(0, text);
             laptop
@@ -255,7 +250,7 @@ mod tests {
         assert_eq!(station.came(inv, right, wren.clone(), &wren), Ok(()));
         let heard = |packets, otherwise| Heard { packets, otherwise };
         assert_eq!(station.heard, heard(1, 0));
-        let fresh = Laptop::start(0, ALL, settings.of_group(), settings.records);
+        let fresh = Laptop::start(0, ALL, settings.rule, settings.records);
         let fresh = fresh.expect("a laptop");
         assert_eq!(station.came(inv, right, fresh.clone(), &fresh), Ok(()));
         assert_eq!(station.heard, heard(2, 1));

@@ -5,7 +5,7 @@ use std::str::FromStr;
 use cetskobi::Rule;
 
 use crate::fault::Fault;
-use crate::settings::{Clock, Settings};
+use crate::settings::Settings;
 
 /// What `--help` prints.
 pub const HELP: &str = "\
@@ -14,18 +14,12 @@ Agreement is checked after every event, and at the end that every record has
 settled, that every text was saved over one that its ringer saw, and that every
 bird is told of; exit status 1 if a check fails, 2 for wrong options.
 
-  --seed S         the beginning of all random numbers    (140, or CETSKOBI_SEED)
+  --seed S         the beginning of all random numbers    (560, or CETSKOBI_SEED)
   --seeds N        N mornings, from the seed on, one line each
-  --compare        with --seeds: only compare them, by several clocks
   --counts         also count events, messages, packets and refusals
   --laptops N      2 to 16                                (11)
   --records N      1 to 4096                              (4096)
   --rule R         a tie goes to the higher or lower number (lower)
-  --wait W         the group's wait: 1 to 255 ticks       (20)
-  --clock C        engine: the engine's ticks; hut: the huts' own waits, as
-                   before document 02's Wish 7            (engine)
-  --sparing N      records that wait for another laptop have
-                   every N-th tick only: 1 to 255         (1)
   --rings N        birds ringed                           (600)
   --recaptures N   birds met again                        (40)
   --deaths N       laptops that die and are struck off    (1)
@@ -40,16 +34,13 @@ bird is told of; exit status 1 if a check fails, 2 for wrong options.
                    station saves: same channel, other rule (1)
   --fault F        break something and see it reported: text (the link alters
                    texts), sender (the link alters who acknowledged), epoch
-                   (huts take messages of other epochs), val (huts drop VALs;
-                   by the engine's clock all settles even so), ack (huts drop
-                   ACKs), replay (huts do not help in invalid-write), save (huts
+                   (huts take messages of other epochs), val (huts drop VALs),
+                   replay (huts do not replay from invalid-write), save (huts
                    refuse some saves), blind (huts save by a plain write, over
                    what the ringer has not seen), forget (huts do not tell that
                    a save was replaced), rule (the last laptop is started with
                    the other rule), tie (the same, and its hut hides it), byte
-                   (huts take packets of either rule), wait (the last laptop is
-                   started with another wait), tick (huts do not tick), mute
-                   (huts drop what leaves a tick)
+                   (huts take packets of either rule)
   --help           this page
 ";
 
@@ -66,8 +57,6 @@ pub enum Command {
         seeds: Option<u64>,
         /// Whether the report goes on with the counts.
         counts: bool,
-        /// Whether many mornings are only compared, by several clocks.
-        compare: bool,
     },
 }
 
@@ -79,7 +68,7 @@ impl Command {
     /// What is wrong with them, in plain words.
     pub fn parse<I: IntoIterator<Item = String>>(words: I) -> Result<Command, String> {
         let mut settings = Settings::from_env()?;
-        let (mut seeds, mut counts, mut compare) = (None, false, false);
+        let (mut seeds, mut counts) = (None, false);
         let mut words = words.into_iter();
         while let Some(word) = words.next() {
             if word == "--help" || word == "-h" {
@@ -87,10 +76,6 @@ impl Command {
             }
             if word == "--counts" {
                 counts = true;
-                continue;
-            }
-            if word == "--compare" {
-                compare = true;
                 continue;
             }
             let value = words.next();
@@ -101,9 +86,6 @@ impl Command {
                 "--laptops" => settings.laptops = number(&word, value)?,
                 "--records" => settings.records = number(&word, value)?,
                 "--rule" => settings.rule = rule(value)?,
-                "--wait" => settings.wait = number(&word, value)?,
-                "--clock" => settings.clock = clock(value)?,
-                "--sparing" => settings.sparing = number(&word, value)?,
                 "--rings" => settings.rings = number(&word, value)?,
                 "--recaptures" => settings.recaptures = number(&word, value)?,
                 "--deaths" => settings.deaths = number(&word, value)?,
@@ -127,7 +109,6 @@ impl Command {
             settings,
             seeds,
             counts,
-            compare,
         })
     }
 }
@@ -137,13 +118,6 @@ fn rule(value: Option<&str>) -> Result<Rule, String> {
     named
         .copied()
         .ok_or_else(|| "--rule: higher or lower".to_owned())
-}
-
-fn clock(value: Option<&str>) -> Result<Clock, String> {
-    let named = Clock::ALL.iter().find(|c| Some(c.name()) == value);
-    named
-        .copied()
-        .ok_or_else(|| "--clock: engine or hut".to_owned())
 }
 
 fn number<T: FromStr>(option: &str, value: Option<&str>) -> Result<T, String> {

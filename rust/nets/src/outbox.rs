@@ -2,7 +2,7 @@
 
 use std::collections::BTreeMap;
 
-use cetskobi::{packet, Leaving, Members, Settings};
+use cetskobi::{packet, Leaving, Members, Rule};
 
 /// What left an event, kept.
 type Parcel = Leaving<'static>;
@@ -23,9 +23,9 @@ impl Outbox {
         }
     }
 
-    /// All of it as packets of a group with these settings: as many messages in each as
-    /// fit.
-    pub fn packets(&mut self, settings: Settings) -> Vec<(Members, Vec<u8>)> {
+    /// All of it as packets of a group with this rule of ties: as many messages in each
+    /// as fit.
+    pub fn packets(&mut self, rule: Rule) -> Vec<(Members, Vec<u8>)> {
         let waiting = std::mem::take(&mut self.waiting);
         let sets = waiting
             .into_iter()
@@ -33,7 +33,7 @@ impl Outbox {
         sets.flat_map(|(to, parcels)| {
             let packets: Vec<Vec<u8>> = loads(&parcels)
                 .into_iter()
-                .map(|load| packed(settings, load))
+                .map(|load| packed(rule, load))
                 .collect();
             packets.into_iter().map(move |p| (to, p))
         })
@@ -58,9 +58,9 @@ fn loads(parcels: &[Parcel]) -> Vec<&[Parcel]> {
     loads
 }
 
-fn packed(settings: Settings, load: &[Parcel]) -> Vec<u8> {
+fn packed(rule: Rule, load: &[Parcel]) -> Vec<u8> {
     let mut bytes = vec![0; packet::PACKET_MAX];
-    let len = packet::pack(settings, load, &mut bytes).expect("a load fits into a packet");
+    let len = packet::pack(rule, load, &mut bytes).expect("a load fits into a packet");
     bytes.truncate(len);
     bytes
 }
@@ -68,26 +68,25 @@ fn packed(settings: Settings, load: &[Parcel]) -> Vec<u8> {
 #[cfg(test)]
 mod tests {
     use super::*;
-    use cetskobi::{Laptop, Rule};
+    use cetskobi::Laptop;
 
     /// The records of the messages in each packet.
     fn sent(rule: Rule, count: usize, len: usize) -> Vec<Vec<usize>> {
-        let settings = Settings::new(rule, 8);
-        let mut laptop = Laptop::start(0, 0b111, settings, 200).expect("a laptop");
+        let mut laptop = Laptop::start(0, 0b111, rule, 200).expect("a laptop");
         let mut outbox = Outbox::default();
         for i in 0..count {
             let inv = laptop.write(i, &vec![b'x'; len]).expect("a save");
             outbox.put(inv.into_owned());
             outbox.put(laptop.resend(i).expect("the same").into_owned());
         }
-        let packets = outbox.packets(settings);
-        assert!(outbox.packets(settings).is_empty());
+        let packets = outbox.packets(rule);
+        assert!(outbox.packets(rule).is_empty());
         packets
             .iter()
             .map(|(to, bytes)| {
                 assert_eq!(to.bits(), 0b110);
                 assert_eq!(bytes[0], rule.number());
-                let messages = packet::messages(settings, bytes).expect("a packet");
+                let messages = packet::messages(rule, bytes).expect("a packet");
                 messages.map(|m| m.envelope().record).collect()
             })
             .collect()

@@ -15,9 +15,9 @@ use crate::link::LinkCounts;
 use crate::neighbours::Heard;
 use crate::plan::{Death, Plan};
 use crate::ringer::Visits;
-use crate::settings::{Clock, Settings};
+use crate::settings::Settings;
 use crate::settled::Settled;
-use crate::ticks::Ticks;
+use crate::spread::Spread;
 use crate::ties::TiesReport;
 use crate::times::TimesReport;
 use crate::unsettled::Unsettled;
@@ -32,7 +32,6 @@ pub struct Report {
     pub(crate) visits: Visits,
     pub(crate) air: Air,
     pub(crate) events: EventCounts,
-    pub(crate) ticked: Ticks,
     pub(crate) ties: TiesReport,
     pub(crate) neighbours: Heard,
     pub(crate) link: LinkCounts,
@@ -195,10 +194,10 @@ impl Report {
         self.events.overtaken
     }
 
-    /// Overtaken saves that were given up by a replay from invalid-write: the later
-    /// one's laptop was struck off, or the wait was over.
+    /// Overtaken saves that were given up by a replay from invalid-write: the
+    /// later one's laptop was struck off.
     pub fn given_up(&self) -> u64 {
-        self.events.given_up + self.ticked.given_up
+        self.events.given_up
     }
 
     /// Entries of packets that were looked at to take the messages out that came:
@@ -221,41 +220,11 @@ impl Report {
         self.air.group()
     }
 
-    /// Packets that all laptops send an hour, while birds come.
-    pub fn packets_an_hour(&self) -> u64 {
-        self.air.packets()
-    }
-
-    /// The time in which records could not be read at laptops in service, and the time
-    /// of all their records, while birds come.
-    pub fn unreadable(&self) -> [u64; 2] {
-        [
-            self.times.dark,
-            self.times.served * self.settings.records as u64,
-        ]
-    }
-
-    /// How long after the link had healed the last change was.
-    pub fn settled_after(&self) -> u32 {
-        self.last_change.saturating_sub(self.settings.ticks)
-    }
-
-    /// Ticks of records that were not valid: those that only counted, those by which an
-    /// INV left again, and those by which a record was replayed.
-    pub fn ticks(&self) -> [u64; 3] {
-        let ticks = &self.ticked;
-        [ticks.counted, ticks.again, ticks.replayed]
-    }
-
-    /// Those of them that a tick gave up, while the later one's laptop was in the view.
-    pub fn given_up_by_ticks(&self) -> u64 {
-        self.ticked.given_up
-    }
-
     /// How many saves were finished, were replaced by a later one, and neither.
     pub fn ends_of_saves(&self) -> [usize; 3] {
+        let count = |spread: Option<Spread>| spread.map_or(0, |s| s.count);
         let times = &self.times;
-        [times.finished.len(), times.replaced.len(), times.left]
+        [count(times.finished), count(times.replaced), times.left]
     }
 
     /// Events for each save that was finished or replaced, in tenths. None
@@ -362,17 +331,12 @@ impl Report {
             self.overtaken(),
             "saves that met a later one of another laptop: invalid-write",
         )?;
-        let given_up = match self.settings.clock {
-            Clock::Hut => "by a replay of the later one, whose laptop was struck off".to_owned(),
-            Clock::Engine => {
-                let by_ticks = grouped(self.given_up_by_ticks());
-                format!(
-                    "by a replay of the later one; {by_ticks} by a tick, its laptop in the view"
-                )
-            }
-        };
-        line(f, "  given up", self.given_up(), &given_up)?;
-        self.ticks_made(f)?;
+        line(
+            f,
+            "  given up",
+            self.given_up(),
+            "by a replay of the later one, whose laptop was struck off",
+        )?;
         self.ties_met(f)?;
         self.commits_made(f)?;
         self.birds(f)?;
@@ -406,30 +370,6 @@ impl Report {
 }
 
 impl Report {
-    /// What ticks did, unless the huts had their own clock.
-    fn ticks_made(&self, f: &mut fmt::Formatter<'_>) -> fmt::Result {
-        if self.settings.clock == Clock::Hut {
-            return Ok(());
-        }
-        let Ticks {
-            counted,
-            again,
-            replayed,
-            in_view,
-            ..
-        } = self.ticked;
-        let wait = self.settings.wait;
-        let remark = format!("of records that were not valid; each did what a wait of {wait} asks");
-        line(f, "ticks", counted + again + replayed, &remark)?;
-        let remark = "by which a write or replay sent its INV again";
-        line(f, "  sent again", again, remark)?;
-        let in_view = grouped(in_view);
-        let remark = format!(
-            "by which a record was replayed; {in_view} times its last writer was in the view"
-        );
-        line(f, "  replayed", replayed, &remark)
-    }
-
     /// Saves at once, and to whom they went.
     fn ties_met(&self, f: &mut fmt::Formatter<'_>) -> fmt::Result {
         let ties = &self.ties;

@@ -18,13 +18,6 @@ pub struct Settings {
     /// The group's rule of ties, with which all of its laptops start (document 02,
     /// Wish 6).
     pub rule: Rule,
-    /// The group's wait, in ticks, with which they start too (document 02, Wish 7).
-    pub wait: u8,
-    /// What moves a record on that waits.
-    pub clock: Clock,
-    /// By the engine's clock: records that wait for another laptop have every so many-th
-    /// tick only. 1 is every tick.
-    pub sparing: u8,
     /// Birds ringed: saves to records that were empty.
     pub rings: usize,
     /// Birds met again: saves over a record that was opened.
@@ -53,42 +46,14 @@ pub struct Settings {
     pub fault: Option<Fault>,
 }
 
-/// The clock of the huts.
-#[derive(Clone, Copy, Debug, PartialEq, Eq)]
-pub enum Clock {
-    /// The engine's ticks (document 02, Wish 7).
-    Engine,
-    /// The huts' own waits, as before that Wish: only to compare.
-    Hut,
-}
-
-impl Clock {
-    /// Both.
-    pub const ALL: &[Clock] = &[Clock::Engine, Clock::Hut];
-
-    /// Its name on the command line.
-    pub const fn name(self) -> &'static str {
-        match self {
-            Clock::Engine => "engine",
-            Clock::Hut => "hut",
-        }
-    }
-}
-
-/// The wait where nothing is said, the guide's: see README.md, what Wish 7 bought.
-const WAIT: u8 = 20;
-
 impl Default for Settings {
     fn default() -> Settings {
         Settings {
-            seed: 140,
+            seed: 560,
             laptops: 11,
             records: Record::COUNT_MAX,
             // The season's groups are formed under the new one.
             rule: Rule::Lower,
-            wait: WAIT,
-            clock: Clock::Engine,
-            sparing: 1,
             rings: 600,
             recaptures: 40,
             deaths: 1,
@@ -156,11 +121,6 @@ impl Settings {
             (1..=most).contains(&self.records),
             "a laptop has 1 to 4096 records",
         )?;
-        ask(self.wait >= 1, "a group waits 1 to 255 ticks")?;
-        ask(
-            self.sparing >= 1,
-            "a hut spares all but one of 1 to 255 ticks",
-        )?;
         ask(
             self.rings <= self.records,
             "each ring needs a record of its own",
@@ -199,40 +159,23 @@ impl Settings {
         )
     }
 
-    /// The group's settings.
-    pub(crate) fn of_group(&self) -> cetskobi::Settings {
-        cetskobi::Settings::new(self.rule, self.wait)
-    }
-
-    /// What this laptop is started with: the group's settings, unless the last one is
-    /// to be started with others.
-    pub(crate) fn started_with(&self, laptop: u8) -> cetskobi::Settings {
-        let mut settings = self.of_group();
-        if laptop + 1 == self.laptops {
-            match self.fault {
-                Some(Fault::Rule | Fault::Tie) => settings.rule = other(self.rule),
-                Some(Fault::Wait) => settings.wait = another(self.wait),
-                _ => {}
-            }
+    /// The rule that this laptop is started with: the group's, unless the last one is
+    /// to be started with the other.
+    pub(crate) fn started_with(&self, laptop: u8) -> Rule {
+        let odd = matches!(self.fault, Some(Fault::Rule | Fault::Tie));
+        match odd && laptop + 1 == self.laptops {
+            true => other(self.rule),
+            false => self.rule,
         }
-        settings
     }
 
-    /// The settings by which its hut reads and writes packets: its laptop's, unless
-    /// these are to be hidden.
-    pub(crate) fn spoken_at(&self, laptop: u8) -> cetskobi::Settings {
+    /// The rule by which its hut reads and writes packets: its laptop's, unless that
+    /// is to be hidden.
+    pub(crate) fn spoken_at(&self, laptop: u8) -> Rule {
         match self.fault {
-            Some(Fault::Tie) => self.of_group(),
+            Some(Fault::Tie) => self.rule,
             _ => self.started_with(laptop),
         }
-    }
-}
-
-/// Another wait: a tick less, or more where there is none less.
-const fn another(wait: u8) -> u8 {
-    match wait {
-        0 | 1 => 2,
-        _ => wait - 1,
     }
 }
 

@@ -132,12 +132,11 @@ mod tests {
                 writer,
                 written: SAVED,
                 acks: Members::default(),
-                waited: 0,
                 len: 0,
             };
             let me = Replica {
                 number,
-                settings: cetskobi::Settings::new(Rule::Lower, 8).into(),
+                settings: Rule::Lower.into(),
                 view: 0b111,
                 epoch: 1,
             };

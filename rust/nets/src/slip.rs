@@ -77,12 +77,11 @@ mod tests {
             writer: 0,
             written: timestamp,
             acks: Members::default(),
-            waited: 0,
             len: text.len() as u8,
         };
         let me = Replica {
             number: 0,
-            settings: cetskobi::Settings::new(Rule::Lower, 8).into(),
+            settings: Rule::Lower.into(),
             view: 0b11,
             epoch: 0,
         };

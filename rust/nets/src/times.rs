@@ -5,6 +5,7 @@ use std::collections::BTreeMap;
 
 use cetskobi::{Members, Record, State, Timestamp};
 
+use crate::spread::Spread;
 use crate::Tick;
 
 /// A record at a laptop.
@@ -25,10 +26,6 @@ pub(crate) struct Times {
     saving: BTreeMap<Place, (Timestamp, Tick)>,
     finished: Vec<Tick>,
     replaced: Vec<Tick>,
-    /// Saves whose record is not valid yet at every laptop in service: by the record
-    /// the laptop and the tick of each.
-    open: BTreeMap<usize, Vec<(u8, Tick)>>,
-    everywhere: Vec<Tick>,
     /// Records that are not valid, with the tick since when that counts: from
     /// then on the laptop was in service. None while it is not.
     unreadable: BTreeMap<Place, Option<Tick>>,
@@ -41,15 +38,13 @@ pub(crate) struct Times {
 #[derive(Clone, Debug, PartialEq, Eq)]
 pub(crate) struct TimesReport {
     /// From the accepted save to the record valid at the saver, with the save's timestamp.
-    pub finished: Vec<Tick>,
+    pub finished: Option<Spread>,
     /// The same for a later timestamp: another save had overtaken this one.
-    pub replaced: Vec<Tick>,
-    /// From the accepted save to the record valid at every laptop in service.
-    pub everywhere: Vec<Tick>,
+    pub replaced: Option<Spread>,
     /// Saves of neither kind, at laptops no longer in service.
     pub left: usize,
     /// Spans in which a record of a laptop in service was not valid.
-    pub unreadable: Vec<Tick>,
+    pub unreadable: Option<Spread>,
     /// While birds came, all together: those spans, and the laptops' service.
     pub dark: u64,
     pub served: u64,
@@ -64,8 +59,6 @@ impl Times {
             saving: BTreeMap::new(),
             finished: Vec::new(),
             replaced: Vec::new(),
-            open: BTreeMap::new(),
-            everywhere: Vec::new(),
             unreadable: BTreeMap::new(),
             spans: Vec::new(),
             dark: 0,
@@ -92,7 +85,6 @@ impl Times {
         let place = (laptop, i);
         if from.state != State::Write && to.state == State::Write {
             self.saving.insert(place, (to.timestamp, now));
-            self.open.entry(i).or_default().push((laptop, now));
         }
         match (from.state == State::Valid, to.state == State::Valid) {
             (true, false) => {
@@ -112,11 +104,10 @@ impl Times {
             end.leave(now, *n);
         }
         TimesReport {
-            finished: end.finished,
-            replaced: end.replaced,
-            everywhere: end.everywhere,
+            finished: Spread::of(&end.finished),
+            replaced: Spread::of(&end.replaced),
             left,
-            unreadable: end.spans,
+            unreadable: Spread::of(&end.spans),
             dark: end.dark,
             served: end.served,
         }
@@ -134,17 +125,6 @@ impl Times {
             };
             ended.push(now - since);
         }
-        self.end_saves(now, place.1);
-    }
-
-    /// The saves of a record end, if it is valid at every laptop in service.
-    fn end_saves(&mut self, now: Tick, i: usize) {
-        let dark = |n| self.unreadable.get(&(n, i)).is_some_and(Option::is_some);
-        if !(0..16).any(dark) {
-            let saves = self.open.remove(&i).unwrap_or_default();
-            self.everywhere
-                .extend(saves.iter().map(|(_, since)| now - since));
-        }
     }
 
     fn leave(&mut self, now: Tick, laptop: u8) {
@@ -153,12 +133,6 @@ impl Times {
         let spans: Vec<Tick> = self.at(laptop).filter_map(Option::take).collect();
         for since in spans {
             self.end_span(since, now);
-        }
-        // Its own saves are no longer waited for; others may have waited for it alone.
-        for i in self.open.keys().copied().collect::<Vec<usize>>() {
-            let saves = self.open.entry(i).or_default();
-            saves.retain(|(n, _)| *n != laptop);
-            self.end_saves(now, i);
         }
     }
 
@@ -192,7 +166,6 @@ mod tests {
             writer: tie,
             written: timestamp,
             acks: Members::default(),
-            waited: 0,
             len: 0,
         }
     }
@@ -212,6 +185,16 @@ mod tests {
         times
     }
 
+    /// Number, median, 95 of 100, worst.
+    fn spread(count: usize, median: Tick, most: Tick, worst: Tick) -> Option<Spread> {
+        Some(Spread {
+            count,
+            median,
+            most,
+            worst,
+        })
+    }
+
     /// 0 saves at 10 and finishes at 15; 1 hears of it at 12 and of the end at 22.
     #[test]
     fn a_save() {
@@ -223,11 +206,10 @@ mod tests {
             (22, 1, State::Valid, 0),
         ]);
         let right = TimesReport {
-            finished: vec![5],
-            replaced: vec![],
-            everywhere: vec![12],
+            finished: spread(1, 5, 5, 5),
+            replaced: None,
             left: 0,
-            unreadable: vec![5, 10],
+            unreadable: spread(2, 5, 10, 10),
             dark: 15,
             served: 180,
         };
@@ -246,10 +228,10 @@ mod tests {
             (30, 0, State::Valid, 1),
         ]);
         let report = times.report(100);
-        assert_eq!((report.finished, report.replaced), (vec![9], vec![20]));
-        assert_eq!(report.everywhere, [20, 19]);
+        assert_eq!(report.finished, spread(1, 9, 9, 9));
+        assert_eq!(report.replaced, spread(1, 20, 20, 20));
         assert_eq!(report.left, 0);
-        assert_eq!(report.unreadable, [9, 20]);
+        assert_eq!(report.unreadable, spread(2, 9, 20, 20));
     }
 
     /// 0 saves at 10 and dies at 15; 1, unreadable since 12, replays at 40 and
@@ -263,10 +245,9 @@ mod tests {
         times.moved(40, 1, 0, invalid, replay);
         times.moved(44, 1, 0, replay, valid);
         let report = times.report(100);
-        assert_eq!((report.finished, report.replaced), (vec![], vec![]));
-        // The save was its own.
-        assert_eq!((report.everywhere, report.left), (vec![], 1));
-        assert_eq!(report.unreadable, [5, 32]);
+        assert_eq!((report.finished, report.replaced), (None, None));
+        assert_eq!(report.left, 1);
+        assert_eq!(report.unreadable, spread(2, 5, 32, 32));
         assert_eq!((report.dark, report.served), (37, 15 + 90));
     }
 
@@ -279,7 +260,7 @@ mod tests {
         let [invalid, valid] = [State::Invalid, State::Valid].map(|s| record(s, 1, 1));
         times.moved(53, 0, 0, invalid, valid);
         let report = times.report(100);
-        assert_eq!(report.unreadable, [4, 3]);
+        assert_eq!(report.unreadable, spread(2, 3, 4, 4));
         assert_eq!((report.dark, report.served), (7, 14 + 40 + 90));
     }
 
@@ -299,23 +280,10 @@ mod tests {
         times.moved(40, 0, 0, overtaken, replay);
         times.moved(44, 0, 0, replay, valid);
         let report = times.report(100);
-        assert_eq!((report.finished, report.replaced), (vec![], vec![34]));
-        assert_eq!((report.everywhere, report.left), (vec![34], 1));
-        assert_eq!(report.unreadable, [4, 34]);
+        assert_eq!(report.finished, None);
+        assert_eq!(report.replaced, spread(1, 34, 34, 34));
+        assert_eq!(report.left, 1);
+        assert_eq!(report.unreadable, spread(2, 4, 34, 34));
         assert_eq!((report.dark, report.served), (38, 15 + 90));
-    }
-
-    /// 0 saves at 10. 1 hears of it at 12, and 0 finishes at 15; 1 is out of service at
-    /// 30, and all the others show it.
-    #[test]
-    fn a_save_that_one_waits_for_who_is_gone() {
-        let mut times = played(&[
-            (10, 0, State::Write, 0),
-            (12, 1, State::Invalid, 0),
-            (15, 0, State::Valid, 0),
-        ]);
-        assert_eq!(times.everywhere, []);
-        times.serve(30, Members::from(0b01));
-        assert_eq!(times.report(100).everywhere, [20]);
     }
 }

@@ -45,8 +45,8 @@ pub(crate) fn look(group: &Group, view: Members) -> Result<Unsettled, Cause> {
 /// How many events settle a record. None if they do not, or are too many.
 fn settle_one(group: &Group, copies: &mut [Laptop], i: usize) -> Option<usize> {
     let held = held(copies, i);
-    let latest = latest(group.settings, &held)?;
-    let steps = recipe(group.settings, &held)?;
+    let latest = latest(group.rule(), &held)?;
+    let steps = recipe(group.rule(), &held)?;
     follow(&steps, copies, i, by_packet).ok()?;
     let members: Vec<&Laptop> = copies.iter().collect();
     same_text(group, &members, i).ok()?;

@@ -3,10 +3,9 @@
 use std::process::{Command, Output};
 
 fn nets(options: &[&str]) -> Output {
-    let birds = ["--rings", "60", "--recaptures", "20", "--ticks", "300"];
+    let small = ["--rings", "60", "--recaptures", "20", "--ticks", "300"];
     Command::new(env!("CARGO_BIN_EXE_nets"))
-        .args(["--laptops", "5"])
-        .args(birds)
+        .args(small)
         .args(options)
         .output()
         .expect("the program runs")
@@ -30,44 +29,13 @@ fn one_morning() {
         "entered again",
         "in the records         80  all",
         "all refused by 27, nothing changed",
-        "each did what a wait of 20 asks",
         "wall time",
-        "by the clock ",
-        "the huts' own  ",
-        "ticks, wait 20  ",
     ] {
         assert!(said.contains(part), "{part} is missing:\n{said}");
     }
     assert!(!said.contains("question"), "{said}");
     // No progress unless on a terminal.
     assert!(output.stderr.is_empty());
-}
-
-/// The same morning by other clocks, and mornings that are only compared.
-#[test]
-fn mornings_by_several_clocks() {
-    let rows = |options: &[&str]| {
-        let output = nets(options);
-        assert_eq!(output.status.code(), Some(0));
-        let said = out(&output);
-        let lines = said.lines().skip_while(|l| !l.starts_with("by the clock"));
-        let first = |l: &str| l.split("  ").next().unwrap_or("").to_owned();
-        (said.clone(), lines.map(first).collect::<Vec<String>>())
-    };
-    let (said, clocks) = rows(&["--seed", "3", "--wait", "5"]);
-    assert!(said.contains("a wait of 5 asks"), "{said}");
-    let sparing = "ticks, wait 16, sparing 8";
-    let [five, eight, more, most] = [5, 8, 32, 64].map(|w| format!("ticks, wait {w}"));
-    let right = ["by the clock", "the huts' own", &five, &eight, &more, &most];
-    assert_eq!(clocks[..6], right, "{said}");
-    assert_eq!(clocks[6..], [sparing], "{said}");
-
-    let (said, clocks) = rows(&["--seed", "3", "--clock", "hut"]);
-    assert!(!said.contains("\nticks  "), "{said}");
-    assert_eq!(clocks.len(), 7, "{said}");
-    let (said, clocks) = rows(&["--seed", "3", "--seeds", "2", "--compare"]);
-    assert!(said.starts_with("by the clock"), "{said}");
-    assert_eq!(clocks.len(), 7, "{said}");
 }
 
 /// The group's rule, and the numbers that ties went to.
@@ -77,7 +45,7 @@ fn mornings_by_either_rule() {
         let output = nets(&["--seed", "3", "--rule", rule]);
         assert_eq!(output.status.code(), Some(0));
         let said = out(&output);
-        for part in ["records, ties to", " all to"] {
+        for part in ["records, ties to", "with one version: all to"] {
             let part = format!("{part} the {rule} number");
             assert!(said.contains(&part), "{part} is missing:\n{said}");
         }
@@ -109,17 +77,15 @@ fn many_mornings() {
     assert!(last.contains("; ties: "), "{said}");
     assert!(last.contains(", all to the lower number; "), "{said}");
     assert!(last.contains("; packets of the other station: "), "{said}");
-    assert!(last.contains("; saves given up: "), "{said}");
+    assert!(last.contains("given up: 0, in 0 mornings"), "{said}");
     assert!(last.contains("commits refused by 26: "), "{said}");
     assert!(last.contains("every bird in the records"), "{said}");
 }
 
-/// In the second of these mornings an overtaken save is given up. By the old clock that
-/// is only where a laptop was struck off.
+/// In the second of these mornings an overtaken save is given up.
 #[test]
 fn mornings_with_a_save_that_is_given_up() {
-    let old = ["--laptops", "11", "--clock", "hut", "--rule", "higher"];
-    let output = nets(&[&old[..], &["--seed", "44", "--seeds", "3"]].concat());
+    let output = nets(&["--rule", "higher", "--seed", "44", "--seeds", "3"]);
     assert_eq!(output.status.code(), Some(0));
     let said = out(&output);
     let lines: Vec<&str> = said.lines().collect();
@@ -162,10 +128,6 @@ fn wrong_options() {
         &["--delay", "0"],
         &["--rule", "middle"],
         &["--rule"],
-        &["--wait", "0"],
-        &["--wait", "256"],
-        &["--sparing", "0"],
-        &["--clock", "sundial"],
         &["--neighbours", "101"],
         &["--seeds", "0"],
         &["--seed"],

@@ -11,7 +11,7 @@
 //! outset, and [`follow`] has them do it. The recipe takes the first of the
 //! [`drivers`]; any other settles the record as well. Lists and drivers are those of
 //! crates/hermes/specs/Recipe.antt, of which all this is proved. No hut sees what all
-//! others hold, so hut software gets there by its ticks instead (docs/GUIDE.md).
+//! others hold, so hut software gets there by its clocks instead (docs/GUIDE.md).
 //!
 //! What is passed in are all laptops of one view, each at its epoch, and no others,
 //! and the settings of their group: nothing here looks at views or epochs. With one
@@ -19,18 +19,17 @@
 //! before all show the record.
 //!
 //! ```
-//! use cetskobi::{Laptop, Refusal, Rule, Settings};
+//! use cetskobi::{Laptop, Refusal, Rule};
 //! use settle::{by_packet, follow, held, recipe};
 //!
 //! # fn main() -> Result<(), Refusal> {
-//! let group = Settings::new(Rule::Lower, 3);
-//! let start = |number| Laptop::start(number, 0b111, group, 1);
+//! let start = |number| Laptop::start(number, 0b111, Rule::Lower, 1);
 //! let mut laptops = [start(0)?, start(1)?, start(2)?];
 //! // Laptops 1 and 2 save, and their INVs are lost. The tie goes to the lower number.
 //! let _lost = laptops[1].write(0, b"Wren")?;
 //! let _lost = laptops[2].write(0, b"Robin")?;
 //!
-//! let steps = recipe(group, &held(&laptops, 0)).expect("somebody can begin");
+//! let steps = recipe(Rule::Lower, &held(&laptops, 0)).expect("somebody can begin");
 //! assert_eq!((steps[0].at, steps.len()), (1, 3 * 3 - 2));
 //! assert_eq!(follow(&steps, &mut laptops, 0, by_packet), Ok(()));
 //! for laptop in &laptops {
@@ -129,12 +128,11 @@ pub fn driver(settings: impl Into<Settings>, held: &[Held]) -> Option<Step> {
 /// needs it.
 ///
 /// ```
-/// use cetskobi::{Laptop, Refusal, Rule, Settings};
+/// use cetskobi::{Laptop, Refusal, Rule};
 /// use settle::{by_packet, drivers, follow, held, steps};
 ///
 /// # fn main() -> Result<(), Refusal> {
-/// let group = Settings::new(Rule::Lower, 3);
-/// let start = |number| Laptop::start(number, 0b111, group, 1);
+/// let start = |number| Laptop::start(number, 0b111, Rule::Lower, 1);
 /// let mut laptops = vec![start(0)?, start(1)?, start(2)?];
 /// // Laptop 2 saves, the others hear of it, and it dies.
 /// let inv = laptops[2].write(0, b"Wren")?.into_owned();

@@ -1,20 +1,15 @@
 //! The list for each kind of driver, at three laptops of four, or two, under both
 //! rules of ties.
 
-use cetskobi::{Laptop, Leaving, Members, Record, Refusal, Rule, Settings, State, Timestamp};
+use cetskobi::{Laptop, Leaving, Members, Record, Refusal, Rule, State, Timestamp};
 use settle::{by_hand, by_packet, driver, drivers, follow, held, latest, most, recipe, steps};
 use settle::{Event, Halt, Step};
 
 const TEXT: &[u8] = b"Robin, wing 73";
 
-/// The settings of a group with this rule of ties. Of the wait no list knows.
-fn by(rule: Rule) -> Settings {
-    Settings::new(rule, 3)
-}
-
 /// Laptops 0 to 3 with one record, all in the view.
 fn four(rule: Rule) -> Vec<Laptop> {
-    let start = |n| Laptop::start(n, 0b1111, by(rule), 1).expect("a fresh start");
+    let start = |n| Laptop::start(n, 0b1111, rule, 1).expect("a fresh start");
     (0..4).map(start).collect()
 }
 
@@ -179,8 +174,8 @@ fn two_saves_at_once() {
         strike(&mut laptops, &[3]);
         let held = held(&laptops, 0);
         let tie = winner as u8;
-        assert_eq!(latest(by(rule), &held), Some(Timestamp { version: 1, tie }));
-        let driver = driver(by(rule), &held).map(|first| first.at);
+        assert_eq!(latest(rule, &held), Some(Timestamp { version: 1, tie }));
+        let driver = driver(rule, &held).map(|first| first.at);
         assert_eq!(driver, Some(tie));
         let list = match rule {
             Rule::Higher => [
@@ -198,7 +193,7 @@ fn two_saves_at_once() {
 
         // By the other rule it is the wrong driver's list: its VAL is refused.
         let other = [Rule::Lower, Rule::Higher][usize::from(rule == Rule::Lower)];
-        let wrong = recipe(by(other), &held).expect("somebody begins");
+        let wrong = recipe(other, &held).expect("somebody begins");
         assert_eq!(wrong[0].at, loser as u8);
         let halt = follow(&wrong, &mut laptops, 0, by_hand);
         let refusal = Refusal::StrayVal;
@@ -238,11 +233,11 @@ fn a_dead_winner_and_two_that_are_left() {
 
     // Now all show it. 1 could say so again, and the recipe has nothing to do.
     comes(&mut laptops, 0, &val);
-    let (group, held) = (by(Rule::Higher), held(&laptops, 0));
-    let all = drivers(group, &held).into_iter();
-    let all = all.map(|first| lines(&steps(group, &held, first)));
+    let (rule, held) = (Rule::Higher, held(&laptops, 0));
+    let all = drivers(rule, &held).into_iter();
+    let all = all.map(|first| lines(&steps(rule, &held, first)));
     assert_eq!(all.collect::<Vec<_>>(), [["1 resends"]]);
-    assert_eq!(recipe(group, &held), Some(Vec::new()));
+    assert_eq!(recipe(rule, &held), Some(Vec::new()));
 }
 
 /// The same by the new rule: 0's save overtook that of 2.
@@ -303,7 +298,7 @@ fn an_overtaken_save_by_the_new_rule() {
 /// the lists are the same.
 #[test]
 fn the_lists_that_are_computed_in_the_logic() {
-    let start = |n| Laptop::start(n, 0b111, by(Rule::Higher), 1).expect("a fresh start");
+    let start = |n| Laptop::start(n, 0b111, Rule::Higher, 1).expect("a fresh start");
     let three = || (0..3).map(start).collect::<Vec<_>>();
 
     // `lostVal`, then `deadWinner` with `deadWinnerByOther`
@@ -348,12 +343,11 @@ fn nobody_can_begin() {
         written: Timestamp::default(),
         acks: Members::default(),
         len: 0,
-        waited: 0,
     };
     let held = [(0, record(State::Valid, 2)), (1, record(State::Invalid, 1))];
     for &rule in Rule::ALL {
-        assert_eq!(drivers(by(rule), &held), []);
-        assert_eq!(recipe(by(rule), &held), None);
+        assert_eq!(drivers(rule, &held), []);
+        assert_eq!(recipe(rule, &held), None);
     }
 }
 

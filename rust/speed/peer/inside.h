@@ -1,4 +1,4 @@
-/* What the peer's files share. "Question" is one of documents 01 and 02, and refused(n) the answer that its number n gives. */
+/* What the peer's files share. "Question" is one of document 01, and refused(n) the answer that its number n gives. */
 #ifndef INSIDE_H
 #define INSIDE_H
 
@@ -79,12 +79,7 @@ static inline struct cetskobi_answer sent(uint8_t kind, uint32_t version, uint8_
     return (struct cetskobi_answer){.kind = kind, .tie = tie, .version = version};
 }
 
-/* ---- questions 28 (02, Wish 7) and 1 to 5; each gives 0 or the number that says no */
-
-static inline uint8_t ask_wait(struct cetskobi_settings settings)
-{
-    return settings.wait ? 0 : CETSKOBI_REFUSED_NO_WAIT;
-}
+/* ---- questions 1 to 5; each gives 0 or the number that says no */
 
 static inline uint8_t ask_group(uint8_t number, uint16_t view)
 {
@@ -103,20 +98,15 @@ static inline uint8_t ask_member(uint8_t number, uint16_t view)
     return view >> number & 1 ? 0 : CETSKOBI_REFUSED_STRUCK_OFF;
 }
 
-/* The count is below the wait, and 0 of a valid record: that one is below 1. */
-static inline bool sound(const record *r, struct cetskobi_replica me)
+static inline bool sound(const record *r, uint8_t number)
 {
-    uint8_t below = r->state == CETSKOBI_VALID ? 1 : me.settings.wait;
     return r->state <= CETSKOBI_REPLAY && (r->tie | r->writer | r->written_tie) <= NUMBER_MAX && r->len <= CETSKOBI_VALUE_MAX &&
-           (r->acks >> me.number & 1) == 0 && r->waited < below;
+           (r->acks >> number & 1) == 0;
 }
 
 static inline uint8_t ask(struct cetskobi_replica me, const uint8_t *table, size_t table_len, size_t store_len, size_t i)
 {
-    uint8_t no = ask_wait(me.settings);
-    if (no)
-        return no;
-    no = ask_group(me.number, me.view);
+    uint8_t no = ask_group(me.number, me.view);
     if (no)
         return no;
     no = ask_memory(table_len, store_len);
@@ -127,20 +117,13 @@ static inline uint8_t ask(struct cetskobi_replica me, const uint8_t *table, size
         return no;
     if (i >= table_len / CETSKOBI_RECORD_BYTES)
         return CETSKOBI_REFUSED_STRAY_RECORD;
-    return sound(seen_at(table, i), me) ? 0 : CETSKOBI_REFUSED_UNSOUND_RECORD;
+    return sound(seen_at(table, i), me.number) ? 0 : CETSKOBI_REFUSED_UNSOUND_RECORD;
 }
 
 /* A write or a replay that every other replica in the view has acknowledged. */
 static inline bool finished(const record *r, struct cetskobi_replica me)
 {
     return r->state >= CETSKOBI_WRITE && (me.view & ~(r->acks | bit(me.number))) == 0;
-}
-
-/* A record becomes valid, and waits no longer. */
-static inline void settle(record *r)
-{
-    r->state = CETSKOBI_VALID;
-    r->waited = 0;
 }
 
 /* ---- the store */

@@ -16,7 +16,6 @@ static inline struct cetskobi_answer take_inv(record *r, struct cetskobi_replica
         r->writer = m.sender;
         r->version = m.version;
         r->len = (uint8_t)value_len;
-        r->waited = 0;
         put_value(store, i, value, value_len);
     }
     return sent(CETSKOBI_ACK, m.version, m.tie);
@@ -31,7 +30,7 @@ static inline struct cetskobi_answer take_ack(record *r, struct cetskobi_replica
     r->acks |= bit(m.sender);
     if (!finished(r, me))
         return sent(CETSKOBI_NONE, 0, 0);
-    settle(r);
+    r->state = CETSKOBI_VALID;
     return sent(CETSKOBI_VAL, r->version, r->tie);
 }
 
@@ -39,7 +38,7 @@ static inline struct cetskobi_answer take_val(record *r, struct cetskobi_message
 {
     if (r->state == CETSKOBI_VALID || stamp(m.version, m.tie) != stamp(r->version, r->tie))
         return refused(CETSKOBI_REFUSED_STRAY_VAL);
-    settle(r);
+    r->state = CETSKOBI_VALID;
     return sent(CETSKOBI_NONE, 0, 0);
 }
 

@@ -26,7 +26,6 @@ static inline struct cetskobi_answer save(struct cetskobi_replica me, record *r,
     r->version = r->written_version = version;
     r->acks = 0;
     r->len = (uint8_t)value_len;
-    r->waited = 0;
     put_value(store, i, value, value_len);
     return sent(CETSKOBI_INV, version, me.number);
 }
@@ -78,22 +77,6 @@ struct cetskobi_answer peer_commit(struct cetskobi_replica me, uint8_t *table, s
     return save(me, r, store, i, value, value_len);
 }
 
-static inline bool overtaken(const record *r)
-{
-    return r->state == CETSKOBI_INVALID || r->state == CETSKOBI_INVALID_WRITE;
-}
-
-/* The step of a replay, also of one that a tick does. It leaves the count of ticks. */
-static inline struct cetskobi_answer take_over(struct cetskobi_replica me, record *r)
-{
-    r->state = CETSKOBI_REPLAY;
-    r->writer = me.number;
-    r->written_tie = r->tie;
-    r->written_version = r->version;
-    r->acks = 0;
-    return sent(CETSKOBI_INV, r->version, r->tie);
-}
-
 struct cetskobi_answer peer_replay(struct cetskobi_replica me, uint8_t *table, size_t table_len, const uint8_t *store, size_t store_len,
                                    size_t i)
 {
@@ -103,9 +86,15 @@ struct cetskobi_answer peer_replay(struct cetskobi_replica me, uint8_t *table, s
         return refused(no);
     record *r = record_at(table, i);
     /* Question 16. From invalid-write too (02, Wish 2): the own write, overtaken, is given up. */
-    if (!overtaken(r) || has(me.view, r->writer))
+    bool invalid = r->state == CETSKOBI_INVALID || r->state == CETSKOBI_INVALID_WRITE;
+    if (!invalid || has(me.view, r->writer))
         return refused(CETSKOBI_REFUSED_NOT_REPLAYABLE);
-    return take_over(me, r);
+    r->state = CETSKOBI_REPLAY;
+    r->writer = me.number;
+    r->written_tie = r->tie;
+    r->written_version = r->version;
+    r->acks = 0;
+    return sent(CETSKOBI_INV, r->version, r->tie);
 }
 
 struct cetskobi_answer peer_validate(struct cetskobi_replica me, uint8_t *table, size_t table_len, const uint8_t *store, size_t store_len,
@@ -118,7 +107,7 @@ struct cetskobi_answer peer_validate(struct cetskobi_replica me, uint8_t *table,
     record *r = record_at(table, i);
     if (!finished(r, me))
         return refused(CETSKOBI_REFUSED_NOT_FINISHED);
-    settle(r);
+    r->state = CETSKOBI_VALID;
     return sent(CETSKOBI_VAL, r->version, r->tie);
 }
 
@@ -137,44 +126,23 @@ struct cetskobi_answer peer_resend(struct cetskobi_replica me, uint8_t *table, s
     return refused(CETSKOBI_REFUSED_NOT_RESENDABLE);
 }
 
-/* 02, Wish 7. */
-struct cetskobi_answer peer_tick(struct cetskobi_replica me, uint8_t *table, size_t table_len, const uint8_t *store, size_t store_len,
-                                 size_t i)
-{
-    (void)store;
-    uint8_t no = ask(me, table, table_len, store_len, i);
-    if (no)
-        return refused(no);
-    record *r = record_at(table, i);
-    if (r->state == CETSKOBI_VALID)
-        return sent(CETSKOBI_NONE, 0, 0);
-    /* Below the wait until now: the sum fits. */
-    r->waited++;
-    if (r->waited < me.settings.wait)
-        return sent(CETSKOBI_NONE, 0, 0);
-    r->waited = 0;
-    return overtaken(r) ? take_over(me, r) : sent(CETSKOBI_INV, r->version, r->tie);
-}
-
 /* ---- membership, and what leaves */
 
 /* By words: stored field by field it would be read back at once to be returned, which stalls. */
-static inline struct cetskobi_admission admission(uint8_t number, uint8_t rule, uint8_t wait, uint16_t view, uint32_t epoch, uint8_t no)
+static inline struct cetskobi_admission admission(uint8_t number, uint8_t rule, uint16_t view, uint32_t epoch, uint8_t no)
 {
     struct cetskobi_admission a;
-    uint64_t first = (uint64_t)view << 32 | (uint32_t)wait << 16 | (uint32_t)rule << 8 | number;
-    uint64_t last = (uint64_t)no << 32 | epoch;
-    memcpy(&a, &first, sizeof first);
-    memcpy((uint8_t *)&a + sizeof first, &last, sizeof last);
+    uint64_t identity = (uint64_t)epoch << 32 | (uint32_t)view << 16 | (uint32_t)rule << 8 | number;
+    uint32_t last = no;
+    memcpy(&a, &identity, sizeof identity);
+    memcpy((uint8_t *)&a + sizeof identity, &last, sizeof last);
     return a;
 }
 
 /* A refused one gives the identity back as it was passed, the rule's byte too. */
 struct cetskobi_admission peer_view(struct cetskobi_replica me, uint32_t epoch, uint16_t set)
 {
-    uint8_t no = ask_wait(me.settings);
-    if (!no)
-        no = ask_group(me.number, me.view);
+    uint8_t no = ask_group(me.number, me.view);
     if (!no)
         no = ask_member(me.number, me.view);
     if (!no && epoch <= me.epoch)
@@ -182,31 +150,30 @@ struct cetskobi_admission peer_view(struct cetskobi_replica me, uint32_t epoch, 
     if (!no && ((set & ~me.view) != 0 || !two_or_more(set)))
         no = CETSKOBI_REFUSED_VIEW_NOT_WITHIN;
     if (rarely(no))
-        return admission(me.number, me.settings.rule, me.settings.wait, me.view, me.epoch, no);
-    return admission(me.number, rule_of(me.settings), me.settings.wait, set, epoch, 0);
+        return admission(me.number, me.settings.rule, me.view, me.epoch, no);
+    return admission(me.number, rule_of(me.settings), set, epoch, 0);
 }
 
 struct cetskobi_admission peer_start(uint8_t number, uint16_t view, struct cetskobi_settings settings, uint8_t *table, size_t table_len,
                                      uint8_t *store, size_t store_len)
 {
-    uint8_t rule = rule_of(settings), wait = settings.wait;
-    uint8_t no = ask_wait(settings);
-    if (!no)
-        no = ask_group(number, view);
+    uint8_t rule = rule_of(settings);
+    uint8_t no = ask_group(number, view);
     if (!no)
         no = ask_memory(table_len, store_len);
     if (!no)
         no = ask_member(number, view);
     if (no)
-        return admission(number, rule, wait, view, 0, no);
-    /* Bytes 0 to 7 as one number: the lowest of the view, by both rules, is tie-breaker, last writer and last-write tie-breaker. */
+        return admission(number, rule, view, 0, no);
+    /* Bytes 0 to 7 as one number: the lowest of the view, by both rules, is tie-breaker, last writer and last-write tie-breaker. Byte 15
+     * stays. */
     uint64_t fresh = (uint64_t)__builtin_ctz(view) * 0x01010100;
     for (uint8_t *r = table; r != table + table_len; r += CETSKOBI_RECORD_BYTES) {
         memcpy(r, &fresh, sizeof fresh);
-        memset(r + sizeof fresh, 0, CETSKOBI_RECORD_BYTES - sizeof fresh);
+        memset(r + sizeof fresh, 0, offsetof(struct cetskobi_record, unused) - sizeof fresh);
     }
     memset(store, 0, store_len);
-    return admission(number, rule, wait, view, 0, 0);
+    return admission(number, rule, view, 0, 0);
 }
 
 size_t peer_body(const uint8_t *table, size_t table_len, const uint8_t *store, size_t store_len, size_t i, struct cetskobi_answer left)

@@ -16,9 +16,6 @@ struct cetskobi_answer peer_validate(struct cetskobi_replica me, uint8_t *table,
                                      size_t i);
 struct cetskobi_answer peer_resend(struct cetskobi_replica me, uint8_t *table, size_t table_len, const uint8_t *store, size_t store_len,
                                    size_t i);
-/* 02, Wish 7. */
-struct cetskobi_answer peer_tick(struct cetskobi_replica me, uint8_t *table, size_t table_len, const uint8_t *store, size_t store_len,
-                                 size_t i);
 struct cetskobi_reading peer_read(struct cetskobi_replica me, const uint8_t *table, size_t table_len, const uint8_t *store, size_t store_len,
                                size_t i);
 

@@ -1,7 +1,5 @@
 //! What is measured: each case with its sides, on equal inputs.
 
-use std::hint::black_box;
-
 use cetskobi::sys::{Answer, Message, Replica, Settings};
 use cetskobi::{Members, Record, State, Timestamp};
 
@@ -23,21 +21,17 @@ pub trait Visit {
     );
 }
 
-/// Laptop 2 with view {1,2,5} at epoch 9, in a group with the old rule of ties and a
-/// wait of 3.
+/// Laptop 2 with view {1,2,5} at epoch 9, in a group with the old rule of ties.
 pub const ME: Replica = Replica {
     number: 2,
-    settings: Settings { rule: 1, wait: 3 },
+    settings: Settings { rule: 1 },
     view: 0b10_0110,
     epoch: 9,
 };
 
 /// The same in a group with the new rule (02, Wish 6).
 const ME_LOWER: Replica = Replica {
-    settings: Settings {
-        rule: 2,
-        ..ME.settings
-    },
+    settings: Settings { rule: 2 },
     ..ME
 };
 
@@ -68,15 +62,6 @@ const fn record(state: State, timestamp: (u32, u8), written: (u32, u8), acks: u1
         },
         acks: Members::from_bits(acks),
         len: TEXT.len() as u8,
-        waited: 0,
-    }
-}
-
-/// The same one tick before the wait is reached (02, Wish 7).
-const fn about_to_act(record: Record) -> Record {
-    Record {
-        waited: ME.settings.wait - 1,
-        ..record
     }
 }
 
@@ -252,103 +237,7 @@ fn events(n: usize, visit: &mut impl Visit) {
             call: |m: &mut Plain<()>, i| m.replica.resend(&m.table, &m.store, i),
         },
     );
-    ticks(n, visit);
     leaving(n, visit);
-}
-
-/// 02, Wish 7.
-fn ticks(n: usize, visit: &mut impl Visit) {
-    tick(
-        event("tick", "tick of a valid record", n, NOTHING),
-        VALID,
-        visit,
-    );
-    tick(
-        event("tick-below", "tick below the wait", n, NOTHING),
-        WRITING,
-        visit,
-    );
-    tick(
-        event(
-            "tick-inv",
-            "tick at the wait in write, the INV again",
-            n,
-            sent(1, 8, 2),
-        ),
-        about_to_act(WRITING),
-        visit,
-    );
-    tick(
-        event(
-            "tick-replay",
-            "tick at the wait in invalid, a replay",
-            n,
-            sent(1, 8, 5),
-        ),
-        about_to_act(INVALID),
-        visit,
-    );
-    clock(
-        other(
-            "tick-4096",
-            "a tick of each of 4,096 valid records",
-            n,
-            number(CLOCK),
-        ),
-        visit,
-    );
-}
-
-fn tick(about: About, record: Record, visit: &mut impl Visit) {
-    let n = about.records;
-    visit.case(
-        about,
-        both!(by => On {
-            lent: Lent::new(ME, n, VALID, ()),
-            prepare: move |e: &mut Lent<()>, i| e.set(i, record),
-            call: |e: &mut Lent<()>, i| by::tick(e.me, &mut e.table, &e.store, i),
-        }),
-        || On {
-            lent: Plain::new(ME, n, VALID, ()),
-            prepare: move |m: &mut Plain<()>, i| m.table[i] = plain::record(record),
-            call: |m: &mut Plain<()>, i| m.replica.tick(&mut m.table, &m.store, i),
-        },
-    );
-}
-
-/// The records of a clock's round.
-const CLOCK: usize = 4096;
-
-/// What a clock does once a second: one call is a tick of every record, all valid.
-fn clock(about: About, visit: &mut impl Visit) {
-    visit.case(
-        about,
-        both!(by => On {
-            lent: Lent::new(ME, CLOCK, VALID, ()),
-            prepare: |_: &mut _, _| (),
-            call: |e: &mut Lent<()>, _| {
-                let Lent { me, table, store, .. } = e;
-                let mut tick = |i| by::tick(*me, table, store, i);
-                (0..CLOCK)
-                    .filter(|&i| black_box(tick(i)).number == 0)
-                    .count()
-            },
-        }),
-        || On {
-            lent: Plain::new(ME, CLOCK, VALID, ()),
-            prepare: |_: &mut _, _| (),
-            call: |m: &mut Plain<()>, _| {
-                let Plain {
-                    replica,
-                    table,
-                    store,
-                    ..
-                } = m;
-                let mut tick = |i| replica.tick(table, store, i);
-                (0..CLOCK).filter(|&i| black_box(tick(i)).is_ok()).count()
-            },
-        },
-    );
 }
 
 fn write(about: About, record: Record, value: Vec<u8>, visit: &mut impl Visit) {

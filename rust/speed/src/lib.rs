@@ -101,12 +101,6 @@ macro_rules! over_slices {
         }
 
         #[inline(always)]
-        pub fn tick(me: Replica, table: &mut [u8], store: &[u8], i: usize) -> Answer {
-            let (t, s) = (table.as_mut_ptr(), store.as_ptr());
-            unsafe { side::tick(me, t, table.len(), s, store.len(), i) }
-        }
-
-        #[inline(always)]
         pub fn body(table: &[u8], store: &[u8], i: usize, left: Answer) -> usize {
             let (t, s) = (table.as_ptr(), store.as_ptr());
             unsafe { side::body(t, table.len(), s, store.len(), i, left) }

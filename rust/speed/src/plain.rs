@@ -44,8 +44,7 @@ pub fn settings(settings: cetskobi::sys::Settings) -> Settings {
         2 => Rule::Lower,
         _ => Rule::Higher,
     };
-    let wait = settings.wait;
-    Settings { rule, wait }
+    Settings { rule }
 }
 
 pub fn record(r: cetskobi::Record) -> Record {
@@ -57,7 +56,6 @@ pub fn record(r: cetskobi::Record) -> Record {
         last_write: stamp(r.written),
         acks: r.acks.bits(),
         len: r.len,
-        waited: r.waited,
     }
 }
 

@@ -13,8 +13,8 @@ pub mod engine {
         cetskobi_deliver_accepted as deliver_accepted, cetskobi_deliver_packet as deliver_packet,
         cetskobi_fetch as fetch, cetskobi_fetch_accepted as fetch_accepted, cetskobi_pack as pack,
         cetskobi_read as read, cetskobi_recipients as recipients, cetskobi_replay as replay,
-        cetskobi_resend as resend, cetskobi_start as start, cetskobi_tick as tick,
-        cetskobi_validate as validate, cetskobi_view as view, cetskobi_write as write,
+        cetskobi_resend as resend, cetskobi_start as start, cetskobi_validate as validate,
+        cetskobi_view as view, cetskobi_write as write,
     };
 }
 
@@ -44,8 +44,6 @@ pub mod peer {
         pub fn validate(me: Replica, table: *mut u8, table_len: usize, store: *const u8, store_len: usize, i: usize) -> Answer;
         #[link_name = "peer_resend"]
         pub fn resend(me: Replica, table: *mut u8, table_len: usize, store: *const u8, store_len: usize, i: usize) -> Answer;
-        #[link_name = "peer_tick"]
-        pub fn tick(me: Replica, table: *mut u8, table_len: usize, store: *const u8, store_len: usize, i: usize) -> Answer;
         #[link_name = "peer_body"]
         pub fn body(table: *const u8, table_len: usize, store: *const u8, store_len: usize, i: usize, left: Answer) -> usize;
         #[link_name = "peer_recipients"]

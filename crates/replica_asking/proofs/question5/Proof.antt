@@ -11,9 +11,6 @@ has-requires c κs = search rules
 returns : tie.Need-returns
 returns c = rw (sym c.before.has.ensures ∙ c.if1.true, and-false)
 
-rests-requires : tie.Need-rests-requires
-rests-requires c κs = search rules
-
 cast-short : tie.Need-overflow-cast-short
 cast-short c = search rules
 
@@ -21,7 +18,7 @@ question-requires : tie.Need-question-requires
 question-requires c κs = search rules
 
 returns-2 : tie.Need-returns-2
-returns-2 c = rw (sym c.before.before.before.before.before.before.before.before.before.has.ensures ∙ c.before.before.before.before.before.before.before.before.if1.false, and-true, ← c.before.before.before.before.before.before.before.rests.ensures) c.question.ensures
+returns-2 c = rw (sym c.before.before.before.before.before.before.has.ensures ∙ c.before.before.before.before.before.if1.false, and-true) c.question.ensures
 
 pub question5-spec : {M : Type 1} → statement M
-question5-spec = tie.close (tie.spec has-requires returns rests-requires cast-short question-requires returns-2)
+question5-spec = tie.close (tie.spec has-requires returns cast-short question-requires returns-2)

@@ -30,9 +30,6 @@ enum-told-6 c = search rules
 enum-told-7 : tie.Need-enum-told-7
 enum-told-7 c = search rules
 
-enum-told-8 : tie.Need-enum-told-8
-enum-told-8 c = search rules
-
 returns : tie.Need-returns
 returns c = search rules
 
@@ -57,9 +54,6 @@ returns-7 c = search rules
 returns-8 : tie.Need-returns-8
 returns-8 c = search rules
 
-returns-9 : tie.Need-returns-9
-returns-9 c = search rules
-
 pub sender-of-spec : {M : Type 1} → statement M
 sender-of-spec =
     tie.close
@@ -73,7 +67,6 @@ sender-of-spec =
     with-requires
     enum-told-6
     enum-told-7
-    enum-told-8
     returns
     returns-2
     returns-3
@@ -81,5 +74,4 @@ sender-of-spec =
     returns-5
     returns-6
     returns-7
-    returns-8
-    returns-9)
+    returns-8)

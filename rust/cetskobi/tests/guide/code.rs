@@ -1,11 +1,18 @@
-use cetskobi::{packet, Laptop, Leaving, Members, NotCommitted, Opened, Refusal, Rule, Settings, State, Timestamp};
+use cetskobi::{packet, Laptop, Leaving, Members, Message, NotCommitted, Opened, Refusal, Rule, State, Timestamp};
 
-/// The rule of ties and the wait of a new group: the same at all of its laptops, to its end.
-const SETTINGS: Settings = Settings::new(Rule::Lower, 20);
+/// The rule of ties of a new group: the same at all of its laptops, to its end.
+const RULE: Rule = Rule::Lower;
+
+/// Ticks until a message goes again: each wait is twice the one before, up to the most.
+const WAIT_FIRST: u16 = 8;
+const WAIT_INV: u16 = 32;
+const WAIT_VAL: u16 = 1024;
 
 struct Hut {
     laptop: Laptop,
     radio: Radio, // yours
+    /// Of each record: ticks until it is tried again, and how long that wait was. 0 is never.
+    clocks: Vec<(u16, u16)>,
     /// What goes into the next packet, and to whom.
     messages: Vec<Leaving<'static>>,
     to: u16,
@@ -24,8 +31,8 @@ enum Fate {
 
 impl Hut {
     fn begin(number: u8, view: u16, count: usize, radio: Radio) -> Result<Hut, Refusal> {
-        let laptop = Laptop::start(number, view, SETTINGS, count)?;
-        Ok(Hut { laptop, radio, messages: Vec::new(), to: 0, heard: 0 })
+        let laptop = Laptop::start(number, view, RULE, count)?;
+        Ok(Hut { laptop, radio, clocks: vec![(0, 0); count], messages: Vec::new(), to: 0, heard: 0 })
     }
 
     /// Sends what waits for it, as one packet.
@@ -51,6 +58,12 @@ impl Hut {
         self.messages.push(left);
     }
 
+    /// The same for an INV or VAL; it goes again after so many ticks.
+    fn put_again(&mut self, left: Leaving<'static>, wait: u16) {
+        self.clocks[left.envelope().record] = (wait, wait);
+        self.put(left);
+    }
+
     /// A ringer opens a ring: the text that she sees, and the timestamp that the save brings back.
     fn open(&self, ring: usize) -> Result<Opened, Refusal> {
         self.laptop.ask(ring)
@@ -62,7 +75,7 @@ impl Hut {
     fn save(&mut self, opened: Opened, text: &[u8]) -> Result<Timestamp, NotCommitted> {
         let inv = self.laptop.commit(opened, text)?.into_owned();
         let saved = inv.envelope().message.timestamp();
-        self.put(inv);
+        self.put_again(inv, WAIT_FIRST);
         self.send();
         Ok(saved)
     }
@@ -88,9 +101,12 @@ impl Hut {
                 self.heard = arrival.epoch();
             }
             let Ok(reply) = arrival.reply() else { continue };
-            // An ACK; or a VAL: that was the last ACK, the record is valid, and all others are told.
             let Some(left) = reply.leaving().map(Leaving::into_owned) else { continue };
-            self.put(left);
+            match left.envelope().message {
+                // That was the last ACK: the record is valid, and all others are told.
+                Message::Val(_) => self.put_again(left, WAIT_FIRST),
+                _ => self.put(left),
+            }
         }
         self.send();
         Ok(())
@@ -102,25 +118,41 @@ impl Hut {
         (counts && self.heard > 0).then_some(self.heard)
     }
 
-    /// Once a second: a record that has waited long enough sends its INV again, or is taken over from here.
+    /// Tries what may move a record on from here.
+    fn help(&mut self, ring: usize, wait: u16) {
+        let mut left = self.laptop.replay(ring).map(Leaving::into_owned);
+        if left.is_err() {
+            left = self.laptop.resend(ring).map(Leaving::into_owned);
+        }
+        match left {
+            Ok(left) => self.put_again(left, wait),
+            Err(_) => self.clocks[ring] = (0, 0), // another laptop's turn
+        }
+    }
+
+    /// Once a second.
     fn tick(&mut self) {
-        for ring in 0..self.laptop.count() {
-            let Ok(reply) = self.laptop.tick(ring) else { continue }; // 3: this laptop is struck off
-            let Some(inv) = reply.leaving().map(Leaving::into_owned) else { continue };
-            self.put(inv);
+        for ring in 0..self.clocks.len() {
+            let (ticks, wait) = self.clocks[ring];
+            if ticks > 1 {
+                self.clocks[ring] = (ticks - 1, wait);
+            } else if ticks == 1 {
+                let most = if self.laptop.shows_valid(ring) { WAIT_VAL } else { WAIT_INV };
+                self.help(ring, most.min(2 * wait));
+            }
         }
         self.send();
     }
 
-    /// Once over all records: after a change of view, and where software starts again on memory that it kept.
+    /// Once over all records: after a change of view, and when the warden asks for it.
     fn go_over(&mut self) {
-        for ring in 0..self.laptop.count() {
-            let mut left = self.laptop.validate(ring).map(Leaving::into_owned); // finishes what waited for a struck-off laptop alone
-            if left.is_err() {
-                left = self.laptop.replay(ring).map(Leaving::into_owned); // takes a struck-off laptop's save over, before a tick does
-            }
-            if let Ok(left) = left {
-                self.put(left);
+        for ring in 0..self.clocks.len() {
+            if self.laptop.record(ring).is_some_and(|r| r.timestamp.version > 0) {
+                let wait = if self.laptop.shows_valid(ring) { self.clocks[ring].1 } else { WAIT_FIRST };
+                match self.laptop.validate(ring).map(Leaving::into_owned) {
+                    Ok(val) => self.put_again(val, WAIT_FIRST), // it waited for a struck-off laptop alone
+                    Err(_) => self.help(ring, wait.max(WAIT_FIRST)), // an old VAL keeps its long wait
+                }
             }
         }
         self.send();

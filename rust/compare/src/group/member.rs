@@ -10,7 +10,8 @@ use crate::single::{by_engine, on_table, Case, Event, Outcome};
 /// All memory of so many records is compared after each entry.
 const SMALL: usize = 100;
 
-/// What lies in every byte of the table before the start.
+/// What lies in every byte of the table before the start. Byte 15 of each
+/// record keeps it.
 const OLD: u8 = 77;
 
 /// Version and tie-breaker of a stamp.
@@ -29,8 +30,8 @@ pub struct Member {
     /// finisher's view; at first that of the fresh start.
     pub(super) floor: Vec<Stamp>,
     /// By record in replay: the stamp of this laptop's own save that the replay
-    /// gave up, if the record was in invalid-write, and whether a tick did it.
-    pub(super) given_up: Vec<Option<(Stamp, bool)>>,
+    /// gave up, if the record was in invalid-write.
+    pub(super) given_up: Vec<Option<Stamp>>,
     /// By record: what the engine has handed out.
     pub opened: Vec<Opened>,
 }
@@ -45,7 +46,7 @@ impl Member {
         );
         let me = Replica {
             number,
-            settings: settings_of(run.rule, run.wait),
+            settings: settings_of(run.rule),
             view: run.view,
             epoch: 0,
         };
@@ -105,7 +106,7 @@ impl Member {
 
     /// The engine's memory as the model's table and store would have it.
     pub(super) fn expected(&self) -> Memory {
-        let bytes = |record: &Record| Fields::of_record(record).bytes();
+        let bytes = |record: &Record| Fields::of_record(record, OLD).bytes();
         let table: Vec<RecordBytes> = self.table.iter().map(bytes).collect();
         let mut memory = Memory::default();
         memory.lay(table.as_flattened(), &self.store);

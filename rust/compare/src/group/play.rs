@@ -73,8 +73,7 @@ fn packet_of(rule: Rule, posts: &[&Post]) -> Result<Vec<u8>, String> {
     let bodies: Vec<&[u8]> = posts.iter().map(|post| &post.value[..]).collect();
     let mut packet = vec![0; 1400];
     let (words, bodies) = (words.as_flattened(), bodies.concat());
-    // The wait, 0 too, plays no part.
-    let written = raw::pack(settings_of(rule, 0), words, &bodies, &mut packet);
+    let written = raw::pack(settings_of(rule), words, &bodies, &mut packet);
     if written.number != 0 {
         return Err(format!("no packet: {written:?}"));
     }
@@ -155,7 +154,6 @@ impl Group {
         let mut labels = Vec::from_iter(more);
         labels.extend(self.committed(entry.at, &case, before, &outcome));
         labels.extend(before.and_then(|before| tied(&case, &before, &outcome)));
-        labels.extend(before.and_then(|before| waited(&case, &before, &outcome)));
         if let What::Packet { of, k } = &entry.what {
             labels.push(format!("one pass: {label}"));
             if *k == 0 {
@@ -455,53 +453,22 @@ fn tied(case: &Case, before: &Record, outcome: &Outcome) -> Option<String> {
         return None;
     };
     let stamp = (message.version, message.tie);
-    let taken = tie(case.me, &Fields::of_record(before), stamp, outcome)?;
+    let taken = tie(case.me, &Fields::of_record(before, 0), stamp, outcome)?;
     let what = ["not taken", "taken"][usize::from(taken)];
     Some(format!("a tie, {what}, at {:?}", before.state))
 }
 
-/// 02, Wish 7: what an accepted entry on a record does to its count: a tick, and any
-/// other at a count above 0.
-fn waited(case: &Case, before: &Record, outcome: &Outcome) -> Option<String> {
-    let (kind, state) = (case.kind(), before.state);
-    let is_one = !matches!(kind, Kind::View | Kind::Read | Kind::Ask);
-    if outcome.number != 0 || !is_one {
-        return None;
-    }
-    if kind == Kind::Tick {
-        let reached = state != State::Valid && before.waited + 1 == case.me.settings.wait;
-        let present = ["gone", "in the view"][usize::from(has(case.me.view, before.last_writer))];
-        return Some(match (state, reached) {
-            (State::Valid, _) => "tick: Valid".to_owned(),
-            (_, false) => format!("tick: {state:?} waits"),
-            (State::Invalid | State::InvalidWrite, true) => {
-                format!("tick: {state:?} is replayed, its writer {present}")
-            }
-            (_, true) => format!("tick: {state:?} sends again"),
-        });
-    }
-    let sent = outcome.sent.0;
-    (before.waited > 0).then(|| match kind {
-        Kind::Ack if sent == 3 => "at a count above 0: the last Ack".to_owned(),
-        _ => format!("at a count above 0: {kind:?}"),
-    })
-}
-
-/// 02, Wish 2: a replay gives up this laptop's own save, which was overtaken, and so
-/// does a tick (Wish 7), after which an ACK of it may still be of this epoch. What
+/// 02, Wish 2: a replay gives up this laptop's own save, which was overtaken. What
 /// the entry comes to for a record that is in replay since, if it is about that.
 fn given_up(member: &mut Member, case: &Case, before: Record, outcome: &Outcome) -> Option<String> {
     let after = member.table.get(case.i)?.state;
     let own = member.given_up.get_mut(case.i)?;
     let accepted = outcome.number == 0;
-    let replayed = accepted && before.state == State::InvalidWrite && after == State::Replay;
-    if let (true, Event::Replay | Event::Tick) = (replayed, &case.event) {
-        let stamp = (before.last_write.version, before.last_write.tie);
-        *own = Some((stamp, case.event == Event::Tick));
+    if case.event == Event::Replay && accepted && before.state == State::InvalidWrite {
+        *own = Some((before.last_write.version, before.last_write.tie));
         return None;
     }
-    let (stamp, ticked) = (*own)?;
-    let given_up = ["given up", "given up at a tick"][usize::from(ticked)];
+    let stamp = (*own)?;
     if after != State::Replay {
         *own = None;
     }
@@ -510,12 +477,12 @@ fn given_up(member: &mut Member, case: &Case, before: Record, outcome: &Outcome)
     };
     let of_own = (message.version, message.tie) == stamp;
     match case.kind() {
-        Kind::Ack if of_own => Some(format!("{given_up}: its Ack answers {}", outcome.number)),
-        Kind::Ack if outcome.sent.0 == 3 => Some(format!("{given_up}: the last Ack, {after:?}")),
+        Kind::Ack if of_own => Some(format!("given up: its Ack answers {}", outcome.number)),
+        Kind::Ack if outcome.sent.0 == 3 => Some(format!("given up: the last Ack, {after:?}")),
         Kind::Inv if accepted && after != State::Replay => {
-            Some(format!("{given_up}: a greater Inv, {after:?}"))
+            Some(format!("given up: a greater Inv, {after:?}"))
         }
-        Kind::Val if accepted => Some(format!("{given_up}: a Val, {after:?}")),
+        Kind::Val if accepted => Some(format!("given up: a Val, {after:?}")),
         _ => None,
     }
 }

@@ -30,9 +30,8 @@ pub enum What {
 /// A group that has just started fresh, and the list of its entries.
 #[derive(Clone, Debug, PartialEq)]
 pub struct Run {
-    /// The rule of ties of all its laptops, and their wait.
+    /// The rule of ties of all its laptops.
     pub rule: Rule,
-    pub wait: u8,
     pub numbers: Vec<u8>,
     pub view: u16,
     pub records: usize,
@@ -67,9 +66,6 @@ impl Smaller for Run {
         let records = [1, self.records / 2, self.records - 1];
         let records = records.into_iter().filter(|&n| n > 0 && n < self.records);
         let records = records.map(|n| self.with(|run| run.records = n));
-        let waits = [1, self.wait.saturating_sub(1)].into_iter();
-        let waits = waits.filter(|&wait| wait > 0 && wait < self.wait);
-        let waits = waits.map(|wait| self.with(|run| run.wait = wait));
         let first = (0..self.entries.len()).filter_map(|k| match &self.entries[k].what {
             What::Own { i, event } if *i > 0 => {
                 let event = event.clone();
@@ -94,18 +90,6 @@ impl Smaller for Run {
             }
             _ => None,
         });
-        // A write in the place of a commit, which needs what was handed out.
-        let writes = (0..self.entries.len()).filter_map(|k| match &self.entries[k].what {
-            What::Own {
-                i,
-                event: Event::Commit { value, .. },
-            } => {
-                let (i, value) = (*i, value.clone());
-                let event = Event::Write { value };
-                Some(self.with(|run| run.entries[k].what = What::Own { i, event }))
-            }
-            _ => None,
-        });
         // A message by itself in the place of one in a packet.
         let alone = (0..self.entries.len()).filter_map(|k| match &self.entries[k].what {
             What::Packet { of, k: place } => {
@@ -115,6 +99,6 @@ impl Smaller for Run {
             _ => None,
         });
         let rest = records.chain(alike).chain(first).chain(plain).chain(alone);
-        Box::new(fewer.chain(waits).chain(writes).chain(rest))
+        Box::new(fewer.chain(rest))
     }
 }

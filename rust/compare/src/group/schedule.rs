@@ -46,8 +46,6 @@ impl Schedule {
     pub fn start_of(rng: &mut Rng, size: usize, records: usize) -> (Run, Schedule) {
         // Half of the groups have each rule (02, Wish 6).
         let rule = Rule::ALL[rng.below(2)];
-        // Short waits, so that records reach them (02, Wish 7).
-        let wait = [1, 2, 2, 3, 3, 4, 7, 255][rng.below(8)];
         let numbers = some_numbers(rng, size);
         let mut view = numbers.iter().fold(0, |set, &number| set | bit(number));
         if rng.chance(1, 10) {
@@ -70,7 +68,6 @@ impl Schedule {
         };
         let run = Run {
             rule,
-            wait,
             numbers,
             view,
             records,
@@ -120,7 +117,7 @@ impl Schedule {
             0 => anyone,
             _ => some_member(rng, group, i, |record| record.state == state),
         };
-        let (at, event) = match rng.below(122) {
+        let (at, event) = match rng.below(110) {
             0..4 => (anyone, Event::Read),
             4..10 => {
                 let value = some_value(rng);
@@ -129,11 +126,6 @@ impl Schedule {
             // 02, Wish 5.
             100..105 => (at(rng, 0), Event::Ask),
             105..110 => return self.commit(rng, group, (anyone, i)),
-            // 02, Wish 7.
-            110..122 => {
-                let waits = some_member(rng, group, i, |record| record.state != 0);
-                ([waits, waits, waits, anyone][rng.below(4)], Event::Tick)
-            }
             10..18 => return self.replay(rng, group, (anyone, i)),
             18..24 => {
                 let state = 3 + rng.below(2) as u8;

@@ -53,11 +53,11 @@ pub fn by_model(settings: raw::Settings, packet: &[u8], facts: Accepted, i: usiz
 #[derive(Clone, Debug, Default)]
 pub struct Tally {
     /// Packets by the number that they were accepted or refused with.
-    pub packets: [u64; 29],
+    pub packets: [u64; 28],
     /// The same by their byte 0.
     pub heads: Heads,
     /// Messages of a packet, with its own facts, by the answer.
-    pub own: [u64; 29],
+    pub own: [u64; 28],
     /// With other facts, by what the header says, in the order of `Told::ALL`.
     pub foreign: [u64; 5],
     /// Of the entries that came with other facts, those of packets that question 22

@@ -10,7 +10,7 @@ use super::deliver::{self, some_delivery, some_letters_with};
 use super::facts::{self, entry_of, lesser, message_of, some_facts, some_index, Told};
 use super::{damage, set_total, some_rule_for, Heads, Letter};
 use crate::bytes::Bytes;
-use crate::crossing::{rule_of, sent_of};
+use crate::crossing::{rule_of, sent_of, settings_of};
 use crate::memory::Memory;
 use crate::settings::Settings;
 use crate::shrink::{shrink, Found, Smaller};
@@ -118,7 +118,7 @@ fn nothing(number: u8) -> Arrival {
 #[derive(Clone, Debug, Default)]
 pub struct Tally {
     /// With the packet's own facts, by the answer.
-    pub own: [u64; 29],
+    pub own: [u64; 28],
     /// The same by byte 0 of the packet.
     pub heads: Heads,
     /// Ties, as `single::tie` has them: by the rule, not taken and taken.
@@ -126,7 +126,7 @@ pub struct Tally {
     /// With other facts, by what the header says, in the order of `Told::ALL`.
     pub foreign: [u64; 5],
     /// Of these the entries, by the answer of their delivery.
-    pub entries: [u64; 29],
+    pub entries: [u64; 28],
     /// Of these, entries of packets that question 22 refuses, and that 27 does.
     pub unasked: u64,
     pub unruled: u64,
@@ -247,7 +247,7 @@ fn some_foreign(rng: &mut Rng) -> Case {
 /// The packet of these messages, each number cut to its width: of good ones a
 /// whole packet.
 fn unasked_packet(rule: Rule, letters: &[Letter]) -> Vec<u8> {
-    let mut packet = vec![rule.byte(), letters.len() as u8, 0, 0];
+    let mut packet = vec![settings_of(rule).rule, letters.len() as u8, 0, 0];
     let mut at = 4 + 16 * letters.len();
     for letter in letters {
         let [kind, sender, epoch, record, version, tie, len] = letter.words;

@@ -51,7 +51,7 @@ pub fn by_model(case: &Case, memory: &mut Memory) -> Outcome {
 /// How often each answer came.
 #[derive(Clone, Debug, Default)]
 pub struct Tally {
-    pub answers: [u64; 29],
+    pub answers: [u64; 28],
     pub heads: Heads,
     /// Ties, as `tie` has them: by the rule, not taken and taken.
     pub ties: [[u64; 2]; 2],

@@ -15,7 +15,7 @@ use crate::single::some_settings;
 /// How often each answer came: 0, 20 to 23, and 27.
 #[derive(Clone, Debug, Default)]
 pub struct Tally {
-    pub answers: [u64; 29],
+    pub answers: [u64; 28],
     pub heads: Heads,
     pub packets: u64,
     /// Of these, whose bytes are not those of the whole packet they came from.
@@ -180,7 +180,7 @@ pub(super) fn each_packet<E>(
     rng: &mut Rng,
     mut look: impl FnMut(Look) -> Result<(), E>,
 ) -> Result<(), E> {
-    for group in Rule::ALL.map(|rule| settings_of(rule, 1)) {
+    for group in Rule::ALL.map(settings_of) {
         for rule in Rule::ALL {
             let ringing = packet_of(rule, &ringing()).expect("the paper's packet");
             around(group, &ringing, &mut look)?;
@@ -300,7 +300,7 @@ impl Smaller for Case {
             i: i as usize,
             ..self.clone()
         });
-        let rules = lesser_settings(self.settings).map(|settings| Case {
+        let rules = lesser_rule(self.settings).map(|settings| Case {
             settings,
             ..self.clone()
         });
@@ -308,15 +308,8 @@ impl Smaller for Case {
     }
 }
 
-/// Settings with a lesser byte of the rule, or of the wait, which no packet asks after.
-pub(super) fn lesser_settings(settings: raw::Settings) -> impl Iterator<Item = raw::Settings> {
-    let rules = less(settings.rule.into()).map(move |rule| raw::Settings {
-        rule: rule as u8,
-        ..settings
-    });
-    let waits = less(settings.wait.into()).map(move |wait| raw::Settings {
-        wait: wait as u8,
-        ..settings
-    });
-    rules.chain(waits)
+/// Settings with a lesser byte of the rule.
+pub(super) fn lesser_rule(settings: raw::Settings) -> impl Iterator<Item = raw::Settings> {
+    let lesser = less(settings.rule.into());
+    lesser.map(|rule| raw::Settings { rule: rule as u8 })
 }

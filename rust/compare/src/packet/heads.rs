@@ -4,7 +4,7 @@ use cetskobi::raw::Settings;
 use model::engine::Rule;
 use model::packet;
 
-use crate::crossing::rule_of;
+use crate::crossing::{rule_of, settings_of};
 
 /// What came of byte 0, in groups with each rule (02, Wish 6).
 #[derive(Clone, Debug, Default)]
@@ -37,7 +37,7 @@ impl Heads {
                 self.early += u64::from(named.is_some_and(|named| named != rule));
                 if let Some(k) = NO_RULE.iter().position(|&other| other == byte) {
                     let mut mended = packet.to_vec();
-                    mended[0] = rule.byte();
+                    mended[0] = settings_of(rule).rule;
                     let alone = answer(rule, &mended, i) != 20;
                     self.no_rule[k] += u64::from(alone);
                 }

@@ -5,7 +5,7 @@ use model::engine::Refusal;
 use model::packet::{self, Entry, PACKET_LIMIT};
 use model::rng::Rng;
 
-use super::fetch::lesser_settings;
+use super::fetch::lesser_rule;
 use super::some::{some_letter, some_letters};
 use super::{entry_of, EntryWords};
 use crate::bytes::Bytes;
@@ -83,7 +83,7 @@ fn difference(case: &Case, other: Pack) -> Result<Written, String> {
 
 /// In a group with the other rule it is refused by 27.
 fn round_trip(case: &Case, packet: &[u8]) -> Result<(), String> {
-    let other = settings_of(other_rule(rule_of(case.settings)), case.settings.wait);
+    let other = settings_of(other_rule(rule_of(case.settings)));
     let f = raw::fetch(other, packet, 0);
     if (f.number, f.len) != (27, 0) {
         return Err(format!("by the other rule it reads back as {f:?}"));
@@ -115,7 +115,7 @@ fn round_trip(case: &Case, packet: &[u8]) -> Result<(), String> {
 /// How often each answer came: 0, 24 and 25.
 #[derive(Clone, Debug, Default)]
 pub struct Tally {
-    pub answers: [u64; 29],
+    pub answers: [u64; 28],
     /// Accepted under the old rule, and under the new.
     pub rules: [u64; 2],
     /// Accepted packets of 1,400 bytes, and ones refused for one byte more.
@@ -288,7 +288,7 @@ impl Smaller for Case {
                 case
             })
         });
-        let rules = lesser_settings(self.settings).map(|settings| Case {
+        let rules = lesser_rule(self.settings).map(|settings| Case {
             settings,
             ..self.clone()
         });

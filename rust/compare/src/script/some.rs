@@ -325,8 +325,8 @@ fn damage(rng: &mut Rng, mut line: Bytes) -> Bytes {
         2 if at < line.len() => line[at] ^= 32,
         3 => line.insert(at, b' '),
         4 => line.push(b' '),
-        // 02, Wishes 5 and 7, give the program no such lines.
-        5 if at > 0 => line = Bytes(["ask 0", "tick 1", "commit 0 text", "tick 0"][at % 4].into()),
+        // 02, Wish 5, gives the program no such lines.
+        5 if at > 0 => line = Bytes(["ask 0", "ask 1", "commit 0 text"][at % 3].into()),
         5 => line.clear(),
         6 => {
             let len = rng.below(40);

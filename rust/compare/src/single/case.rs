@@ -4,8 +4,7 @@ use model::engine::Record;
 use crate::bytes::Bytes;
 use crate::crossing::Fields;
 
-/// An event of document 01 or of document 02's Wishes 5 and 7, with what it takes
-/// along.
+/// An event of document 01 or of document 02's Wish 5, with what it takes along.
 #[derive(Clone, Debug, PartialEq)]
 pub enum Event {
     Start,
@@ -18,7 +17,6 @@ pub enum Event {
     Deliver { message: Message, value: Bytes },
     Validate,
     Resend,
-    Tick,
 }
 
 /// The kinds of events as they are counted.
@@ -38,7 +36,6 @@ pub enum Kind {
     Unknown,
     Validate,
     Resend,
-    Tick,
 }
 
 impl Event {
@@ -61,7 +58,7 @@ impl Event {
 }
 
 impl Kind {
-    pub const ALL: [Kind; 14] = [
+    pub const ALL: [Kind; 13] = [
         Kind::Start,
         Kind::View,
         Kind::Read,
@@ -75,27 +72,25 @@ impl Kind {
         Kind::Unknown,
         Kind::Validate,
         Kind::Resend,
-        Kind::Tick,
     ];
 
     /// The numbers that this event can answer (01, "The questions, in order", and
-    /// 02, Wishes 5 and 7).
+    /// 02, Wish 5).
     pub fn answers(self) -> &'static [usize] {
         match self {
-            Kind::Start => &[0, 28, 1, 2, 3],
-            Kind::View => &[0, 28, 1, 3, 18, 19],
-            Kind::Read => &[0, 28, 1, 2, 3, 4, 5, 6],
-            Kind::Write => &[0, 28, 1, 2, 3, 4, 5, 7, 8, 9],
-            Kind::Ask => &[0, 28, 1, 2, 3, 4, 5, 6],
-            Kind::Commit => &[0, 28, 1, 2, 3, 4, 5, 26, 8, 9],
-            Kind::Replay => &[0, 28, 1, 2, 3, 4, 5, 16],
-            Kind::Inv => &[0, 28, 1, 2, 3, 4, 5, 10, 11, 12],
-            Kind::Ack => &[0, 28, 1, 2, 3, 4, 5, 10, 11, 12, 13],
-            Kind::Val => &[0, 28, 1, 2, 3, 4, 5, 10, 11, 12, 14],
-            Kind::Unknown => &[28, 1, 2, 3, 4, 5, 10, 11, 12],
-            Kind::Validate => &[0, 28, 1, 2, 3, 4, 5, 15],
-            Kind::Resend => &[0, 28, 1, 2, 3, 4, 5, 17],
-            Kind::Tick => &[0, 28, 1, 2, 3, 4, 5],
+            Kind::Start => &[0, 1, 2, 3],
+            Kind::View => &[0, 1, 3, 18, 19],
+            Kind::Read => &[0, 1, 2, 3, 4, 5, 6],
+            Kind::Write => &[0, 1, 2, 3, 4, 5, 7, 8, 9],
+            Kind::Ask => &[0, 1, 2, 3, 4, 5, 6],
+            Kind::Commit => &[0, 1, 2, 3, 4, 5, 26, 8, 9],
+            Kind::Replay => &[0, 1, 2, 3, 4, 5, 16],
+            Kind::Inv => &[0, 1, 2, 3, 4, 5, 10, 11, 12],
+            Kind::Ack => &[0, 1, 2, 3, 4, 5, 10, 11, 12, 13],
+            Kind::Val => &[0, 1, 2, 3, 4, 5, 10, 11, 12, 14],
+            Kind::Unknown => &[1, 2, 3, 4, 5, 10, 11, 12],
+            Kind::Validate => &[0, 1, 2, 3, 4, 5, 15],
+            Kind::Resend => &[0, 1, 2, 3, 4, 5, 17],
         }
     }
 }
@@ -148,7 +143,6 @@ impl Case {
             },
             Event::Validate => Kind::Validate,
             Event::Resend => Kind::Resend,
-            Event::Tick => Kind::Tick,
         }
     }
 

@@ -48,7 +48,6 @@ pub fn by_engine(case: &Case, memory: &mut Memory) -> Outcome {
         }
         Event::Validate => Outcome::of(me, raw::validate(me, table, store, i)),
         Event::Resend => Outcome::of(me, raw::resend(me, table, store, i)),
-        Event::Tick => Outcome::of(me, raw::tick(me, table, store, i)),
     }
 }
 
@@ -174,7 +173,6 @@ pub fn on_table(case: &Case, table: &mut [Record], store: &mut [u8]) -> Outcome 
         }
         Event::Validate => replica.validate(table, store, i),
         Event::Resend => replica.resend(table, store, i),
-        Event::Tick => replica.tick(table, store, i),
     };
     // A start and an accepted view name the rule by its number. All else leaves the
     // identity byte for byte as it was passed.
@@ -203,7 +201,7 @@ pub fn replica_of(me: Replica) -> model::engine::Replica {
 fn identity(replica: &model::engine::Replica) -> Replica {
     Replica {
         number: replica.number,
-        settings: settings_of(replica.settings.rule, replica.settings.wait),
+        settings: settings_of(replica.settings.rule),
         view: replica.view,
         epoch: replica.epoch,
     }

@@ -30,22 +30,7 @@ impl Case {
             })
         };
         let over = lend(1, self.table % RECORD_BYTES);
-        // A count as far below the wait as it is.
-        let sooner = |ticks: u8| {
-            self.with(|case| {
-                let (wait, waited) = (&mut case.me.settings.wait, &mut case.record.waited);
-                let ticks = ticks.min(*waited).min(wait.saturating_sub(1));
-                (*wait, *waited) = (*wait - ticks, *waited - ticks);
-            })
-        };
-        let whole = [
-            lend(1, 0),
-            lend(2, 0),
-            over,
-            self.with(Case::renumber),
-            sooner(u8::MAX),
-            sooner(1),
-        ];
+        let whole = [lend(1, 0), lend(2, 0), over, self.with(Case::renumber)];
         let sum = |case: &Case| case.all().iter().map(|&n| u128::from(n)).sum::<u128>();
         whole.into_iter().filter(move |case| sum(case) < sum(self))
     }
@@ -121,7 +106,6 @@ impl Case {
             Number::Size(&mut self.store),
             Number::Byte(&mut self.me.number),
             Number::Byte(&mut self.me.settings.rule),
-            Number::Byte(&mut self.me.settings.wait),
             Number::Short(&mut self.me.view),
             Number::Word(&mut self.me.epoch),
         ];
@@ -134,7 +118,7 @@ impl Case {
             Number::Word(&mut self.record.written_version),
             Number::Short(&mut self.record.acks),
             Number::Byte(&mut self.record.len),
-            Number::Byte(&mut self.record.waited),
+            Number::Byte(&mut self.record.unused),
         ]);
         match &mut self.event {
             Event::View { epoch, set } => all.extend([Number::Word(epoch), Number::Short(set)]),

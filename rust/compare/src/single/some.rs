@@ -52,8 +52,7 @@ pub fn some_number(rng: &mut Rng) -> u8 {
     }
 }
 
-/// Half with each rule of ties (02, Wish 6), of the old one half with any byte but 2;
-/// and a wait (Wish 7).
+/// Half with each rule of ties (02, Wish 6), of the old one half with any byte but 2.
 pub fn some_settings(rng: &mut Rng) -> Settings {
     let any = rng.next_u64() as u8;
     let rule = match rng.below(4) {
@@ -62,30 +61,7 @@ pub fn some_settings(rng: &mut Rng) -> Settings {
         _ if any == 2 => 0,
         _ => any,
     };
-    let wait = some_wait(rng);
-    Settings { rule, wait }
-}
-
-/// Any wait, often a short one or the longest; now and then none.
-fn some_wait(rng: &mut Rng) -> u8 {
-    match rng.below(48) {
-        0 => 0,
-        1..8 => 1,
-        8..14 => 255,
-        14..30 => 2 + rng.below(4) as u8,
-        _ => 1 + rng.below(255) as u8,
-    }
-}
-
-/// The count of a record in this state that is sound with this wait: of one that is
-/// not valid often 0, or one below the wait.
-fn some_waited(rng: &mut Rng, state: u8, wait: u8) -> u8 {
-    match rng.below(6) {
-        _ if state == 0 => 0,
-        0 => 0,
-        1..3 => wait.saturating_sub(1),
-        _ => rng.below(usize::from(wait.max(1))) as u8,
-    }
+    Settings { rule }
 }
 
 pub fn some_set(rng: &mut Rng) -> u16 {
@@ -130,7 +106,6 @@ fn good(rng: &mut Rng, kind: Kind) -> Case {
     };
     let mut record = sound(rng, &me);
     let event = event(rng, kind, &me, &mut record);
-    record.waited = some_waited(rng, record.state, me.settings.wait);
     let count = match rng.below(500) {
         0 => 4095 + rng.below(2),
         1..100 => 1 + rng.below(12),
@@ -166,7 +141,7 @@ fn sound(rng: &mut Rng, me: &Replica) -> Fields {
         written_version,
         acks: some_set(rng) & !bit(me.number),
         len: some_len(rng) as u8,
-        waited: 0,
+        unused: some_byte(rng),
     }
 }
 
@@ -225,10 +200,6 @@ fn event(rng: &mut Rng, kind: Kind, me: &Replica, record: &mut Fields) -> Event 
             }
             Event::Resend
         }
-        Kind::Tick => {
-            record.state = rng.below(5) as u8;
-            Event::Tick
-        }
         Kind::Inv | Kind::Ack | Kind::Val | Kind::Unknown => delivery(rng, kind, me, record),
     }
 }
@@ -285,38 +256,13 @@ fn delivery(rng: &mut Rng, kind: Kind, me: &Replica, record: &mut Fields) -> Eve
 
 /// One thing becomes arbitrary, mostly wrong.
 fn spoil(rng: &mut Rng, case: &mut Case) {
-    match rng.below(13) {
-        12 => spoil_wait(rng, case),
+    match rng.below(12) {
         0 => case.me.number = some_number(rng),
         1 => case.me.view = some_set(rng),
         2 => spoil_sizes(rng, case),
         3 => case.i = some_index(rng, case.table / RECORD_BYTES),
         4..7 => spoil_record(rng, case),
         _ => spoil_event(rng, case),
-    }
-}
-
-/// 02, Wish 7.
-fn spoil_wait(rng: &mut Rng, case: &mut Case) {
-    let wait = &mut case.me.settings.wait;
-    let waited = &mut case.record.waited;
-    match rng.below(12) {
-        0..3 => *wait = 0,
-        3 => *wait = some_byte(rng),
-        4 => *waited = some_byte(rng),
-        5..7 => *waited = *wait,
-        7 => *waited = wait.saturating_add(1 + rng.below(3) as u8),
-        8 => *waited = 255,
-        9 => {
-            case.record.state = 0;
-            *waited = 1 + rng.below(3) as u8;
-        }
-        10 => {
-            case.record.state = 0;
-            *waited = rng.below(usize::from(*wait).max(1)) as u8;
-        }
-        // As many ticks as the count is, or one more.
-        _ => *wait = waited.saturating_add(rng.below(2) as u8),
     }
 }
 
@@ -441,7 +387,7 @@ fn spoil_event(rng: &mut Rng, case: &mut Case) {
             0 => case.record.state = rng.below(5) as u8,
             _ => case.record.acks &= some_set(rng),
         },
-        Event::Start | Event::Read | Event::Ask | Event::Replay | Event::Resend | Event::Tick => {
+        Event::Start | Event::Read | Event::Ask | Event::Replay | Event::Resend => {
             match rng.below(2) {
                 0 => case.record.state = rng.below(5) as u8,
                 _ => case.record.writer = rng.below(16) as u8,

@@ -1,7 +1,7 @@
 use std::collections::BTreeMap;
 use std::fmt;
 
-use cetskobi::raw::{Message, Replica, RECORD_BYTES};
+use cetskobi::raw::{Replica, RECORD_BYTES};
 use model::engine::{bit, has, Rule};
 
 use super::{Case, Event, Kind, Outcome};
@@ -11,7 +11,7 @@ use crate::crossing::{is_after, rule_of, settings_of, Fields};
 #[derive(Clone, Debug, Default)]
 pub struct Tally {
     /// In groups with the old rule of ties, and with the new.
-    answers: [[[u64; 29]; Kind::ALL.len()]; 2],
+    answers: [[[u64; 28]; Kind::ALL.len()]; 2],
     /// Accepted, by the state before: also what was not a move of each state.
     accepted: [[u64; 5]; Kind::ALL.len()],
     /// Accepted INVs that were not greater, by the state.
@@ -39,33 +39,7 @@ pub struct Tally {
     misruled: u64,
     /// Accepted, by the byte of the rule that was passed.
     bytes: BTreeMap<u8, u64>,
-    /// Refused by 28 where 1 would refuse too.
-    no_wait_no_group: [u64; Kind::ALL.len()],
-    /// Accepted ticks, by the state: below the wait, and on reaching it.
-    ticks: [[u64; 2]; 5],
-    /// The latter by the state: with a wait of 1, with one of 255, and with the last
-    /// writer in the view.
-    reached: [[u64; 5]; 3],
-    /// Accepted events at a count above 0, which they set to 0, and which they leave.
-    reset: [u64; RESET.len()],
-    kept: [u64; KEPT.len()],
-    /// Accepted, by the wait that was passed.
-    waits: BTreeMap<u8, u64>,
 }
-
-/// What sets a count above 0 to 0 (02, Wish 7). A commit is of a valid record, whose
-/// count is 0.
-const RESET: [&str; 5] = ["write", "greater inv", "the last ack", "val", "validate"];
-
-/// What leaves it.
-const KEPT: [&str; 6] = [
-    "replay",
-    "resend",
-    "inv not greater",
-    "ack at W or R, not the last",
-    "ack at X",
-    "view",
-];
 
 type Test = fn(&Case) -> bool;
 
@@ -85,7 +59,7 @@ const SIZES: [(&str, Test); 7] = [
 ];
 
 /// What may be wrong with the record, and the test of it.
-const UNSOUND: [(&str, Test); 10] = [
+const UNSOUND: [(&str, Test); 6] = [
     ("no state", |case| case.record.state > 4),
     ("a tie-breaker above 15", |case| case.record.tie > 15),
     ("a last writer above 15", |case| case.record.writer > 15),
@@ -95,19 +69,6 @@ const UNSOUND: [(&str, Test); 10] = [
     ("a length above 192", |case| case.record.len > 192),
     ("its own acknowledgement", |case| {
         has(case.record.acks, case.me.number)
-    }),
-    ("a count of the wait", |case| {
-        case.record.state != 0 && case.record.waited == case.me.settings.wait
-    }),
-    ("a count above the wait", |case| {
-        case.record.state != 0 && case.record.waited > case.me.settings.wait
-    }),
-    ("a count of a valid record, below the wait", |case| {
-        let waited = case.record.waited;
-        case.record.state == 0 && waited > 0 && waited < case.me.settings.wait
-    }),
-    ("a count of a valid record, the wait or above", |case| {
-        case.record.state == 0 && case.record.waited >= case.me.settings.wait
     }),
 ];
 
@@ -170,11 +131,6 @@ impl Tally {
         self.answers[rule as usize][kind as usize][usize::from(outcome.number)] += 1;
         if outcome.number == 0 {
             *self.bytes.entry(case.me.settings.rule).or_default() += 1;
-            *self.waits.entry(case.me.settings.wait).or_default() += 1;
-        }
-        if outcome.number == 28 {
-            let nobody = case.me.number > 15 || case.me.view.count_ones() < 2;
-            self.no_wait_no_group[kind as usize] += u64::from(nobody);
         }
         self.admit(case, outcome);
         match outcome.number {
@@ -206,7 +162,6 @@ impl Tally {
         if outcome.number != 0 || state >= 5 {
             return;
         }
-        self.wait(case, outcome);
         let of_record = !matches!(kind, Kind::Start | Kind::View);
         if let (Kind::Ack, Event::Deliver { message, .. }) = (kind, &case.event) {
             let others = case.me.view & !bit(case.me.number);
@@ -237,51 +192,8 @@ impl Tally {
         }
     }
 
-    /// 02, Wish 7: an accepted event, by what it does to the count. The record is one.
-    fn wait(&mut self, case: &Case, outcome: &Outcome) {
-        let (record, wait) = (&case.record, case.me.settings.wait);
-        let state = usize::from(record.state);
-        if case.kind() == Kind::Tick {
-            let reached = state != 0 && record.waited + 1 == wait;
-            self.ticks[state][usize::from(reached)] += 1;
-            let present = has(case.me.view, record.writer);
-            for (count, so) in self
-                .reached
-                .iter_mut()
-                .zip([wait == 1, wait == 255, present])
-            {
-                count[state] += u64::from(reached && so);
-            }
-            return;
-        }
-        if record.waited == 0 {
-            return;
-        }
-        let greater = |message: &Message| {
-            let stamp = (message.version, message.tie);
-            is_after(stamp, record.stamp(), rule_of(case.me.settings))
-        };
-        let (set_to_0, left) = match &case.event {
-            Event::Write { .. } => (Some(0), None),
-            Event::Validate => (Some(4), None),
-            Event::Replay => (None, Some(0)),
-            Event::Resend => (None, Some(1)),
-            Event::View { .. } => (None, Some(5)),
-            Event::Deliver { message, .. } => match (case.kind(), outcome.sent.0) {
-                (Kind::Inv, _) if greater(message) => (Some(1), None),
-                (Kind::Inv, _) => (None, Some(2)),
-                (Kind::Ack, 3) => (Some(2), None),
-                (Kind::Ack, _) => (None, Some(if state == 2 { 4 } else { 3 })),
-                _ => (Some(3), None),
-            },
-            _ => (None, None),
-        };
-        set_to_0.into_iter().for_each(|at| self.reset[at] += 1);
-        left.into_iter().for_each(|at| self.kept[at] += 1);
-    }
-
     /// A start or a view: the identity has the rule as 1 or 2, whatever byte was passed;
-    /// that of a refused view has the byte. The wait is as it was passed.
+    /// that of a refused view has the byte.
     fn admit(&mut self, case: &Case, outcome: &Outcome) {
         let kinds = [Kind::Start, Kind::View];
         let Some(event) = kinds.iter().position(|&kind| kind == case.kind()) else {
@@ -291,7 +203,7 @@ impl Tally {
         let passed = case.me.settings;
         let named = match refused && case.kind() == Kind::View {
             true => passed,
-            false => settings_of(rule_of(passed), passed.wait),
+            false => settings_of(rule_of(passed)),
         };
         if outcome.me.settings != named {
             self.misruled += 1;
@@ -303,8 +215,8 @@ impl Tally {
 
     /// The least of all counts that can be: every answer of every kind under each rule,
     /// every acceptance at every state that allows it, everything that can be wrong,
-    /// every tie under each rule at every state, every start and view, every byte
-    /// of a rule, and all that a count of ticks can come to.
+    /// every tie under each rule at every state, every start and view, and every byte
+    /// of a rule.
     pub fn least(&self) -> u64 {
         let answers = self.answers.iter().flat_map(|by_kind| {
             Kind::ALL.iter().flat_map(|&kind| {
@@ -327,45 +239,7 @@ impl Tally {
         let ties = self.ties.as_flattened().as_flattened();
         let admitted = self.admitted.as_flattened().as_flattened();
         let rules = ties.iter().chain(admitted).copied();
-        let [[valid, _], ticks @ ..] = &self.ticks;
-        let ticks = ticks.as_flattened().iter().chain([valid]);
-        let reached = self.reached.iter().enumerate();
-        let reached = reached.flat_map(|(k, by_state)| {
-            // Of the last writer there are the replays alone.
-            let states = if k == 2 { 1..3 } else { 1..5 };
-            states.map(|state| by_state[state])
-        });
-        let waits = ticks.chain(&self.reset).chain(&self.kept);
-        let waits = waits.chain(&self.no_wait_no_group).copied();
-        let rarest = [rarest(&self.bytes, 0), rarest(&self.waits, 1)];
-        let all = all.chain(rules).chain(waits).chain(reached);
-        all.chain(rarest).min().unwrap_or(0)
-    }
-
-    /// 02, Wish 7: ticks came often at every state, below the wait and on reaching it; so
-    /// did what sets a count above 0 to 0 and what leaves it; and 28 of every event.
-    pub fn ticked_often(&self) {
-        let [[valid, acted], waiting @ ..] = self.ticks;
-        assert!(valid >= 10_000 && acted == 0, "{self}");
-        assert!(
-            waiting.as_flattened().iter().all(|&times| times >= 3000),
-            "{self}"
-        );
-        // The rarest, some 590 at each state, is 254 ticks of 255.
-        let [shortest, longest, present] = self.reached;
-        let by_state = [&shortest[1..], &longest[1..], &present[1..3]].concat();
-        assert!(by_state.iter().all(|&times| times >= 350), "{self}");
-        assert!(self.reset.iter().all(|&times| times >= 5000), "{self}");
-        assert!(self.kept.iter().all(|&times| times >= 5000), "{self}");
-        for kind in Kind::ALL {
-            assert!(self.times(kind, 28) >= 2000, "{kind:?}\n{self}");
-            assert!(
-                self.no_wait_no_group[kind as usize] >= 100,
-                "{kind:?}\n{self}"
-            );
-        }
-        let counts = &self.unsound[6..];
-        assert!(counts.iter().all(|&times| times >= 2000), "{self}");
+        all.chain(rules).chain([self.rarest()]).min().unwrap_or(0)
     }
 
     /// 02, Wish 6: half of the events are under each rule; ties came often, taken and
@@ -415,7 +289,7 @@ impl Tally {
     /// Answers that no event of this kind can give.
     pub fn stray(&self) -> u64 {
         let strays = Kind::ALL.iter().flat_map(|&kind| {
-            let answers = (0..29).filter(move |answer| !kind.answers().contains(answer));
+            let answers = (0..28).filter(move |answer| !kind.answers().contains(answer));
             answers.map(move |answer| self.times(kind, answer))
         });
         strays.sum()
@@ -427,6 +301,12 @@ impl Tally {
         rules.map(|by_kind| by_kind[kind as usize][answer]).sum()
     }
 
+    /// How often the rarest byte of a rule came.
+    fn rarest(&self) -> u64 {
+        let times = |byte: u8| self.bytes.get(&byte).copied().unwrap_or(0);
+        (0..=u8::MAX).map(times).min().unwrap_or(0)
+    }
+
     /// How many events there were in groups with this rule.
     fn under(&self, rule: Rule) -> u64 {
         self.answers[rule as usize].as_flattened().iter().sum()
@@ -435,12 +315,6 @@ impl Tally {
     pub fn total(&self) -> u64 {
         self.under(Rule::Higher) + self.under(Rule::Lower)
     }
-}
-
-/// How often the rarest of these bytes came, from this one on.
-fn rarest(bytes: &BTreeMap<u8, u64>, from: u8) -> u64 {
-    let times = |byte: u8| bytes.get(&byte).copied().unwrap_or(0);
-    (from..=u8::MAX).map(times).min().unwrap_or(0)
 }
 
 /// A tie (02, Wish 6): an accepted INV of the record's version and of another
@@ -477,7 +351,7 @@ fn states(kind: Kind) -> &'static [usize] {
         Kind::Read | Kind::Ask | Kind::Commit => &[0],
         Kind::Write => &[0, 1],
         Kind::Replay => &[1, 2],
-        Kind::Inv | Kind::Tick => &[0, 1, 2, 3, 4],
+        Kind::Inv => &[0, 1, 2, 3, 4],
         Kind::Ack => &[2, 3, 4],
         Kind::Val => &[1, 2, 3, 4],
         Kind::Validate => &[3, 4],
@@ -538,48 +412,12 @@ impl fmt::Display for Tally {
             }
         }
         let [old, new] = Rule::ALL.map(|rule| self.under(rule));
-        let misruled = self.misruled;
-        let [rule, wait] = [rarest(&self.bytes, 0), rarest(&self.waits, 1)];
+        let (rarest, misruled) = (self.rarest(), self.misruled);
         write!(
             f,
             "          {old} under the old rule, {new} under the new; "
         )?;
-        write!(f, "the rarest byte of a rule {rule}, of a wait {wait}; ")?;
-        writeln!(f, "{misruled} misruled")?;
-        for (what, k) in [("below the wait", 0), ("on reaching it", 1)] {
-            write!(f, "          tick {what}, at")?;
-            for (state, counts) in self.ticks.iter().enumerate() {
-                write!(f, " {}:{}", letter(state), counts[k])?;
-            }
-            writeln!(f)?;
-        }
-        let of = [
-            "a wait of 1",
-            "a wait of 255",
-            "the last writer in the view",
-        ];
-        for (what, by_state) in of.iter().zip(self.reached) {
-            write!(f, "          tick on reaching it, {what}, at")?;
-            for (state, count) in by_state.iter().enumerate().skip(1) {
-                write!(f, " {}:{count}", letter(state))?;
-            }
-            writeln!(f)?;
-        }
-        for (what, names, counts) in [
-            ("set to 0", &RESET[..], &self.reset[..]),
-            ("left", &KEPT[..], &self.kept[..]),
-        ] {
-            write!(f, "          a count above 0 {what} by")?;
-            for (name, count) in names.iter().zip(counts) {
-                write!(f, " {name}:{count}")?;
-            }
-            writeln!(f)?;
-        }
-        write!(f, "          28 before 1, of")?;
-        for (kind, count) in Kind::ALL.iter().zip(self.no_wait_no_group) {
-            write!(f, " {}:{count}", format!("{kind:?}").to_lowercase())?;
-        }
-        writeln!(f)?;
+        writeln!(f, "the rarest byte of a rule {rarest}, {misruled} misruled")?;
         let [gone, present] = &self.unreplayed;
         write!(f, "          no replay, the last writer gone, at")?;
         for state in UNREPLAYED {

@@ -110,9 +110,4 @@ impl Replica {
         self.ask_record(sizes, number)?;
         self.resend_step(record)
     }
-
-    pub fn tick_one(&self, sizes: Sizes, number: usize, record: &mut Record) -> Answer {
-        self.ask_record(sizes, number)?;
-        self.tick_step(record)
-    }
 }

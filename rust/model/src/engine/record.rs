@@ -14,8 +14,6 @@ pub struct Record {
     pub acks: u16,
     /// Length of the value.
     pub len: u8,
-    /// The ticks that it has waited (02, Wish 7).
-    pub waited: u8,
 }
 
 impl Record {
@@ -34,20 +32,16 @@ impl Record {
             last_write: timestamp,
             acks: 0,
             len: 0,
-            waited: 0,
         }
     }
 
-    /// 01, question 5, for the replica of this number, and 02, Wish 7: the count
-    /// of ticks is below the group's wait, and 0 when valid.
-    pub fn is_sound(&self, number: u8, wait: u8) -> bool {
+    /// 01, question 5, for the replica of this number.
+    pub fn is_sound(&self, number: u8) -> bool {
         usize::from(self.len) <= Record::VALUE_LIMIT
             && self.timestamp.tie <= Replica::NUMBER_LIMIT
             && self.last_write.tie <= Replica::NUMBER_LIMIT
             && self.last_writer <= Replica::NUMBER_LIMIT
             && !has(self.acks, number)
-            && self.waited < wait
-            && (self.state != State::Valid || self.waited == 0)
     }
 
     /// The value, as a part of the record's slot. Decision: a length above 192
@@ -57,8 +51,7 @@ impl Record {
     }
 
     // The moves, each on the record's own value. Their questions are asked in
-    // `steps`. A new stamp, or becoming valid, sets the count of ticks to 0 (02,
-    // Wish 7).
+    // `steps`.
 
     /// 01, "Write", also that of a commit, for a value of this length. The version is not the last.
     pub(super) fn written(self, number: u8, len: u8) -> Record {
@@ -70,13 +63,11 @@ impl Record {
             last_write: timestamp,
             acks: 0,
             len,
-            waited: 0,
         }
     }
 
     /// 01, "Replay". From invalid-write it gives up the overtaken write of this
-    /// replica's (02, Wish 2): its stamp and its acknowledgements are gone. The
-    /// count of ticks stays: the stamp is no new one, and the record not valid.
+    /// replica's (02, Wish 2): its stamp and its acknowledgements are gone.
     pub(super) fn replayed(self, number: u8) -> Record {
         Record {
             state: State::Replay,
@@ -94,7 +85,6 @@ impl Record {
             timestamp,
             last_writer: sender,
             len,
-            waited: 0,
             ..self
         }
     }
@@ -111,13 +101,7 @@ impl Record {
     pub(super) fn validated(self) -> Record {
         Record {
             state: State::Valid,
-            waited: 0,
             ..self
         }
-    }
-
-    /// 02, Wish 7, of a record that is not valid: this many ticks waited.
-    pub(super) fn ticked(self, waited: u8) -> Record {
-        Record { waited, ..self }
     }
 }

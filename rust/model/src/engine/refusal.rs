@@ -66,8 +66,6 @@ pub enum Refusal {
     /// The packet is of the rule of ties that the group does not have (02, Wish
     /// 6).
     OtherRule = 27,
-    /// The group has no wait: it is 0 (02, Wish 7).
-    NoWait = 28,
 }
 
 impl Refusal {

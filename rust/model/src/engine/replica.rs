@@ -15,7 +15,7 @@ impl Replica {
     pub const NUMBER_LIMIT: u8 = 15;
 
     /// A replica before any event, and each of its records (01, "A fresh
-    /// start"). It asks questions 28, 1, 2 and 3. The stamps have the lowest number
+    /// start"). It asks questions 1, 2 and 3. The stamps have the lowest number
     /// in the view by either rule of ties (02, Wish 6, leaves that as it is).
     pub(super) fn fresh(
         number: u8,
@@ -33,8 +33,8 @@ impl Replica {
         Ok((replica, Record::fresh(view.trailing_zeros() as u8)))
     }
 
-    /// A view event (01, "View"). It asks only 28, 1 and 3 of the common
-    /// questions. The settings stay (02, Wish 6).
+    /// A view event (01, "View"). It asks only 1 and 3 of the common questions.
+    /// The settings stay (02, Wish 6).
     pub fn change_view(&mut self, epoch: u32, view: u16) -> Answer {
         self.ask_group()?;
         self.ask_member()?;
@@ -73,7 +73,7 @@ impl Replica {
         }
     }
 
-    /// 28, and 01, questions 1 to 3.
+    /// 01, questions 1 to 3.
     fn ask_memory(&self, sizes: Sizes) -> Result<(), Refusal> {
         self.ask_group()?;
         ask(
@@ -84,15 +84,14 @@ impl Replica {
         self.ask_member()
     }
 
-    /// 28, and 01, questions 1 to 4. Question 5 is asked of the record, in `steps`.
+    /// 01, questions 1 to 4. Question 5 is asked of the record, in `steps`.
     pub(super) fn ask_record(&self, sizes: Sizes, record: usize) -> Result<(), Refusal> {
         self.ask_memory(sizes)?;
         ask(record < sizes.records, Refusal::StrayRecord)
     }
 
-    /// 01, question 1, and 02, Wish 7: 28 before it, wherever it is asked.
+    /// 01, question 1.
     fn ask_group(&self) -> Result<(), Refusal> {
-        ask(self.settings.wait != 0, Refusal::NoWait)?;
         ask(
             self.number <= Replica::NUMBER_LIMIT && self.view.count_ones() >= 2,
             Refusal::NoGroup,

@@ -45,7 +45,4 @@ impl Rule {
 #[derive(Clone, Copy, Debug, PartialEq, Eq, Hash)]
 pub struct Settings {
     pub rule: Rule,
-    /// The ticks that a record waits before its replica helps itself, 1 to 255
-    /// (02, Wish 7). Question 28 refuses 0.
-    pub wait: u8,
 }

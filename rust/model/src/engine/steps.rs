@@ -71,13 +71,8 @@ impl Replica {
             Refusal::NotReplayable,
         )?;
 
-        Ok(Some(self.take_over(record)))
-    }
-
-    /// 01, "Replay": an INV leaves with the record's stamp.
-    fn take_over(&self, record: &mut Record) -> Message {
         *record = record.replayed(self.number);
-        Message::Inv(record.timestamp)
+        Ok(Some(Message::Inv(record.timestamp)))
     }
 
     pub(super) fn deliver_step(
@@ -154,27 +149,6 @@ impl Replica {
         }
     }
 
-    /// 02, Wish 7. On reaching the wait a write or a replay sends its INV again,
-    /// and invalid and invalid-write are replayed, the last writer being in the
-    /// view or not. Decision: the resent INV is that of a resend.
-    pub(super) fn tick_step(&self, record: &mut Record) -> Answer {
-        self.ask_sound(record)?;
-        if record.state == State::Valid {
-            return Ok(None);
-        }
-        // Question 5: it is below the wait, so below 255.
-        let waited = record.waited + 1;
-        if waited < self.settings.wait {
-            *record = record.ticked(waited);
-            return Ok(None);
-        }
-        *record = record.ticked(0);
-        if matches!(record.state, State::Invalid | State::InvalidWrite) {
-            return Ok(Some(self.take_over(record)));
-        }
-        Ok(Some(Message::Inv(record.timestamp)))
-    }
-
     /// 01, question 15, and 02, Wish 1: a write or a replay that every other
     /// replica in the view has acknowledged. The others are compared as a set,
     /// not counted: acknowledgements of replicas since struck off do not help.
@@ -184,10 +158,7 @@ impl Replica {
 
     /// 01, question 5.
     fn ask_sound(&self, record: &Record) -> Result<(), Refusal> {
-        ask(
-            record.is_sound(self.number, self.settings.wait),
-            Refusal::UnsoundRecord,
-        )
+        ask(record.is_sound(self.number), Refusal::UnsoundRecord)
     }
 }
 

@@ -107,13 +107,6 @@ impl Replica {
         self.ask_record(Sizes::of(table, store), record)?;
         self.resend_step(&table[record])
     }
-
-    /// A tick of this record (02, Wish 7). What leaves, if the wait is reached, is
-    /// its INV.
-    pub fn tick(&self, table: &mut [Record], store: &[u8], record: usize) -> Answer {
-        self.ask_record(Sizes::of(table, store), record)?;
-        self.tick_step(&mut table[record])
-    }
 }
 
 /// The bytes that a leaving message takes along: the record's value for an INV,

@@ -11,12 +11,8 @@ use crate::engine::{
 const LOG_LIMIT: usize = 256;
 /// Every replica has this one record.
 const RECORD: usize = 0;
-/// The program keeps the old rule of ties (02, Wish 6). It has no tick (Wish 7).
-/// Decision: the wait is any, since no record ever waits.
-const SETTINGS: Settings = Settings {
-    rule: Rule::Higher,
-    wait: 1,
-};
+/// The program keeps the old rule of ties (02, Wish 6).
+const SETTINGS: Settings = Settings { rule: Rule::Higher };
 
 /// A replica with its memory.
 #[derive(Clone, Copy)]

@@ -3,7 +3,7 @@
 
 use std::collections::{BTreeMap, BTreeSet, HashMap};
 
-use model::engine::{bit, has, Answer, Message, Record, Refusal, Rule, State, Timestamp};
+use model::engine::{bit, Answer, Message, Record, Refusal, Rule, State, Timestamp};
 use model::rng::Rng;
 
 use crate::group::{Commit, Event, Group};
@@ -33,13 +33,6 @@ fn name(
         Event::Replay { record } => match before[record].state {
             State::InvalidWrite => "replay from invalid-write",
             _ => "replay",
-        },
-        Event::Tick { record } => match (before[record].state, answer) {
-            (State::Valid, _) => "tick, valid",
-            (_, Ok(None)) => "tick",
-            (State::Invalid, _) => "tick, replay",
-            (State::InvalidWrite, _) => "tick, replay from invalid-write",
-            _ => "tick, INV again",
         },
         Event::Resend { .. } => match answer {
             Ok(Some(Message::Inv(_))) => "resent INV",
@@ -153,24 +146,11 @@ fn all_overtaken(group: &Group, at: usize, record: usize) -> bool {
     group.members[at].replica.others() & !overtaken == 0
 }
 
-/// What an engine makes of a replayed record besides, given the event, a replay or
-/// a tick, and the record before.
-type Besides = fn(&Event, &Record, &mut Record);
+/// What an engine makes of a replayed record besides, given the record before.
+type Besides = fn(&Record, &mut Record);
 
 /// The engine as it is.
-fn nothing(_: &Event, _: &Record, _: &mut Record) {}
-
-/// The record that this accepted event has replayed, at the wait too (02, Wish 7).
-fn replayed(event: &Event, before: &[Record], after: &[Record]) -> Option<usize> {
-    match *event {
-        Event::Replay { record } => Some(record),
-        Event::Tick { record } => {
-            let moved = before[record].state != after[record].state;
-            moved.then_some(record)
-        }
-        _ => None,
-    }
-}
+fn nothing(_: &Record, _: &mut Record) {}
 
 fn run(
     rng: &mut Rng,
@@ -226,11 +206,8 @@ fn run_with(
                     *tally.entry(end(name)).or_default() += 1;
                 }
             }
-            if let Some(record) = replayed(&event, &before, &group.members[at].table) {
-                let member = &mut group.members[at];
-                besides(&event, &before[record], &mut member.table[record]);
-                let in_view = has(member.replica.view, before[record].last_writer);
-                *tally.entry("replay, the writer in the view").or_default() += u32::from(in_view);
+            if let Event::Replay { record } = event {
+                besides(&before[record], &mut group.members[at].table[record]);
                 if before[record].state == State::InvalidWrite {
                     given_up.insert((at, record));
                     let all = u32::from(all_overtaken(&group, at, record));
@@ -308,16 +285,7 @@ fn all_came_about(tally: &Tally) {
     ];
     // 02, Wish 6.
     let ties = [("tie, won", 1000), ("tie, lost", 1000)];
-    // 02, Wish 7.
-    let ticks = [
-        ("tick, valid", 1000),
-        ("tick", 1000),
-        ("tick, INV again", 1000),
-        ("tick, replay", 1000),
-        ("tick, replay from invalid-write", 100),
-        ("replay, the writer in the view", 1000),
-    ];
-    let many = many.into_iter().chain(saves).chain(ties).chain(ticks);
+    let many = many.into_iter().chain(saves).chain(ties);
     for (name, least) in names.map(|name| (name, 5)).into_iter().chain(many) {
         let times = tally.get(name).copied().unwrap_or(0);
         assert!(times >= least, "{name}: only {times} times");
@@ -328,7 +296,7 @@ fn all_came_about(tally: &Tally) {
 /// breaks demand 3, and the random runs see it.
 #[test]
 fn kept_acknowledgements() {
-    let keep: Besides = |_, before, after| {
+    let keep: Besides = |before, after| {
         if before.state == State::InvalidWrite {
             after.acks = before.acks;
         }
@@ -337,27 +305,6 @@ fn kept_acknowledgements() {
     for rule in Rule::ALL {
         let mut broken = 0;
         for _ in 0..RUNS {
-            let done = run(&mut rng, rule, true, &mut Tally::new(), keep);
-            broken += u32::from(done.is_err());
-        }
-        println!("{rule:?}: broken {broken}");
-        assert!(broken >= 3, "{rule:?}: only {broken} runs broken");
-    }
-}
-
-/// So does one whose ticks alone keep the acknowledgements of an earlier save (02,
-/// Wish 7).
-#[test]
-fn kept_acknowledgements_at_a_tick() {
-    let keep: Besides = |event, before, after| {
-        if matches!(event, Event::Tick { .. }) {
-            after.acks = before.acks;
-        }
-    };
-    let mut rng = rng();
-    for rule in Rule::ALL {
-        let mut broken = 0;
-        for _ in 0..RUNS / 4 {
             let done = run(&mut rng, rule, true, &mut Tally::new(), keep);
             broken += u32::from(done.is_err());
         }

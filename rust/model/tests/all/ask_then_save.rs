@@ -40,7 +40,6 @@ fn she_saves_over_what_she_saw() {
             last_write: ts(2, 2),
             acks: 0,
             len: 4,
-            waited: 0,
         };
         assert_eq!(member.table, [written]);
         assert_eq!(&member.store[..5], b"11 g\0");

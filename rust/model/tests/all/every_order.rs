@@ -6,12 +6,12 @@
 //!
 //! Two saves (02, Wish 2): laptops 0, 1 and 2, of which each may save once, and
 //! the view without the one that wins a tie. Ask, then save (02, Wish 5): two laptops ask, and commit on what
-//! they were handed out, now or before. Ticks (02, Wish 7): two laptops may save, and all three tick.
+//! they were handed out, now or before.
 
 use std::collections::HashSet;
 use std::hash::{DefaultHasher, Hash, Hasher};
 
-use model::engine::{Record, Refusal, Rule, Settings, State};
+use model::engine::{Record, Refusal, Rule, State};
 
 use crate::group::{Commit, Event, Group, Post};
 use crate::support::{other, set, winner, Member};
@@ -83,30 +83,12 @@ fn ask_then_save<const LAST: u32>(group: &Group, at: usize) -> Vec<Event> {
     events
 }
 
-/// Ticks: the laptops 0 and 2 may save once, and with `STRIKE` there is the view
-/// without the one of them that loses a tie.
-fn ticks<const STRIKE: bool>(group: &Group, at: usize) -> Vec<Event> {
-    let record = 0;
-    let mut events = vec![Event::Tick { record }];
-    if STRIKE {
-        let view = set(&[1, winner(group.rule, &[0, 2])]);
-        events.extend([Event::Validate { record }, Event::View { epoch: 1, view }]);
-    }
-    if at != 1 && group.members[at].table[0].timestamp.version == 0 {
-        let value = format!("saved by {at}").into_bytes();
-        events.push(Event::Write { record, value });
-    }
-    events
-}
-
 /// What was found in all situations.
 #[derive(Debug, Default)]
 struct Found {
     situations: usize,
     /// Ways into them by a replay from invalid-write.
     given_up: usize,
-    /// By a tick: the INV again, a replay.
-    ticks: [usize; 2],
     /// By a commit; and commits that 26 refused.
     commits: [usize; 2],
     valid_pairs: u32,
@@ -118,7 +100,7 @@ fn laptops(rule: Rule, numbers: &[u8]) -> Group {
 }
 
 /// Goes through all situations up to one against demand 3 or Wish 5; `besides` is
-/// done to a record replayed from invalid-write or by a tick, given the record before.
+/// done to a record replayed from invalid-write, given the record before.
 fn find(
     start: Group,
     events: Events,
@@ -145,17 +127,10 @@ fn find(
                 }
                 if answer.is_ok() {
                     let held = &before.table[0];
-                    let after = &mut group.members[at].table[0];
                     let replay = matches!(event, Event::Replay { .. });
-                    let given_up = replay && held.state == State::InvalidWrite;
-                    found.given_up += usize::from(given_up);
-                    let moved = held.state != after.state;
-                    let tick = matches!(event, Event::Tick { .. });
-                    if let (true, Ok(Some(_))) = (tick, answer) {
-                        found.ticks[usize::from(moved)] += 1;
-                    }
-                    if given_up || tick && moved {
-                        besides(held, after);
+                    if replay && held.state == State::InvalidWrite {
+                        found.given_up += 1;
+                        besides(held, &mut group.members[at].table[0]);
                     }
                     said_once(&mut group);
                     if seen.insert(sum(&group)) {
@@ -204,39 +179,6 @@ fn no_order_breaks_it() {
 fn kept_acknowledgements() {
     for rule in Rule::ALL {
         let found = find(laptops(rule, &[0, 1, 2]), two_saves, |before, after| {
-            after.acks = before.acks;
-        });
-        assert!(found.is_err(), "{found:?}");
-    }
-}
-
-/// 02, Wish 7: ticks in any order, with waits of 1 and 2.
-#[test]
-fn no_order_of_ticks_breaks_it() {
-    for rule in Rule::ALL {
-        let one = (1, ticks::<true> as Events);
-        let two = (2, ticks::<false> as Events);
-        for (wait, events) in [one, two] {
-            let found = find(ticking(rule, wait), events, |_, _| ()).expect("demand 3");
-            println!("{found:?}");
-            assert!(found.situations > 10_000, "{found:?}");
-            let [again, replays] = found.ticks;
-            assert!(again > 10_000 && replays > 5000, "{found:?}");
-            assert!(found.valid_pairs > 5000, "{found:?}");
-        }
-    }
-}
-
-fn ticking(rule: Rule, wait: u8) -> Group {
-    let settings = Settings { rule, wait };
-    Group::start_with(settings, &[0, 1, 2], set(&[0, 1, 2]), 1)
-}
-
-/// An engine whose ticks keep the acknowledgements of an earlier save is found.
-#[test]
-fn kept_acknowledgements_at_a_tick() {
-    for rule in Rule::ALL {
-        let found = find(ticking(rule, 1), ticks::<false>, |before, after| {
             after.acks = before.acks;
         });
         assert!(found.is_err(), "{found:?}");

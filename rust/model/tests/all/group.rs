@@ -2,11 +2,11 @@
 //! the warden issues, demand 3 in both halves, and what Wish 5 promises.
 
 use model::engine::{
-    body, has, number, Answer, Envelope, Message, Replica, Rule, Settings, State, Timestamp,
+    body, has, number, Answer, Envelope, Message, Replica, Rule, State, Timestamp,
 };
 use model::opened::{Held, Opened};
 
-use crate::support::{settings_by, Member};
+use crate::support::Member;
 
 /// A message that left, with the bytes it left with, and whom it is for.
 #[derive(Clone, Debug)]
@@ -56,9 +56,6 @@ pub enum Event {
     Resend {
         record: usize,
     },
-    Tick {
-        record: usize,
-    },
     View {
         epoch: u32,
         view: u16,
@@ -87,13 +84,7 @@ impl Group {
     /// All members have just started fresh, with one first view and this rule of
     /// ties.
     pub fn start(rule: Rule, numbers: &[u8], view: u16, records: usize) -> Group {
-        Group::start_with(settings_by(rule), numbers, view, records)
-    }
-
-    /// The same with these settings.
-    pub fn start_with(settings: Settings, numbers: &[u8], view: u16, records: usize) -> Group {
-        let start = |&number| Member::start_with(settings, number, view, records);
-        let rule = settings.rule;
+        let start = |&number| Member::start(rule, number, view, records);
         Group {
             rule,
             members: numbers.iter().map(start).collect(),
@@ -134,7 +125,6 @@ impl Group {
             Event::Replay { record } => (record, member.replay(record)),
             Event::Validate { record } => (record, member.validate(record)),
             Event::Resend { record } => (record, member.resend(record)),
-            Event::Tick { record } => (record, member.tick(record)),
             Event::View { epoch, view } => (usize::MAX, member.view(epoch, view)),
             Event::Deliver { post } => {
                 let Post { envelope, body, .. } = &self.posts[post];

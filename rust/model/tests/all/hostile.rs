@@ -41,34 +41,11 @@ fn some_view(rng: &mut Rng) -> u16 {
     }
 }
 
-/// Mostly a short wait; sometimes none, or the longest.
-fn some_wait(rng: &mut Rng) -> u8 {
-    match rng.below(24) {
-        0 => 0,
-        1 => 255,
-        2 => rng.next_u64() as u8,
-        _ => 1 + rng.below(4) as u8,
-    }
-}
-
-/// Mostly below this wait, often just below it, and 0 when valid.
-fn some_waited(rng: &mut Rng, state: State, wait: u8) -> u8 {
-    match rng.below(24) {
-        0 => rng.next_u64() as u8,
-        1 => wait,
-        2 => wait.wrapping_add(1),
-        _ if state == State::Valid => 0,
-        3..12 => wait.saturating_sub(1),
-        _ => rng.below(usize::from(wait.max(1))) as u8,
-    }
-}
-
-fn some_record(rng: &mut Rng, wait: u8) -> Record {
+fn some_record(rng: &mut Rng) -> Record {
     let timestamp = some_timestamp(rng);
     let last_write = some_timestamp(rng);
-    let state = State::ALL[rng.below(5)];
     Record {
-        state,
+        state: State::ALL[rng.below(5)],
         timestamp,
         last_writer: some_number(rng),
         last_write: [timestamp, last_write][rng.below(2)],
@@ -79,7 +56,6 @@ fn some_record(rng: &mut Rng, wait: u8) -> Record {
             2..6 => 192,
             _ => rng.below(193) as u8,
         },
-        waited: some_waited(rng, state, wait),
     }
 }
 
@@ -95,7 +71,6 @@ fn some_member(rng: &mut Rng) -> Member {
         3 => store.resize(192 * count + 192, 1),
         _ => (),
     }
-    let wait = some_wait(rng);
     Member {
         replica: Replica {
             number: if rng.chance(2, 3) {
@@ -107,10 +82,9 @@ fn some_member(rng: &mut Rng) -> Member {
             view: some_view(rng),
             settings: Settings {
                 rule: Rule::ALL[rng.below(2)],
-                wait,
             },
         },
-        table: (0..count).map(|_| some_record(rng, wait)).collect(),
+        table: (0..count).map(|_| some_record(rng)).collect(),
         store,
     }
 }
@@ -193,10 +167,7 @@ impl Done {
         for other in (0..before.table.len()).filter(|&other| other != self.index) {
             assert_eq!(taken_out(after, other), taken_out(before, other));
         }
-        let Replica {
-            number, settings, ..
-        } = after.replica;
-        assert!(after.table[self.index].is_sound(number, settings.wait));
+        assert!(after.table[self.index].is_sound(after.replica.number));
     }
 }
 
@@ -231,7 +202,6 @@ fn is_the_inv(done: &Done, envelope: &Envelope, bytes: &[u8]) -> Option<bool> {
             timestamp: new,
             last_writer: envelope.sender,
             len: bytes.len() as u8,
-            waited: 0,
             ..held
         };
         expected.1.fill(0);
@@ -264,64 +234,18 @@ fn is_the_replay(done: &Done) {
             assert_eq!(taken_out(&done.after, done.index), (replayed, slot));
         }
         Err(Refusal::NotReplayable) => assert!(!permitted()),
-        Err(refusal) => assert!(is_common(refusal)),
+        Err(refusal) => assert!(refusal.number() <= 5),
     }
-}
-
-/// The questions of every event on a record: 28 and 1 to 5.
-fn is_common(refusal: Refusal) -> bool {
-    refusal.number() <= 5 || refusal == Refusal::NoWait
-}
-
-/// 02, Wish 7: a tick asks what every event asks. At the wait it is a resend, or
-/// source document 000's replay without its condition on the writer. Tells the
-/// state and whether the wait was reached.
-fn is_the_tick(done: &Done) -> Option<(State, bool)> {
-    let (held, slot) = taken_out(&done.before, done.index);
-    let Replica {
-        number, settings, ..
-    } = done.before.replica;
-    let Ok(sent) = done.answer else {
-        assert!(done.answer.is_err_and(is_common));
-        return None;
-    };
-    let waited = u32::from(held.waited) + u32::from(held.state != State::Valid);
-    let reached = waited == u32::from(settings.wait);
-    let mut expected = held;
-    expected.waited = if reached { 0 } else { waited as u8 };
-    if reached {
-        assert_eq!(sent, Some(Message::Inv(held.timestamp)));
-        if matches!(held.state, State::Invalid | State::InvalidWrite) {
-            // The last writer in no view: then a replay by hand does it.
-            let mut member = done.before.clone();
-            member.replica.view &= !set(&[held.last_writer]) | set(&[number]);
-            if member.replica.view.count_ones() >= 2 && held.last_writer != number {
-                assert_eq!(member.replay(done.index), done.answer);
-                member.table[done.index].waited = 0;
-                assert_eq!(member.table, done.after.table);
-            }
-            expected.state = State::Replay;
-            expected.last_writer = number;
-            expected.last_write = held.timestamp;
-            expected.acks = 0;
-        } else {
-            assert_eq!(done.before.resend(done.index), done.answer);
-        }
-    } else {
-        assert_eq!(sent, None);
-    }
-    assert_eq!(taken_out(&done.after, done.index), (expected, slot));
-    Some((held.state, reached))
 }
 
 /// 02, Wish 5: where the record is valid with the stamp that is brought back, a
-/// commit is the write; elsewhere 26 refuses it, unless 28 or one of 1 to 5 does.
+/// commit is the write; elsewhere 26 refuses it, unless one of 1 to 5 does.
 fn is_the_commit(done: &Done, opened: Timestamp, value: &[u8]) {
     let mut written = done.before.clone();
     let write = written.write(done.index, value);
     let (held, _) = taken_out(&done.before, done.index);
     match write {
-        Err(refusal) if is_common(refusal) => assert_eq!(done.answer, write),
+        Err(refusal) if refusal.number() <= 5 => assert_eq!(done.answer, write),
         _ if held.state == State::Valid && held.timestamp == opened => {
             assert_eq!((done.answer, &done.after), (write, &written));
         }
@@ -332,7 +256,7 @@ fn is_the_commit(done: &Done, opened: Timestamp, value: &[u8]) {
 #[test]
 fn events() {
     let mut rng = rng();
-    let mut accepted = [0; 11];
+    let mut accepted = [0; 10];
     // Accepted ACKs that validate, by what the record was: write, replay.
     let mut last = [0; 2];
     // Those of an overtaken write by all others, which do not.
@@ -344,10 +268,6 @@ fn events() {
     let mut uncommitted = [0; 5];
     // Ties, by the rule, and lost or won.
     let mut ties = [[0; 2]; 2];
-    // Ticks, by the state, and below the wait or at it; replays among them with
-    // the last writer in the view.
-    let mut ticks = [[0; 2]; 5];
-    let mut in_view = 0;
     for _ in 0..ROUNDS {
         let before = some_member(&mut rng);
         let index = some_index(&mut rng);
@@ -356,7 +276,7 @@ fn events() {
         let mut after = before.clone();
         let (mut record, mut slot) = taken_out(&before, index);
         let mut bytes = some_bytes(&mut rng);
-        let event = rng.below(11);
+        let event = rng.below(10);
         let mut kind = event;
         let mut delivered = None;
         let opened = some_opened(&mut rng, &before, index);
@@ -383,10 +303,6 @@ fn events() {
             4 => (
                 after.resend(index),
                 replica.resend_one(sizes, index, &record),
-            ),
-            10 => (
-                after.tick(index),
-                replica.tick_one(sizes, index, &mut record),
             ),
             8 => {
                 let table = before.ask(index);
@@ -439,14 +355,6 @@ fn events() {
                 given_up[1] += u32::from(done.answer == Err(Refusal::NotReplayable));
             }
         }
-        if kind == 10 {
-            if let Some((state, reached)) = is_the_tick(&done) {
-                ticks[state as usize][usize::from(reached)] += 1;
-                let replayed = done.after.table[index].state != state;
-                let writer = set(&[done.before.table[index].last_writer]);
-                in_view += u32::from(replayed && replica.view & writer != 0);
-            }
-        }
         if kind == 9 {
             is_the_commit(&done, opened, &bytes);
             let (held, _) = taken_out(&done.before, index);
@@ -488,14 +396,6 @@ fn events() {
     assert!(overtaken > 5, "{overtaken}");
     assert!(given_up.iter().all(|&times| times > 50), "{given_up:?}");
     println!("uncommitted {uncommitted:?}, ties {ties:?}");
-    println!("ticks {ticks:?}, with the last writer in the view {in_view}");
-    let [[valid, none], others @ ..] = ticks;
-    assert!(valid > 100 && none == 0, "{ticks:?}");
-    assert!(
-        others.as_flattened().iter().all(|&times| times > 100),
-        "{ticks:?}"
-    );
-    assert!(in_view > 100, "{in_view}");
     assert!(
         ties.as_flattened().iter().all(|&times| times > 20),
         "{ties:?}"

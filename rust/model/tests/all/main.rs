@@ -16,4 +16,3 @@ mod schedule;
 mod support;
 mod tie_rule;
 mod two_saves;
-mod waiting;

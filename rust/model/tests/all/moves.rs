@@ -5,8 +5,7 @@ use model::engine::{Answer, Message, Record, Rule, State};
 
 use crate::support::{ack, from, inv, set, ts, val, Member};
 
-/// A record with nothing at its first value, but that a valid one has waited no
-/// tick. 5 is its last writer.
+/// A record with nothing at its first value. 5 is its last writer.
 fn held(state: State) -> Record {
     Record {
         state,
@@ -15,7 +14,6 @@ fn held(state: State) -> Record {
         last_write: ts(8, 2),
         acks: set(&[1, 7]),
         len: 4,
-        waited: if state == State::Valid { 0 } else { 2 },
     }
 }
 
@@ -71,7 +69,6 @@ fn write() {
         last_write: ts(10, 2),
         acks: 0,
         len: 6,
-        waited: 0,
     };
     for state in [State::Valid, State::Invalid] {
         let event = |m: &mut Member| m.write(0, b"weight");
@@ -92,7 +89,6 @@ fn commit() {
         last_write: ts(10, 2),
         acks: 0,
         len: 6,
-        waited: 0,
     };
     let full = [b'f'; 192];
     for (value, len) in [(&b"weight"[..], 6), (b"", 0), (&full, 192)] {
@@ -107,7 +103,7 @@ fn commit() {
 }
 
 /// From invalid-write too: the own save of (8,2) is given up (02, Wish 2),
-/// whoever had acknowledged it. The count of ticks stays (Wish 7).
+/// whoever had acknowledged it.
 #[test]
 fn replay() {
     for state in [State::Invalid, State::InvalidWrite] {
@@ -124,7 +120,6 @@ fn replay() {
                 last_write: ts(9, 5),
                 acks: 0,
                 len: 4,
-                waited: 2,
             };
             moves(before, |m| m.replay(0), after, Some(inv(9, 5)), None);
         }
@@ -155,7 +150,6 @@ fn greater_inv_by(rule: Rule, stamps: &[(u32, u8)]) {
                 timestamp: ts(version, tie),
                 last_writer: 1,
                 len: 2,
-                waited: 0,
                 ..held(state)
             };
             let event = |m: &mut Member| m.deliver(&from(1, inv(version, tie)), b"ok");
@@ -224,12 +218,8 @@ fn last_acknowledgement() {
             let (after, sent) = match state {
                 State::InvalidWrite => (counted, None),
                 _ => {
-                    let valid = Record {
-                        state: State::Valid,
-                        waited: 0,
-                        ..counted
-                    };
-                    (valid, Some(val(9, 5)))
+                    let state = State::Valid;
+                    (Record { state, ..counted }, Some(val(9, 5)))
                 }
             };
             let event = |m: &mut Member| m.deliver(&from(5, ack(8, 2)), b"");
@@ -249,7 +239,6 @@ fn last_acknowledgement_of_a_smaller_view() {
         let after = Record {
             state: State::Valid,
             acks: set(&[5]),
-            waited: 0,
             ..before
         };
         let event = |m: &mut Member| {
@@ -276,7 +265,6 @@ fn validation() {
         };
         let after = Record {
             state: State::Valid,
-            waited: 0,
             ..before
         };
         moves(before, |m| m.validate(0), after, Some(val(9, 5)), None);

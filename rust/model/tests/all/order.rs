@@ -4,7 +4,7 @@
 use model::engine::{number, Envelope, Message, Record, Replica, Rule, State};
 use model::packet::{self, Entry};
 
-use crate::support::{ack, from, inv, other, packet_of, set, ts, val, Member, WAIT};
+use crate::support::{ack, from, inv, other, packet_of, set, ts, val, Member};
 
 /// Runs the event with every subset of faults, by either rule of ties. The
 /// questions are in the paper's order.
@@ -42,7 +42,7 @@ impl Faults {
         }
     }
 
-    /// Laptop 2 with the faults 28, 1, 2, 3 and 5, over this record.
+    /// Laptop 2 with the faults 1, 2, 3 and 5, over this record.
     fn member(&self, record: Record) -> Member {
         let mut member = Member::ringing_by(self.rule);
         member.table[0] = record;
@@ -52,9 +52,6 @@ impl Faults {
             (true, false) => set(&[2]),
             (true, true) => set(&[5]),
         };
-        if self.has(28) {
-            member.replica.settings.wait = 0;
-        }
         if self.has(2) {
             member.store.pop();
         }
@@ -101,7 +98,7 @@ fn written() -> Record {
 
 #[test]
 fn start() {
-    every_subset(&[28, 1, 2, 3], |faults| {
+    every_subset(&[1, 2, 3], |faults| {
         faults.answer(faults.member(Record::fresh(9)), |m| {
             let Replica {
                 number,
@@ -116,7 +113,7 @@ fn start() {
 
 #[test]
 fn read() {
-    every_subset(&[28, 1, 2, 3, 4, 5, 6], |faults| {
+    every_subset(&[1, 2, 3, 4, 5, 6], |faults| {
         let mut record = Record::fresh(1);
         record.state = faults.choose(6, State::Valid, State::Invalid);
         faults.answer(faults.member(record), |m| {
@@ -127,7 +124,7 @@ fn read() {
 
 #[test]
 fn write() {
-    every_subset(&[28, 1, 2, 3, 4, 5, 7, 8, 9], |faults| {
+    every_subset(&[1, 2, 3, 4, 5, 7, 8, 9], |faults| {
         let mut record = Record::fresh(1);
         record.state = faults.choose(7, State::Invalid, State::Write);
         record.timestamp.version = faults.choose(9, 0, u32::MAX);
@@ -139,7 +136,7 @@ fn write() {
 /// 02, Wish 5: as a read.
 #[test]
 fn ask() {
-    every_subset(&[28, 1, 2, 3, 4, 5, 6], |faults| {
+    every_subset(&[1, 2, 3, 4, 5, 6], |faults| {
         let mut record = Record::fresh(1);
         record.state = faults.choose(6, State::Valid, State::Write);
         faults.answer(faults.member(record), |m| {
@@ -164,7 +161,7 @@ fn commit() {
 
 /// The record's state, and what is added to its stamp, if there is fault 26.
 fn commit_at(other: State, (version, tie): (u32, u8)) {
-    every_subset(&[28, 1, 2, 3, 4, 5, 26, 8, 9], |faults| {
+    every_subset(&[1, 2, 3, 4, 5, 26, 8, 9], |faults| {
         let mut record = Record::fresh(1);
         record.timestamp.version = faults.choose(9, 7, u32::MAX);
         record.state = faults.choose(26, State::Valid, other);
@@ -194,7 +191,7 @@ fn replay() {
 
 /// Record's state and last writer, good and bad for question 16.
 fn replay_at(good: (State, u8), bad: (State, u8)) {
-    every_subset(&[28, 1, 2, 3, 4, 5, 16], |faults| {
+    every_subset(&[1, 2, 3, 4, 5, 16], |faults| {
         let mut record = Record::fresh(0);
         (record.state, record.last_writer) = faults.choose(16, good, bad);
         faults.answer(faults.member(record), |m| m.replay(faults.record()))
@@ -203,7 +200,7 @@ fn replay_at(good: (State, u8), bad: (State, u8)) {
 
 #[test]
 fn validate() {
-    every_subset(&[28, 1, 2, 3, 4, 5, 15], |faults| {
+    every_subset(&[1, 2, 3, 4, 5, 15], |faults| {
         let mut record = written();
         record.acks = faults.choose(15, set(&[1, 5]), set(&[0]));
         faults.answer(faults.member(record), |m| m.validate(faults.record()))
@@ -212,37 +209,16 @@ fn validate() {
 
 #[test]
 fn resend() {
-    every_subset(&[28, 1, 2, 3, 4, 5, 17], |faults| {
+    every_subset(&[1, 2, 3, 4, 5, 17], |faults| {
         let mut record = written();
         record.state = faults.choose(17, State::Write, State::Invalid);
         faults.answer(faults.member(record), |m| m.resend(faults.record()))
     });
 }
 
-/// 02, Wish 7: no question of its own. 5 fails by the count too.
-#[test]
-fn tick() {
-    for state in State::ALL {
-        every_subset(&[28, 1, 2, 3, 4, 5], |faults| {
-            let mut record = written();
-            record.state = state;
-            faults.answer(faults.member(record), |m| m.tick(faults.record()))
-        });
-        for waited in [WAIT, 255] {
-            every_subset(&[28, 1, 2, 3, 4, 5], |faults| {
-                let mut member = faults.member(written());
-                member.table[0].len = 0;
-                member.table[0].state = state;
-                member.table[0].waited = faults.choose(5, 0, waited);
-                faults.answer(member, |m| m.tick(faults.record()))
-            });
-        }
-    }
-}
-
 #[test]
 fn deliver_inv() {
-    every_subset(&[28, 1, 2, 3, 4, 5, 10, 11, 12], |faults| {
+    every_subset(&[1, 2, 3, 4, 5, 10, 11, 12], |faults| {
         let envelope = faults.envelope(inv(1, 5));
         let body = &[b'b'; 193][..faults.choose(12, 192, 193)];
         faults.answer(faults.member(written()), |m| m.deliver(&envelope, body))
@@ -258,7 +234,7 @@ fn deliver_ack() {
 }
 
 fn deliver_ack_at(awaiting: State, acks: u16) {
-    every_subset(&[28, 1, 2, 3, 4, 5, 10, 11, 12, 13], |faults| {
+    every_subset(&[1, 2, 3, 4, 5, 10, 11, 12, 13], |faults| {
         let mut record = written();
         record.acks = acks;
         record.state = faults.choose(13, awaiting, State::Invalid);
@@ -270,7 +246,7 @@ fn deliver_ack_at(awaiting: State, acks: u16) {
 
 #[test]
 fn deliver_val() {
-    every_subset(&[28, 1, 2, 3, 4, 5, 10, 11, 12, 14], |faults| {
+    every_subset(&[1, 2, 3, 4, 5, 10, 11, 12, 14], |faults| {
         let mut record = written();
         record.state = faults.choose(14, State::Replay, State::Valid);
         let envelope = faults.envelope(val(1, 2));
@@ -281,7 +257,7 @@ fn deliver_val() {
 
 #[test]
 fn view() {
-    every_subset(&[28, 1, 3, 18, 19], |faults| {
+    every_subset(&[1, 3, 18, 19], |faults| {
         let member = faults.member(Record::fresh(1));
         let view = faults.choose(19, member.replica.view, set(&[1, 9]));
         faults.answer(member, |m| m.view(faults.choose(18, 1, 0), view))
@@ -348,7 +324,7 @@ fn accept() {
 #[test]
 fn deliver_from_a_packet() {
     // A packet that 22 lets pass is well-formed for 12.
-    let questions = [20, 27, 21, 22, 23, 28, 1, 2, 3, 4, 5, 10, 11, 13];
+    let questions = [20, 27, 21, 22, 23, 1, 2, 3, 4, 5, 10, 11, 13];
     every_subset(&questions, |faults| {
         let mut record = written();
         record.acks = faults.choose(13, set(&[1]), set(&[5]));

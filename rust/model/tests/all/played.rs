@@ -116,45 +116,17 @@ fn unknown_lines() {
         "view 0 4294967296 3",
         "view 0 1 65536",
         "view 2 1 3",
-        // 02, Wishes 5 and 7, gave it no new line.
+        // 02, Wish 5, gave it no new line.
         "ask 0",
         "ask 0 ",
         "commit 0",
         "commit 0 text",
         "commit 0 0 0 text",
-        "tick 0",
-        "tick 0 ",
-        "tick 0 0",
-        "tick",
     ];
     for line in unknown {
         let printed = lines(&["group 2", line, "resend 0"]);
         assert_eq!(printed, ["?", "0 V 0 0 0"], "{line:?}");
     }
-}
-
-/// 02, Wish 7, changes nothing of the program: a record waits for ever there, and a
-/// replay asks for its last writer.
-#[test]
-fn nobody_ticks() {
-    let script = [
-        "group 2",
-        "write 0 A",
-        "deliver 1 0",
-        "tick 0",
-        "tick 1",
-        "replay 1",
-        "read 1",
-    ];
-    let printed = [
-        "0 W 1 0 0",
-        "0 I 1 0 1",
-        "?",
-        "?",
-        "16 I 1 0 -",
-        "6 I 1 0 -",
-    ];
-    assert_eq!(lines(&script), printed);
 }
 
 #[test]

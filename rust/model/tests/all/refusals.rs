@@ -1,13 +1,13 @@
-//! The events' questions, 1 to 19, 26 and 28: each clause of them answered "no" once,
+//! The events' questions, 1 to 19 and 26: each clause of them answered "no" once,
 //! with the number, and with nothing moved. Those of packets stand in `packets`.
 
 use std::collections::BTreeSet;
 
 use model::engine::{
-    bit, has, number, Answer, Envelope, Record, Refusal, Replica, Rule, State, Timestamp,
+    bit, has, number, Answer, Envelope, Record, Refusal, Replica, Rule, Settings, State, Timestamp,
 };
 
-use crate::support::{ack, from, inv, set, settings_by, ts, val, Member, WAIT};
+use crate::support::{ack, from, inv, set, ts, val, Member};
 
 /// An event on laptop 2 after some change made by hand. The rule of ties is in
 /// none of these questions (02, Wish 6): both answer alike.
@@ -57,10 +57,6 @@ fn resend(member: &mut Member) -> Answer {
     member.resend(0)
 }
 
-fn tick(member: &mut Member) -> Answer {
-    member.tick(0)
-}
-
 fn deliver(envelope: Envelope, body: &[u8]) -> impl Fn(&mut Member) -> Answer + '_ {
     move |member| member.deliver(&envelope, body)
 }
@@ -84,8 +80,8 @@ fn writing(member: &mut Member) {
 #[test]
 fn one_to_five_for_every_event_on_a_record() {
     let inv15 = deliver(from(5, inv(1, 5)), b"B");
-    let events: [&dyn Fn(&mut Member) -> Answer; 9] = [
-        &read, &write, &ask, &commit, &replay, &validate, &resend, &tick, &inv15,
+    let events: [&dyn Fn(&mut Member) -> Answer; 8] = [
+        &read, &write, &ask, &commit, &replay, &validate, &resend, &inv15,
     ];
     for event in events {
         let is = |no: u8, change: &dyn Fn(&mut Member)| {
@@ -108,22 +104,6 @@ fn one_to_five_for_every_event_on_a_record() {
         is(5, &|m| m.table[0].last_write.tie = 16);
         is(5, &|m| m.table[0].last_writer = 16);
         is(5, &|m| m.table[0].acks = set(&[1, 2]));
-        // 02, Wish 7: 28, before 1; the count of a valid record, and of any other.
-        is(28, &|m| m.replica.settings.wait = 0);
-        is(28, &|m| {
-            m.replica.settings.wait = 0;
-            m.replica.number = 16;
-        });
-        is(5, &|m| m.table[0].waited = 1);
-        is(5, &|m| m.table[0].waited = 255);
-        for other in &State::ALL[1..] {
-            for waited in [WAIT, WAIT + 1, 254, 255] {
-                is(5, &|m| {
-                    m.table[0].state = *other;
-                    m.table[0].waited = waited;
-                });
-            }
-        }
     }
 }
 
@@ -137,25 +117,9 @@ fn sound_to_the_limit() {
             last_write: ts(u32::MAX, 15),
             acks: !set(&[2]),
             len: 192,
-            waited: 0,
         }
     };
     assert_eq!(after(member, read), 0);
-    // 02, Wish 7: the count is below the wait.
-    for (state, wait, waited) in [
-        (State::Write, 1, 0),
-        (State::Invalid, 2, 1),
-        (State::Replay, 255, 254),
-        (State::InvalidWrite, 255, 0),
-        (State::Valid, 1, 0),
-    ] {
-        let waiting = |m: &mut Member| {
-            m.replica.settings.wait = wait;
-            m.table[0].state = state;
-            m.table[0].waited = waited;
-        };
-        assert_eq!(after(waiting, tick), 0);
-    }
     let fifteen = |m: &mut Member| m.replica.number = 15;
     assert_eq!(after(fifteen, read), 3);
     let wide = |m: &mut Member| {
@@ -167,29 +131,17 @@ fn sound_to_the_limit() {
 
 #[test]
 fn start() {
-    let start_with = |settings, number, view, records, store| {
+    let start_by = |rule, number, view, records, store| {
         let mut table = vec![Record::fresh(9); records];
         let mut store = vec![3; store];
-        let answer = Replica::start(number, view, settings, &mut table, &mut store);
+        let answer = Replica::start(number, view, Settings { rule }, &mut table, &mut store);
         let moved = table.iter().any(|&record| record != Record::fresh(9))
             || store.iter().any(|&byte| byte != 3);
         assert_eq!(moved, answer.is_ok());
         model::engine::number(&answer)
     };
     let start = |number, view, records, store| {
-        let [old, new] = Rule::ALL.map(|rule| {
-            let (mut settings, answer) = (settings_by(rule), [1, WAIT, 255]);
-            let answer = answer.map(|wait| {
-                settings.wait = wait;
-                start_with(settings, number, view, records, store)
-            });
-            assert!(answer.iter().all(|no| *no == answer[0]), "the wait");
-            // 02, Wish 7.
-            settings.wait = 0;
-            let none = start_with(settings, number, view, records, store);
-            assert_eq!(none, 28, "no wait");
-            answer[0]
-        });
+        let [old, new] = Rule::ALL.map(|rule| start_by(rule, number, view, records, store));
         assert_eq!(old, new, "the two rules of ties");
         old
     };
@@ -221,7 +173,6 @@ fn stray_records() {
         is_stray(&|m| m.replay(record));
         is_stray(&|m| m.validate(record));
         is_stray(&|m| m.resend(record));
-        is_stray(&|m| m.tick(record));
         is_stray(&|m| m.deliver(&envelope, b"B"));
     }
 }
@@ -468,14 +419,6 @@ fn views() {
     assert_eq!(after(|m| m.replica.number = 16, view(1, 3)), 1);
     assert_eq!(after(|m| m.replica.view = set(&[2]), view(1, 3)), 1);
     assert_eq!(after(|m| m.replica.number = 3, view(1, 3)), 3);
-    // 02, Wish 7: 28 before 1.
-    let none = |m: &mut Member| m.replica.settings.wait = 0;
-    assert_eq!(after(none, view(1, set(&[1, 2]))), 28);
-    let nobody = |m: &mut Member| {
-        none(m);
-        m.replica.number = 16;
-    };
-    assert_eq!(after(nobody, view(0, 0)), 28);
     // It asks nothing of the memory.
     assert_eq!(after(|m| m.table.clear(), view(1, set(&[1, 2]))), 0);
 }
@@ -511,13 +454,11 @@ fn the_numbers_are_the_papers() {
         PacketRoom,
         NotAsOpened,
         OtherRule,
-        NoWait,
     ];
     let numbers: BTreeSet<u8> = all.iter().map(|refusal| refusal.number()).collect();
-    assert_eq!(numbers, (1..=28).collect());
+    assert_eq!(numbers, (1..=27).collect());
     assert_eq!(NotAsOpened.number(), 26);
     assert_eq!(OtherRule.number(), 27);
-    assert_eq!(NoWait.number(), 28);
 }
 
 #[test]

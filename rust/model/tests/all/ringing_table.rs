@@ -1,10 +1,10 @@
 //! The rows of document 01, "From the ringing table", and the last ACK of
 //! document 02. Laptop 2, view {1,2,5}, epoch 0 unless said.
 
-use model::engine::{body, Record, Refusal, Replica, Rule, State};
+use model::engine::{body, Record, Refusal, Replica, Rule, Settings, State};
 use model::packet;
 
-use crate::support::{ack, from, inv, packet_of, set, settings_by, ts, val, Member};
+use crate::support::{ack, from, inv, packet_of, set, ts, val, Member};
 
 /// The record after laptop 2's first write.
 const WRITTEN: Record = Record {
@@ -14,7 +14,6 @@ const WRITTEN: Record = Record {
     last_write: ts12(),
     acks: 0,
     len: 2,
-    waited: 0,
 };
 
 const fn ts12() -> model::engine::Timestamp {
@@ -37,7 +36,6 @@ fn fresh() {
         last_write: ts(0, 1),
         acks: 0,
         len: 0,
-        waited: 0,
     };
     assert_eq!(member.table, [expected]);
     assert!(member.store.iter().all(|&byte| byte == 0));
@@ -107,7 +105,6 @@ fn greater_inv_at_replay() {
         last_write: ts(1, 5),
         acks: 0,
         len: 1,
-        waited: 0,
     };
     assert_eq!(member.table, [replayed]);
     assert_eq!(body(inv(1, 5), &member.table, &member.store, 0), b"B");
@@ -180,7 +177,6 @@ fn last_ack_at_replay() {
         last_write: ts(1, 5),
         acks: set(&[1]),
         len: 1,
-        waited: 0,
     };
     assert_eq!(member.table, [expected]);
     assert_eq!(member.replica.recipients(val(1, 5), 1), set(&[1]));
@@ -337,7 +333,13 @@ fn records_4095_and_4096() {
     for count in [0, 4097] {
         let mut table = vec![Record::fresh(9); count];
         let mut store = vec![3; 192 * count];
-        let answer = Replica::start(2, view, settings_by(Rule::Higher), &mut table, &mut store);
+        let answer = Replica::start(
+            2,
+            view,
+            Settings { rule: Rule::Higher },
+            &mut table,
+            &mut store,
+        );
         assert_eq!(answer, Err(Refusal::LentMemory));
         assert!(table.iter().all(|&record| record == Record::fresh(9)));
         assert!(store.iter().all(|&byte| byte == 3));

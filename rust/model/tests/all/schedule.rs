@@ -2,7 +2,7 @@
 //! loses, repeats and holds back, with views that reach each member when they
 //! will.
 
-use model::engine::{bit, has, Rule, Settings, State, Timestamp};
+use model::engine::{bit, has, Rule, State, Timestamp};
 use model::rng::Rng;
 
 use crate::group::{Event, Group};
@@ -73,12 +73,7 @@ impl Schedule {
             schedule.deliveries = rng.below(13);
         }
         let records = if rng.chance(1, 8) { 2 } else { 1 };
-        let settings = Settings {
-            rule,
-            wait: [1, 2, 3, 3, 5][rng.below(5)],
-        };
-        let group = Group::start_with(settings, &numbers, first, records);
-        (group, schedule)
+        (Group::start(rule, &numbers, first, records), schedule)
     }
 
     /// The next event, and the place of the member that it comes to. One that
@@ -113,8 +108,8 @@ impl Schedule {
     fn choose(&mut self, rng: &mut Rng, group: &Group) -> (usize, Event) {
         let record = rng.below(group.members[0].table.len());
         let anyone = rng.below(group.members.len());
-        // Deliveries come from 54 on, once there are messages.
-        let kinds = if group.posts.is_empty() { 54 } else { 122 };
+        // Deliveries come from 44 on, once there are messages.
+        let kinds = if group.posts.is_empty() { 44 } else { 112 };
         match rng.below(kinds) {
             0..2 => {
                 // Sometimes a stray record.
@@ -160,10 +155,6 @@ impl Schedule {
                 (at, Event::Ask { record })
             }
             39..44 => some_commit(rng, group, record),
-            44..54 => {
-                let at = some_member(rng, group, |m| m.table[record].state != State::Valid);
-                (at, Event::Tick { record })
-            }
             _ => self.delivery(rng, group),
         }
     }

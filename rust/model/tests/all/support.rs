@@ -58,14 +58,6 @@ pub fn winner(rule: Rule, numbers: &[u8]) -> u8 {
     *won.expect("a number")
 }
 
-/// The wait of the tests' groups, unless they say another (02, Wish 7).
-pub const WAIT: u8 = 3;
-
-/// What is fixed at the start of a group with this rule of ties.
-pub const fn settings_by(rule: Rule) -> Settings {
-    Settings { rule, wait: WAIT }
-}
-
 /// The other rule of ties.
 pub fn other(rule: Rule) -> Rule {
     match rule {
@@ -86,16 +78,9 @@ impl Member {
     /// Started fresh, in memory that was not clean before, in a group with this
     /// rule of ties.
     pub fn start(rule: Rule, number: u8, view: u16, count: usize) -> Member {
-        Member::start_with(settings_by(rule), number, view, count)
-    }
-
-    /// The same with these settings.
-    pub fn start_with(settings: Settings, number: u8, view: u16, count: usize) -> Member {
-        let mut fresh = Record::fresh(9);
-        fresh.waited = 7;
-        let mut table = vec![fresh; count];
+        let mut table = vec![Record::fresh(9); count];
         let mut store = vec![0xee; Record::VALUE_LIMIT * count];
-        let answer = Replica::start(number, view, settings, &mut table, &mut store);
+        let answer = Replica::start(number, view, Settings { rule }, &mut table, &mut store);
         let replica = answer.expect("accepted");
         Member {
             replica,
@@ -113,15 +98,6 @@ impl Member {
     /// The same with this rule of ties.
     pub fn ringing_by(rule: Rule) -> Member {
         Member::start(rule, 2, set(&[1, 2, 5]), 1)
-    }
-
-    /// The same with the old rule of ties and this wait (02, Wish 7).
-    pub fn ringing_with(wait: u8) -> Member {
-        let settings = Settings {
-            rule: Rule::Higher,
-            wait,
-        };
-        Member::start_with(settings, 2, set(&[1, 2, 5]), 1)
     }
 
     pub fn rule(&self) -> Rule {
@@ -175,10 +151,6 @@ impl Member {
 
     pub fn resend(&self, record: usize) -> Answer {
         self.replica.resend(&self.table, &self.store, record)
-    }
-
-    pub fn tick(&mut self, record: usize) -> Answer {
-        self.replica.tick(&mut self.table, &self.store, record)
     }
 
     pub fn view(&mut self, epoch: u32, view: u16) -> Answer {

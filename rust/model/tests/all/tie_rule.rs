@@ -1,14 +1,13 @@
 //! Ties go to the lower number (02, Wish 6): two rules, fixed at a group's start.
 
-use model::engine::{number, Record, Refusal, Replica, Rule, Sizes, State, Timestamp};
+use model::engine::{number, Record, Refusal, Replica, Rule, Settings, Sizes, State, Timestamp};
 use model::packet::{self, Entry};
 use model::player::play;
 use model::rng::Rng;
 
 use crate::group::{Event, Group};
 use crate::support::{
-    ack, from, in_one_pass, inv, messages_of, other, packet_of, rng, set, settings_by, ts, val,
-    winner, Member,
+    ack, from, in_one_pass, inv, messages_of, other, packet_of, rng, set, ts, val, winner, Member,
 };
 
 // The order of stamps.
@@ -101,7 +100,6 @@ fn an_inv_at(rule: Rule, state: State, held: (u32, u8), new: (u32, u8)) {
         last_write: ts(1, 2),
         acks: set(&[1]),
         len: 1,
-        waited: 0,
     };
     let mut expected = member.clone();
     let won = match rule {
@@ -170,11 +168,10 @@ fn the_lowest_number_at_a_fresh_start() {
                 last_write: ts(0, lowest),
                 acks: 0,
                 len: 0,
-                waited: 0,
             };
             assert_eq!(member.table, [fresh; 3]);
             assert_eq!(member.store, [0; 3 * 192]);
-            let settings = settings_by(rule);
+            let settings = Settings { rule };
             let started = Replica {
                 number: 2,
                 epoch: 0,
@@ -200,7 +197,7 @@ fn a_view_keeps_the_rule() {
         assert_eq!(member.rule(), rule);
         assert_eq!(member.view(1, set(&[1, 2, 5])), Ok(None));
         assert_eq!(member.view(7, set(&[2, 5])), Ok(None));
-        assert_eq!(member.replica.settings, settings_by(rule));
+        assert_eq!(member.replica.settings, Settings { rule });
         // It counts after the view too.
         assert_eq!(member.write(0, b"own"), Ok(Some(inv(1, 2))));
         let mut envelope = from(5, inv(1, 5));

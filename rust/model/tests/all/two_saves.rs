@@ -43,7 +43,6 @@ const REPLAYED: Record = Record {
     last_write: ts(1, 5),
     acks: 0,
     len: 6,
-    waited: 0,
 };
 
 /// A message of epoch 1.
@@ -185,7 +184,6 @@ fn a_greater_inv_at_the_replay() {
             last_write: ts(1, 5),
             acks: set(&[1]),
             len: 3,
-            waited: 0,
         };
         assert_eq!(member.table, [expected]);
         for stamp in [ts(1, 2), ts(1, 5), ts(version, tie)] {
@@ -212,7 +210,6 @@ fn a_greater_inv_before_the_replay() {
         last_write: ts(1, 2),
         acks: set(&[1]),
         len: 3,
-        waited: 0,
     };
     assert_eq!(member.table, [expected]);
     refuses(&mut member, |m| m.replay(0), Refusal::NotReplayable);

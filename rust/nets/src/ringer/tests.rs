@@ -38,7 +38,7 @@ fn nets_with<const N: usize>(rule: Rule, measuring: [Tick; N]) -> (Group, Vec<Hu
         last_save: 0,
         counts: Visits::default(),
     };
-    let huts = (0..N as u8).map(|n| Hut::new(n, &settings)).collect();
+    let huts = (0..N as u8).map(|n| Hut::new(n, rule, None)).collect();
     let group = Group::start(&settings).expect("a group");
     (group, huts, ringers)
 }

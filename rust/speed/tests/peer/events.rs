@@ -23,7 +23,6 @@ pub fn by_peer(case: &Case, memory: &mut Memory) -> Outcome {
         Event::Deliver { message, value } => peer::deliver(me, table, store, i, *message, value),
         Event::Validate => peer::validate(me, table, store, i),
         Event::Resend => peer::resend(me, table, store, i),
-        Event::Tick => peer::tick(me, table, store, i),
     };
     Outcome::of(me, answer)
 }
@@ -38,15 +37,14 @@ fn random_events() {
             assert!(tally.total() >= 1_000_000);
             assert_eq!(tally.stray(), 0);
             assert!(tally.least() >= 100, "some answer is rare:\n{tally}");
-            // 02, Wish 2: some 26,000 accepted at invalid, and at invalid-write, and some
-            // 4,400 refused there, the last writer being in the view.
+            // 02, Wish 2: some 28,000 accepted at invalid, and at invalid-write, and some
+            // 5,000 refused there, the last writer being in the view.
             for [accepted, refused] in tally.replays() {
                 assert!(accepted >= 20_000 && refused >= 3_000, "{tally}");
             }
-            // 02, Wishes 5 to 7: as in compare's own test.
+            // 02, Wishes 5 and 6: as in compare's own test.
             tally.opened_often();
             tally.tied_often();
-            tally.ticked_often();
         }
         Err(found) => panic!("{settings}\n{found}"),
     }
@@ -159,60 +157,6 @@ fn a_peer_with_another_rule_is_found() {
     let found = compare(&Settings::USUAL, resets).expect_err("a difference");
     println!("{found}");
     assert_eq!(found.shrunk.me.settings.rule, 2);
-}
-
-/// 02, Wish 7: a peer that acts a tick too late, one that asks for the last writer, and
-/// one that takes a wait of 0, are found.
-#[test]
-fn a_peer_with_another_wait_is_found() {
-    fn with(case: &Case, memory: &mut Memory, wait: u8) -> Outcome {
-        let mut other = case.clone();
-        other.me.settings.wait = wait;
-        let mut outcome = by_peer(&other, memory);
-        outcome.me.settings.wait = case.me.settings.wait;
-        outcome
-    }
-    fn late(case: &Case, memory: &mut Memory) -> Outcome {
-        let wait = case.me.settings.wait;
-        match case.event {
-            Event::Tick if wait > 0 => with(case, memory, wait.saturating_add(1)),
-            _ => by_peer(case, memory),
-        }
-    }
-    let shrunk = compare(&Settings::USUAL, late)
-        .expect_err("a difference")
-        .shrunk;
-    assert_eq!(shrunk.event, Event::Tick);
-
-    fn asks(case: &Case, memory: &mut Memory) -> Outcome {
-        let before = memory.clone();
-        let outcome = by_peer(case, memory);
-        let replayed = matches!(case.record.state, 1 | 2) && outcome.sent.0 == 1;
-        let present = case.me.view.checked_shr(case.record.writer.into());
-        if case.event == Event::Tick && replayed && present.is_some_and(|view| view & 1 == 1) {
-            memory.clone_from(&before);
-            let (number, sent) = (16, (0, 0, 0));
-            return Outcome {
-                number,
-                sent,
-                ..outcome
-            };
-        }
-        outcome
-    }
-    let shrunk = compare(&Settings::USUAL, asks)
-        .expect_err("a difference")
-        .shrunk;
-    assert_eq!((shrunk.event, shrunk.record.state), (Event::Tick, 1));
-
-    fn takes_0(case: &Case, memory: &mut Memory) -> Outcome {
-        match case.me.settings.wait {
-            0 => with(case, memory, 1),
-            _ => by_peer(case, memory),
-        }
-    }
-    let found = compare(&Settings::USUAL, takes_0).expect_err("a difference");
-    assert_eq!(found.shrunk.me.settings.wait, 0);
 }
 
 /// A wrong peer is found.

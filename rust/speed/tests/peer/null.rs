@@ -5,8 +5,8 @@ use std::ptr::{null, null_mut};
 use cetskobi::sys::{Accepted, Answer, Message, Replica, Settings};
 use speed::pointers::{engine, peer, GONE};
 
-/// Of a group with the new rule of ties (02, Wish 6) and a wait (Wish 7).
-const GROUP: Settings = Settings { rule: 2, wait: 1 };
+/// Of a group with the new rule of ties (02, Wish 6).
+const GROUP: Settings = Settings { rule: 2 };
 
 const ME: Replica = Replica {
     number: 0,
@@ -47,8 +47,7 @@ fn no_memory() {
     let packet = [2, 1, 0, 20, 1, 1, 0, 0, 0, 0, 0, 0, 0, 0, 0, 1, 1, 0, 20, 0];
     same! {
         start(0, 3, GROUP, t, 0, s, 0);
-        start(0, 3, Settings { rule: 0, wait: 0 }, t, 0, s, 0);
-        start(0, 3, Settings { rule: 0, wait: 255 }, t, 0, s, 0);
+        start(0, 3, Settings { rule: 0 }, t, 0, s, 0);
         read(ME, t, 0, s, 0, 0);
         write(ME, t, 0, s, 0, 0, null(), 0);
         ask(ME, t, 0, s, 0, 0);
@@ -56,7 +55,6 @@ fn no_memory() {
         replay(ME, t, 0, s, 0, 0);
         validate(ME, t, 0, s, 0, 0);
         resend(ME, t, 0, s, 0, 0);
-        tick(ME, t, 0, s, 0, 0);
         deliver(ME, t, 0, s, 0, 0, INV, null(), 0);
         deliver_packet(ME, t, 0, s, 0, packet.as_ptr(), 20, 0);
         deliver_packet(ME, t, 0, s, 0, null(), 0, 0);

@@ -102,17 +102,11 @@ add-decoded-4 c = search rules
 shared-slice-read-decoded-5 : tie.Need-shared-slice-read-decoded-5
 shared-slice-read-decoded-5 c = search rules
 
-add-decoded-5 : tie.Need-overflow-add-decoded-5
-add-decoded-5 c = search rules
-
-shared-slice-read-decoded-6 : tie.Need-shared-slice-read-decoded-6
-shared-slice-read-decoded-6 c = search rules
-
 decoded-requires : tie.Need-decoded-requires
 decoded-requires c κs = search rules
 
 returns : tie.Need-returns
-returns c = rw (c.decoded.ensures, c.before.before.before.before.before.before.before.two.ensures, c.before.before.before.before.before.before.before.before.before.before.four2.ensures, c.before.before.before.before.before.before.before.before.before.before.before.before.before.before.before.four.ensures)
+returns c = rw (c.decoded.ensures, c.before.before.before.before.before.before.two.ensures, c.before.before.before.before.before.before.before.before.before.four2.ensures, c.before.before.before.before.before.before.before.before.before.before.before.before.before.before.four.ensures)
 
 pub record-in-spec : {M : Type 1} → statement M
 record-in-spec =
@@ -151,7 +145,5 @@ record-in-spec =
     shared-slice-read-decoded-4
     add-decoded-4
     shared-slice-read-decoded-5
-    add-decoded-5
-    shared-slice-read-decoded-6
     decoded-requires
     returns)

@@ -2,7 +2,7 @@
 use Prim.Native.Nat.{◌*◌}
 use mathlib.Core.Path.{◌∙◌}
 use native.Mathlib.Omega.{arith}
-use lib.ListN.{set, length-set}
+use lib.ListN.{length-set}
 use Rattle.hermes_record.specs.Record.{code}
 use Rattle.export_storing.proofs.Stores.{stores}
 use borrow.Author.Rules.{rules}
@@ -60,20 +60,14 @@ add-bytes-4 c = search rules
 slice-write-bytes-5 : tie.Need-slice-write-bytes-5
 slice-write-bytes-5 c = omega (arith, simp length-set at c.before.before.before.before.before.before.before.before.before.before.put_four.auto.0, c.before.before.before.before.before.before.put-four2.auto.0, c.before.before.put_two.auto.0)
 
-add-bytes-5 : tie.Need-overflow-add-bytes-5
-add-bytes-5 c = search rules
-
-slice-write-bytes-6 : tie.Need-slice-write-bytes-6
-slice-write-bytes-6 c = simp length-set (omega (arith, simp length-set at c.before.before.before.before.before.before.before.before.before.before.put_four.auto.0, c.before.before.before.before.before.before.put-four2.auto.0, c.before.before.put_two.auto.0))
-
 same_length : tie.Need-same-length
-same_length c = length-set (set c.before.before.put_two.new.0 _ _) _ _ ∙ length-set c.before.before.put_two.new.0 _ _ ∙ c.before.before.put_two.auto.0 ∙ c.before.before.before.before.before.before.put-four2.auto.0 ∙ simp length-set at c.before.before.before.before.before.before.before.before.before.before.put_four.auto.0
+same_length c = length-set c.before.before.put_two.new.0 _ _ ∙ c.before.before.put_two.auto.0 ∙ c.before.before.before.before.before.before.put-four2.auto.0 ∙ simp length-set at c.before.before.before.before.before.before.before.before.before.before.put_four.auto.0
 
 returns : tie.Need-returns
 returns c =
     let a = c.before.before.before.before.before.before.before.before.before.before.before.before.before.before.args in let r = a.r in
     rw (c.before.before.put_two.ensures, c.before.before.before.before.before.before.put-four2.ensures, c.before.before.before.before.before.before.before.before.before.before.put_four.ensures, c.before.before.before.before.before.before.before.before.before.before.before.before.code_of_lem.ensures)
-    (stores a.bytes.now (16 * a.i) (code r.state) r.timestamp.tie r.writer r.written.tie r.timestamp.version r.written.version r.acks r.len r.waited)
+    (stores a.bytes.now (16 * a.i) (code r.state) r.timestamp.tie r.writer r.written.tie r.timestamp.version r.written.version r.acks r.len)
 
 pub put-record-spec : {M : Type 1} → statement M
 put-record-spec =
@@ -96,7 +90,5 @@ put-record-spec =
     put-two-requires
     add-bytes-4
     slice-write-bytes-5
-    add-bytes-5
-    slice-write-bytes-6
     same_length
     returns)

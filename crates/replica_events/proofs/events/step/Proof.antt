@@ -57,12 +57,6 @@ enum-told-6 c = search rules
 resend-requires : tie.Need-resend-requires
 resend-requires c κs = search rules
 
-enum-told-7 : tie.Need-enum-told-7
-enum-told-7 c = search rules
-
-tick-requires : tie.Need-tick-requires
-tick-requires c κs = search rules
-
 returns : tie.Need-returns
 returns c = let v = c.before.before.before.before.before.args in rw (c.before.enum_told.given.1, quiet ties v.me v.count v.i v.r v.store.now event.Read v.value.now tt) (c.read-event.ensures, refl)
 
@@ -96,9 +90,6 @@ returns-7 c = let v = c.before.before.before.before.before.args in rw (c.before.
 returns-8 : tie.Need-returns-8
 returns-8 c = let v = c.before.before.before.before.before.args in rw (c.before.enum-told6.given.1, quiet ties v.me v.count v.i v.r v.store.now event.Resend v.value.now tt) (c.resend.ensures, refl)
 
-returns-9 : tie.Need-returns-9
-returns-9 c = let v = c.before.before.before.before.before.args in rw (c.before.enum-told7.given.1, quiet ties v.me v.count v.i v.r v.store.now event.Tick v.value.now tt) (c.tick.ensures, refl)
-
 pub step_spec : {M : Type 1} → statement M
 step_spec =
     tie.close
@@ -119,8 +110,6 @@ step_spec =
     validate-requires
     enum-told-6
     resend-requires
-    enum-told-7
-    tick-requires
     returns
     returns-2
     same_length
@@ -131,5 +120,4 @@ step_spec =
     same-length-3
     returns-6
     returns-7
-    returns-8
-    returns-9)
+    returns-8)
