@@ -17,7 +17,7 @@ use Rattle.hermes.specs.declared.event.Admission.TheVariants as admission
 use Rattle.hermes.specs.declared.event.Replica.{Replica}
 use Rattle.hermes.specs.declared.event.Settings.{Settings}
 use Rattle.hermes.specs.declared.event.Event.{Event}
-use Rattle.hermes.specs.declared.event.Event.TheVariants.{Read, Ask, Write, Commit, Replay, Deliver, Validate, Resend}
+use Rattle.hermes.specs.declared.event.Event.TheVariants.{Read, Write, Commit, Replay, Deliver, Validate, Resend}
 use Rattle.hermes.specs.declared.message.Outgoing.{Outgoing}
 use Rattle.hermes.specs.declared.message.Outgoing.TheVariants.{None, Sent}
 use Rattle.hermes.specs.declared.message.Message.{Message}
@@ -447,6 +447,14 @@ module _ (n : Node) (i : ℕ) (t : Timestamp) where
     call-last : (issued : ℕ → ℕ) (c : Call) (f : Fair issued log n.me.settings.rule c) → Delivers c → sent_by (outcome c n).answer ≡ send n.me i (Val t)
         → LastAck log n i (action issued log n.me.settings.rule c f)
     unfolding action receipt
+    call-last issued (read _) f d e = absurd d
+    call-last issued (ask _) f d e = absurd d
+    call-last issued (write _ _) f d e = absurd d
+    call-last issued (commit _ _ _ _) f d e = absurd d
+    call-last issued (replay _) f d e = absurd d
+    call-last issued (validate _) f d e = absurd d
+    call-last issued (resend _) f d e = absurd d
+    call-last issued (view _ _) f d e = absurd d
     call-last issued (deliver j m v) (inl f) d e = sent-last f.message f.earlier (outcome (deliver j m v) n) (rw (f.index, f.same, f.bytes)) e
     call-last issued (deliver j m v) (inr f) d e = let (k, q) = unknown-refused n j m v f in absurd (silent k (ap (λ (z : Outcome). sent_by z.answer) (sym q) ∙ e))
     call-last issued (deliver_packet p j) (inl f) d e = sent-last f.message f.earlier (receipt ties n p j) (carried n.me.settings.rule log n p j f) e

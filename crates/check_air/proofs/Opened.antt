@@ -4,7 +4,7 @@ use mathlib.Core.Path.{◌≡◌, refl, sym, ap, subst, ◌∙◌}
 use mathlib.Core.Bool.{Bool, true}
 use mathlib.Core.List.{List, [], ◌∷◌, ◌++◌}
 use Rattle.hermes_record.specs.declared.timestamp.Timestamp.{Timestamp}
-use Rattle.hermes.specs.declared.event.Event.TheVariants.{Read, Ask, Commit}
+use Rattle.hermes.specs.declared.event.Event.TheVariants.{Commit}
 use Rattle.hermes.specs.declared.event.Settings.{Settings}
 use Rattle.hermes_record.specs.Order.{ties, later, NotAfter}
 use Rattle.hermes.specs.Settings.{under}
@@ -13,7 +13,7 @@ use Rattle.hermes.specs.Node as hermes
 use Rattle.hermes.specs.Node.{Node, apply, asked, record_of}
 use Rattle.hermes.specs.Run as run
 use Rattle.hermes.specs.Run.{Action, Entry, Group, Result, perform, result}
-use Rattle.hermes.specs.Agreement.{Shows, Alike, IsAccepted}
+use Rattle.hermes.specs.Agreement.{IsAccepted}
 use Rattle.hermes.specs.Asking as asking-of
 use Rattle.hermes.specs.Asking.{Still, HandsOut, Apart, Opened}
 use Rattle.hermes.proofs.Agreement.{run-append}
@@ -21,8 +21,8 @@ use Rattle.hermes.proofs.Asking.{asking}
 use Rattle.export_numbers.specs.declared.numbers.CetskobiAnswer.{CetskobiAnswer}
 use Rattle.export_numbers.specs.Crossing.{group_rule}
 use Rattle.check_air.specs.Callers.{Laptop, node, Call, commit, Returns, Hut, Turn, next, after, Follows, AllBegun, laptop}
-use Rattle.check_air.specs.Opened.{Hands, asks, reads, CallsApart, CalledAsking}
-use Rattle.check_air.proofs.Callers.{action, Match, number-out, is_read, is_ask, is-commit, entry, turn-matches, entries, first_entry, are-entries, matches, first_part, second-part, both-parts, group_of, started, match}
+use Rattle.check_air.specs.Opened.{Hands, asks, reads, CalledAsking}
+use Rattle.check_air.proofs.Callers.{Match, number-out, is_read, is_ask, is-commit, entry, turn-matches, entries, first_entry, are-entries, matches, first_part, second-part, both-parts, group_of, started, match}
 
 -- calls cut in two
 after-append : (h : Hut) (before rest : List Turn) → after h (before ++ rest) ≡ after (after h before) rest

@@ -10,7 +10,6 @@ use Rattle.hermes.specs.Node.{newcomer, start, record_of}
 use Rattle.hermes.specs.Agreement.{Sees, Shows, Alike}
 use Rattle.export_records.specs.Layout.{table_of}
 use Rattle.export_numbers.specs.declared.numbers.CetskobiMessage.{CetskobiMessage}
-use Rattle.export_numbers.specs.declared.numbers.CetskobiAsked.{CetskobiAsked}
 use Rattle.export_numbers.specs.Crossing.{identity_of, answering}
 use Rattle.export_membership.specs.Admission.{filled_by}
 use Rattle.export_packets.specs.Calls.{accept_answer, pack_answer, pack_output}

@@ -6,15 +6,16 @@ ghost use Rattle.hermes.specs.Node.{lent, start, apply, leaving};
 
 use crate::telling::text;
 use hermes::{Admission, Answer, Event, Outgoing, Record, Replica, Settings};
+use std::io;
 
-#[derive(Drop)]
+#[derive(Clone, Copy)]
 pub(crate) struct Started {
     pub admission: Admission,
     pub records: [Record; 1],
     pub bytes: [u8; 192],
 }
 
-#[derive(Drop)]
+#[derive(Clone, Copy)]
 pub(crate) struct Turned {
     pub answer: Answer,
     pub records: [Record; 1],
@@ -69,9 +70,14 @@ pub(crate) fn read_number(me: Replica, records: [Record; 1], bytes: [u8; 192]) -
 }
 
 // What is read, told out of the store itself: the part that the engine hands out, while the arrays are lent.
-pub(crate) fn tell(me: Replica, records: [Record; 1], bytes: [u8; 192]) {
+pub(crate) fn tell(
+    rt: &impl Print,
+    me: Replica,
+    records: [Record; 1],
+    bytes: [u8; 192],
+) -> io::Result<()> {
     let part = replica_table::read(me, &records, &bytes, 0);
-    text(part);
+    text(rt, part)
 }
 
 // A message of another laptop, with the bytes that it takes along out of that laptop's arrays.

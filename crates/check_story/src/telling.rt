@@ -1,52 +1,41 @@
 // A line for each event: what happens, whether it is accepted, and what leaves.
 use hermes::{Answer, Message, Outgoing};
+use std::io;
 
-pub(crate) fn words(what: &[u8]) {
-    io::write_all(1, what);
+pub(crate) fn words(rt: &impl Print, what: &[u8]) -> io::Result<()> {
+    rt.write_all(what)
 }
 
-fn sent(out: Outgoing) {
+fn sent(rt: &impl Print, out: Outgoing) -> io::Result<()> {
     match out {
         Outgoing::Sent(message, _) => match message {
-            Message::Inv(_) => {
-                words(b", sends INV\n");
-            }
-            Message::Ack(_) => {
-                words(b", sends ACK\n");
-            }
-            Message::Val(_) => {
-                words(b", sends VAL\n");
-            }
+            Message::Inv(_) => words(rt, b", sends INV\n"),
+            Message::Ack(_) => words(rt, b", sends ACK\n"),
+            Message::Val(_) => words(rt, b", sends VAL\n"),
         },
-        Outgoing::None => {
-            words(b"\n");
-        }
+        Outgoing::None => words(rt, b"\n"),
     }
 }
 
 // The end of a line: the answer, by its number.
-pub(crate) fn answer(a: Answer) {
+pub(crate) fn answer(rt: &impl Print, a: Answer) -> io::Result<()> {
     match a {
         Answer::Accepted(out) => {
-            words(b": accepted");
-            sent(out);
+            words(rt, b": accepted")?;
+            sent(rt, out)
         }
-        Answer::Refused(k) => {
-            words(b": refused by question ");
-            io::print_decimal(1, k as u64);
-            words(b"\n");
-        }
+        Answer::Refused(k) => println!(rt; ": refused by question {k}"),
     }
 }
 
-pub(crate) fn line(what: &[u8], a: Answer) {
-    words(what);
-    answer(a);
+pub(crate) fn line(rt: &impl Print, what: &[u8], a: Answer) -> io::Result<()> {
+    words(rt, what)?;
+    answer(rt, a)
 }
 
 // A value, between quotes.
-pub(crate) fn text(value: &[u8]) {
-    words(b"\"");
-    words(value);
-    words(b"\"");
+pub(crate) fn text(rt: &impl Print, value: &[u8]) -> io::Result<()> {
+    words(rt, b"\"")?;
+    words(rt, value)?;
+    words(rt, b"\"")
 }

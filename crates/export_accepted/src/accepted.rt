@@ -11,7 +11,7 @@ use packet_format::Taken;
 
 // The answer to the delivery of a packet's message; and which message it was, also where its delivery was refused.
 #[repr(C)]
-#[derive(Drop)]
+#[derive(Clone, Copy)]
 pub struct CetskobiArrival {
     pub answer: CetskobiAnswer,
     pub epoch: u32,

@@ -12,6 +12,7 @@ use hermes::{Moved, Record, Replica};
 use replica_asking::Asked;
 
 // Questions 1 to 4 for a table of so many bytes: two calls, so that the count is one value in each, and no choice of two.
+#[inline(always)]
 fn beforehand(me: Replica, len: usize, bytes: usize, i: usize, r: Record) -> Asked
     ensures { result ≡ asked (beforehand me (count_of len) bytes i) r }
 {
@@ -24,6 +25,7 @@ fn beforehand(me: Replica, len: usize, bytes: usize, i: usize, r: Record) -> Ask
 
 // The beginning of an event on record i, with so many bytes of store: questions 1 to 4, and only then the record out of its bytes: with the
 // record first there are two ways to each of these questions, and every call saves registers for the second.
+#[inline(always)]
 pub fn begin(me: Replica, table: &[u8], bytes: usize, i: usize) -> Asked
     ensures { result ≡ beginning me table.now bytes i }
 {

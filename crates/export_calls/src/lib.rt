@@ -1,4 +1,6 @@
 // What every exported event on a record begins and ends with.
+#![tactic(auto)]
+
 mod calls;
 
 pub use calls::{begin, finish, refused};

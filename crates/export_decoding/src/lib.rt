@@ -1,4 +1,6 @@
 // One record out of its bytes: their numbers, and what they stand for.
+#![tactic(auto)]
+
 ghost use Rattle.std.specs.Prelude.{◌≡◌};
 ghost use Rattle.export_decoding.specs.Decoding.{two, four, state_of, unsound, decode};
 
@@ -52,6 +54,7 @@ pub fn four(a: u8, b: u8, c: u8, d: u8) -> u32
 }
 
 // The numbers of a record.
+#[tactic(auto, unfolding(crate::specs::Decoding::decode))]
 pub fn decoded(
     state: u8,
     tie: u8,

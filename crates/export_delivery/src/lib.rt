@@ -1,4 +1,6 @@
 // Delivery for C and Rust.
+#![tactic(auto)]
+
 mod delivery;
 
 pub use delivery::cetskobi_deliver;

@@ -1,4 +1,6 @@
 // Write, commit, replay, validate and resend for C and Rust.
+#![tactic(auto)]
+
 mod events;
 
 pub use events::{

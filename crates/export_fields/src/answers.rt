@@ -6,7 +6,7 @@ use packet_format::{Accepted, Fetched, Taken, Written};
 
 // The answer to a fetch: 0 or the number of the question that said no; and the message, whose body is the len bytes of the packet from at on.
 #[repr(C)]
-#[derive(Drop)]
+#[derive(Clone, Copy)]
 pub struct CetskobiFetched {
     pub number: u8,
     pub kind: u8,
@@ -21,7 +21,7 @@ pub struct CetskobiFetched {
 
 // What is known of a packet that was looked at as a whole: 0 and how many messages it has, or the number of the question that said no and 0.
 #[repr(C)]
-#[derive(Drop)]
+#[derive(Clone, Copy)]
 pub struct CetskobiAccepted {
     pub number: u8,
     pub count: u8,
@@ -29,7 +29,7 @@ pub struct CetskobiAccepted {
 
 // The answer to a write: 0 or the number of the question that said no, and how many bytes were written.
 #[repr(C)]
-#[derive(Drop)]
+#[derive(Clone, Copy)]
 pub struct CetskobiWritten {
     pub number: u8,
     pub len: usize,

@@ -1,4 +1,6 @@
 // Fresh start and view, for C and Rust.
+#![tactic(auto)]
+
 mod admission;
 
 pub use admission::{cetskobi_start, cetskobi_view};

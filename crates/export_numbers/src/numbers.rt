@@ -6,14 +6,14 @@ use hermes::{Admission, Answer, Message, Outgoing, Received, Replica, Rule, Sett
 
 // What is fixed at a group's start. The rule of ties is one of hermes's numbers; any other is taken for the old rule.
 #[repr(C)]
-#[derive(Drop)]
+#[derive(Clone, Copy)]
 pub struct CetskobiSettings {
     pub rule: u8,
 }
 
 // The identity of a replica.
 #[repr(C)]
-#[derive(Drop)]
+#[derive(Clone, Copy)]
 pub struct CetskobiReplica {
     pub number: u8,
     pub settings: CetskobiSettings,
@@ -23,7 +23,7 @@ pub struct CetskobiReplica {
 
 // An answer: 0 or the number of the question that said no; and the message that leaves, of kind 0 none, 1 INV, 2 ACK, 3 VAL.
 #[repr(C)]
-#[derive(Drop)]
+#[derive(Clone, Copy)]
 pub struct CetskobiAnswer {
     pub number: u8,
     pub kind: u8,
@@ -33,7 +33,7 @@ pub struct CetskobiAnswer {
 
 // A message as it is delivered: of kind 1 INV, 2 ACK, 3 VAL.
 #[repr(C)]
-#[derive(Drop)]
+#[derive(Clone, Copy)]
 pub struct CetskobiMessage {
     pub kind: u8,
     pub sender: u8,
@@ -44,7 +44,7 @@ pub struct CetskobiMessage {
 
 // The answer to a read: 0 or the number of the question that said no, and how many bytes of the store are the value.
 #[repr(C)]
-#[derive(Drop)]
+#[derive(Clone, Copy)]
 pub struct CetskobiReading {
     pub number: u8,
     pub len: usize,
@@ -52,7 +52,7 @@ pub struct CetskobiReading {
 
 // The answer to an ask: 0 or the number of the question that said no, how many bytes of the store are the value, and the record's timestamp.
 #[repr(C)]
-#[derive(Drop)]
+#[derive(Clone, Copy)]
 pub struct CetskobiAsked {
     pub number: u8,
     pub tie: u8,
@@ -62,7 +62,7 @@ pub struct CetskobiAsked {
 
 // The answer to a fresh start and to a view: 0 or the number of the question that said no, and the identity from then on.
 #[repr(C)]
-#[derive(Drop)]
+#[derive(Clone, Copy)]
 pub struct CetskobiAdmission {
     pub replica: CetskobiReplica,
     pub number: u8,

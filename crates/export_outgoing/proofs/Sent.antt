@@ -96,6 +96,9 @@ module _ (bytes store : List ℕ) (i : ℕ) (left : CetskobiAnswer) (inv : left.
         → AlongAt store i (along_of bytes store i left) 18446744073709551615
     not-here same e h = text-gone (test same e ∙ h)
 
+-- what `cetskobi_body` answers beyond the table, and of a text that is there
+pub ruleset body_answers = (past_end, text-here)
+
 -- ---- what left an event
 
 -- the kind in an answer tells who gets what left, and what it takes along out of any memory

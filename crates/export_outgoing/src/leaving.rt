@@ -27,6 +27,7 @@ pub extern "C" fn cetskobi_recipients(me: CetskobiReplica, kind: u8, sender: u8)
 }
 
 // How many bytes at 192 times i the message that left an event on record i takes along; GONE where the record holds that text no longer.
+#[tactic(auto, using(crate::proofs::Sent::body_answers))]
 #[unsafe(no_mangle)]
 pub extern "C" fn cetskobi_body(table: &[u8], store: &[u8], i: usize, left: CetskobiAnswer) -> usize
     ensures { AlongAt store.now i (along_of table.now store.now i left) result }

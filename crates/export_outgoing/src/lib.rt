@@ -1,4 +1,6 @@
 // What leaves an event, for C and Rust.
+#![tactic(auto)]
+
 mod leaving;
 
 pub use export_numbers::{CetskobiAnswer, CetskobiReplica};

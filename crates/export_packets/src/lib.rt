@@ -1,4 +1,6 @@
 // Packets, for C and Rust: message i of one, all of one in one pass, and one made of messages.
+#![tactic(auto)]
+
 mod packets;
 
 pub use export_fields::{CetskobiAccepted, CetskobiFetched, CetskobiWritten};

@@ -1,5 +1,7 @@
 // The playing program on one script, for C and Rust: a member of its own, so that what it calls has one caller in the other members and is
 // inlined there.
+#![tactic(auto)]
+
 ghost use Rattle.std.specs.Prelude.{◌≡◌, length};
 ghost use Rattle.play_game.specs.Play.{played_answer, output_of};
 ghost use Rattle.export_play.specs.Playing.{played_out};
@@ -11,7 +13,7 @@ const BEYOND: u8 = 255;
 
 // The answer to a script: 0, or 255 beyond the player's limits; and how many bytes were printed.
 #[repr(C)]
-#[derive(Drop)]
+#[derive(Clone, Copy)]
 pub struct CetskobiPlayed {
     pub number: u8,
     pub len: usize,

@@ -1,4 +1,6 @@
 // Read and ask for C and Rust.
+#![tactic(auto)]
+
 mod asking;
 mod reading;
 

@@ -27,7 +27,7 @@ pub fn record_at(bytes: &[u8], i: usize) -> Record
 }
 
 // What stands at a number: a record, or none.
-#[derive(Drop)]
+#[derive(Clone, Copy)]
 pub enum Found {
     Here(Record),
     Missing,

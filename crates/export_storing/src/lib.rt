@@ -1,4 +1,6 @@
 // Records put into the bytes of the table: at the end of an event, and at a fresh start.
+#![tactic(auto)]
+
 mod filling;
 mod putting;
 

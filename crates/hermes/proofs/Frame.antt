@@ -1,7 +1,6 @@
 -- An accepted event changes its record and that record's 192 bytes, as its step says, and nothing else; a refused one changes nothing.
 use Prim.Native.Nat.{ℕ, zero, suc}
 use mathlib.Core.Path.{◌≡◌, refl, ap}
-use mathlib.Core.Bool.{Bool}
 use mathlib.Core.List.{List}
 use native.Mathlib.Omega.{arith}
 use Rattle.hermes.specs.declared.event.Event.{Event}

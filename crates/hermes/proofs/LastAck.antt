@@ -18,7 +18,7 @@ use Rattle.hermes.specs.declared.event.Replica.{Replica}
 use Rattle.hermes.specs.declared.event.Settings.{Settings}
 use Rattle.hermes.specs.declared.event.Event.TheVariants.{Deliver}
 use Rattle.hermes_record.specs.Members.{has, size, with}
-use Rattle.hermes_record.specs.Order.{Orders, later}
+use Rattle.hermes_record.specs.Order.{Orders}
 use Rattle.hermes.specs.Settings.{under}
 use Rattle.hermes_record.specs.Record.{one_of, invalidated_state, written_by, replayed, invalidated, acknowledged, validated}
 use Rattle.hermes.specs.Guards.{question1}

@@ -2,7 +2,6 @@
 -- value that leaves lies within its record's 192 bytes.
 use Prim.Native.Nat.{ℕ, zero, suc, ◌≤◌}
 use mathlib.Core.Path.{◌≡◌, refl, sym, ap, ap₂, ◌∙◌}
-use mathlib.Core.Bool.{Bool}
 use mathlib.Core.List.{List, []}
 use native.Mathlib.Omega.{arith}
 use lib.ListN.{length, take}
@@ -13,7 +12,7 @@ use Rattle.hermes.specs.declared.event.Event.{Event}
 use Rattle.hermes.specs.declared.event.Event.TheVariants.{Read, Ask}
 use Rattle.hermes.specs.declared.event.Answer.TheVariants.{Accepted, Refused}
 use Rattle.hermes_record.specs.Order.{Orders, ties}
-use Rattle.hermes.specs.Store.{slot, value_at}
+use Rattle.hermes.specs.Store.{slot}
 use Rattle.hermes.specs.Event.{Step, refusal, step, part_of, read_part, Handed, stamp_handed, ask_stamp, ask_hands, body_of}
 use Rattle.hermes.specs.Node.{Node, Outcome, record_of, value_of, leaving, apply}
 use Rattle.hermes.specs.Frame.{bytes_after, Changed}

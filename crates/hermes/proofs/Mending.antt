@@ -15,7 +15,7 @@ use Rattle.hermes_record.specs.declared.record.State.TheVariants as state
 use Rattle.hermes.specs.declared.message.Message.{Message}
 use Rattle.hermes.specs.declared.message.Message.TheVariants.{Inv, Ack, Val}
 use Rattle.hermes.specs.declared.message.Outgoing.TheVariants.{Sent}
-use Rattle.hermes.specs.declared.event.Event.TheVariants.{Write, Replay, Deliver, Validate, Resend}
+use Rattle.hermes.specs.declared.event.Event.TheVariants.{Replay, Deliver, Validate, Resend}
 use Rattle.hermes_record.specs.Members.{has, count_below, others_in, with}
 use Rattle.hermes_record.specs.Order.{TieOrder, later, same_timestamp}
 use Rattle.hermes_record.specs.Record.{one_of}

@@ -12,7 +12,7 @@ use Rattle.hermes.specs.declared.event.Admission.TheVariants.{Admitted}
 use Rattle.hermes_record.specs.Members.{has, size, lowest, within, others_in, with}
 use Rattle.hermes.specs.declared.event.Settings.{Settings}
 use Rattle.hermes_record.specs.Order.{ties, later, same_timestamp}
-use Rattle.hermes.specs.Settings.{under, old_settings}
+use Rattle.hermes.specs.Settings.{old_settings}
 use Rattle.hermes.specs.Store.{padded, place}
 use Rattle.hermes.specs.Event.{refusal, effect}
 use Rattle.hermes.specs.Node.{newcomer, start, apply, view, viewed}

@@ -22,7 +22,7 @@ use Rattle.hermes.specs.declared.event.Settings.{Settings}
 use Rattle.hermes.specs.declared.event.Admission.TheVariants.{Admitted}
 use Rattle.hermes_record.specs.Members.{has}
 use Rattle.hermes_record.specs.Order.{ties, later, NotAfter, equal, rises}
-use Rattle.hermes.specs.Settings.{under, old_settings}
+use Rattle.hermes.specs.Settings.{old_settings}
 use Rattle.hermes_record.specs.Record.{one_of}
 use Rattle.hermes.specs.Store.{slot}
 use Rattle.hermes.specs.Event.{completes, number_of, sent_by}
@@ -101,6 +101,7 @@ sought (n ∷ rest) k e = go (eqb n.me.number k) e (sought rest k)
 
 -- where numbers differ, each of the list is the one with its number
 standing : (list : List Node) → Different list → (n : Node) → Among n list → at list n.me.number ≡ n
+standing [] d n a = elim a [ ]
 standing (o ∷ rest) d n first = rw (eq-eqb n.me.number n.me.number refl)
 standing (o ∷ rest) d n (further a) = rw (ne_eqb o.me.number n.me.number (λ e. d.0 n a (sym e))) (standing rest d.1 n a)
 
@@ -157,6 +158,7 @@ module _ (m : Mail) (log : List Logged) (n : Node) where
 
   -- what leaves joins it, with the same bytes
   joins : (out : Outgoing) → Leaves m out n → In (logged log n out) m
+  joins None e = elim e [ ]
   joins (Sent (Inv t) h) e = rw e (length log, find-last log _)
   joins (Sent (Ack t) h) e = rw e (length log, find-last log _)
   joins (Sent (Val t) h) e = rw e (length log, find-last log _)
@@ -343,6 +345,13 @@ module _ (issued : ℕ → ℕ) (settings : Settings) (begun : List Node) (p : P
   -- an accepted validation is one of the first reading
   validated : (entries : List run.Entry) (h : Happening) (f : Node) (i : ℕ) → Validates h i f → (q : Past entries (record { found = f; event = h }))
       → number_of (perform h f).answer ≡ 0 → one.Validation ties (after q.before) (entry_of (record { found = f; event = h }) q.number) i
+  validated entries (read _) f i w q z = elim w [ ]
+  validated entries (write _ _) f i w q z = elim w [ ]
+  validated entries (replay _) f i w q z = elim w [ ]
+  validated entries (resend _) f i w q z = elim w [ ]
+  validated entries (change _ _) f i w q z = elim w [ ]
+  validated entries (ask _) f i w q z = elim w [ ]
+  validated entries (commit _ _ _) f i w q z = elim w [ ]
   validated entries (delivery x) f i w q z =
       acknowledges q.number (posted x) w.stamp refl q.brings w.its_record w.ack (rw q.finds (completing x i f w)) (rw q.gives z)
   validated entries (validation j) f i w q z = validates (ap run.validate w) (rw q.gives z)

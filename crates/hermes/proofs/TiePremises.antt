@@ -1,9 +1,7 @@
 -- Two saves at once compute under each rule, and the promises are claimed of them.
 use mathlib.Core.Path.{◌≡◌, refl, subst}
 use mathlib.Core.Bool.{true}
-use mathlib.Core.List.{[], ◌∷◌}
 use native.Mathlib.Omega.{arith}
-use Rattle.hermes.specs.declared.event.Settings.{Settings}
 use Rattle.hermes_record.specs.Members.{has, size, lowest, within, others_in, with}
 use Rattle.hermes_record.specs.Order.{ties, later, same_timestamp}
 use Rattle.hermes.specs.Settings.{under, new_settings}

@@ -1,6 +1,6 @@
 -- Demand 2: each event is accepted exactly when document 01's own questions say yes and the source's guard holds (a replay's as 02, Wish 2 widens it, a commit's as Wish 5 narrows a write's);
 -- accepted, it does the source's action; refused, nothing moves and nothing leaves.
-use Rattle.std.specs.Prelude.{ℕ, ◌<◌, ◌≡◌, Bool, not, ◌&&◌, ◌≢◌, ◌↔◌, List, [], ◌∷◌, eqb, length}
+use Rattle.std.specs.Prelude.{ℕ, ◌<◌, ◌≡◌, not, ◌&&◌, ◌≢◌, ◌↔◌, List, [], ◌∷◌, eqb, length}
 use Rattle.hermes_record.specs.declared.timestamp.Timestamp.{Timestamp}
 use Rattle.hermes_record.specs.declared.record.Record.{Record}
 use Rattle.hermes.specs.declared.message.Message.{Message}

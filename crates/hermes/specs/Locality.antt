@@ -1,7 +1,7 @@
 -- 01: "Two laptops equal in number, epoch, view, count, store length and one record with its 192 store bytes answer an event on that
 -- record alike, however their other records differ." 02, Wish 6: those "that document 01 counts as equal now also share this rule and each group
 -- setting added later".
-use Rattle.std.specs.Prelude.{ℕ, ◌≡◌, Bool, List, length}
+use Rattle.std.specs.Prelude.{ℕ, ◌≡◌, List, length}
 use Rattle.hermes_record.specs.declared.record.Record.{Record}
 use Rattle.hermes.specs.declared.event.Settings.{Settings}
 use Rattle.hermes.specs.declared.event.Event.{Event}

@@ -1,5 +1,5 @@
 -- Who gets what leaves an event: "INV and VAL go to all others in the view", and an ACK leaves "for its sender", that of the INV (01, "Steps").
-use Rattle.std.specs.Prelude.{ℕ, ◌≡◌, Bool, true, ◌↔◌, ◌≢◌, List}
+use Rattle.std.specs.Prelude.{ℕ, ◌≡◌, true, ◌↔◌, ◌≢◌, List}
 use Rattle.hermes_record.specs.declared.timestamp.Timestamp.{Timestamp}
 use Rattle.hermes.specs.declared.message.Message.TheVariants.{Inv, Ack, Val}
 use Rattle.hermes.specs.declared.message.Outgoing.{Outgoing}

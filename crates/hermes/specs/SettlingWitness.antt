@@ -1,6 +1,6 @@
 -- Wish 3, computed: for each way to drive a record a situation of the group of `Played`, the list that the recipe gives there, and the text that all show in
 -- the end.
-use Rattle.std.specs.Prelude.{ℕ, ◌+◌, ◌*◌, ◌≤◌, ◌≡◌, Bool, true, ◌⊎◌, length, take}
+use Rattle.std.specs.Prelude.{ℕ, ◌+◌, ◌*◌, ◌≤◌, ◌≡◌, true, ◌⊎◌, length, take}
 use mathlib.Core.List.{List, [], ◌∷◌, ◌++◌, Memᴰ}
 use Rattle.hermes_record.specs.Members.{has, size}
 use Rattle.hermes_record.specs.Order.{Orders, ties}

@@ -1,6 +1,7 @@
 -- Demand 2: the actions of the Hermes specification (source 000) under their names, guard first and effect after, as its page words them.
 -- Completed as document 01 rules: HRcvInv after 003 and 004, the end of HSendVals after 003; the view for the alive nodes; values; the
 -- epoch and the record's number on messages. What 02's Wishes add stands beside the source's own, and says so. Nothing here uses the steps of `Event`.
+-- Its variables and words have this language's spelling, and the comment beside each has the page's.
 use Rattle.std.specs.Prelude.{ℕ, ◌+◌, ◌≤◌, ◌<◌, ◌≡◌, Bool, true, false, ◌⊎◌, ◌≢◌, ◌↔◌, List, [], ◌∷◌}
 use Rattle.hermes_record.specs.declared.timestamp.Timestamp.{Timestamp}
 use Rattle.hermes_record.specs.declared.record.State.{State}
@@ -20,7 +21,7 @@ pub record Vars : Type 0 where
   pub node_rcvd_acks : ℕ
   pub node_last_writer : ℕ
   pub node_last_write_ts : Timestamp
-  -- what was written under node_ts (01)
+  -- what was written under nodeTS (01)
   pub value : List ℕ
 
 -- what an action sends: a message and the bytes that go with it
@@ -47,7 +48,7 @@ send_ack n i t = record { message = from n i (Ack t); body = [] }
 
 -- ---- the words of the page
 
--- node_state[n] ∈ {..}
+-- nodeState[n] ∈ {..}
 abbrev pub In : State → List State → Type 0
 In s [] = ⊥
 In s (t ∷ ts) = (s ≡ t) ⊎ In s ts
@@ -64,11 +65,11 @@ Empty a = (k : ℕ) → has a k ≡ false
 abbrev pub Added : ℕ → ℕ → ℕ → Type 0
 Added a k b = (m : ℕ) → Member b m ↔ (Member a m ⊎ (m ≡ k))
 
--- IsAlive(k), to node n: k is in its view
+-- isAlive(k), to node n: k is in its view
 abbrev pub IsAlive : Replica → ℕ → Type 0
 IsAlive n k = Member n.view k
 
--- ReceivedAllAcks(n), of the alive nodes (01, question 15)
+-- receivedAllAcks(n), of the alive nodes (01, question 15)
 abbrev pub ReceivedAllAcks : Replica → Vars → Type 0
 ReceivedAllAcks n s = (k : ℕ) → IsAlive n k → k ≢ n.number → Member s.node_rcvd_acks k
 
@@ -77,7 +78,7 @@ pub record Lowest (a k : ℕ) : Type 0 where
   pub member : Member a k
   pub least : (m : ℕ) → Member a m → k ≤ m
 
--- EqualTs and GreaterTs; `wins` is > of tie-breakers
+-- equalTS and greaterTS; `wins` is > of tie-breakers
 abbrev pub EqualTs : Timestamp → Timestamp → Type 0
 EqualTs s t = (s.version ≡ t.version) × (s.tie ≡ t.tie)
 

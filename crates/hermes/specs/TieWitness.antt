@@ -2,7 +2,6 @@
 -- lower number's; and the promises are claimed under each rule, of a list with every kind of entry too. `Morning` of check_air has every kind of call, accepted
 -- and refused, with its numbers, by the new rule.
 use Rattle.std.specs.Prelude.{ℕ, ◌≡◌, List, [], ◌∷◌}
-use Rattle.hermes_record.specs.declared.timestamp.Timestamp.{Timestamp}
 use Rattle.hermes_record.specs.declared.record.State.TheVariants.{Valid}
 use Rattle.hermes.specs.declared.event.Settings.{Settings}
 use Rattle.hermes_record.specs.Order.{ties}

@@ -3,13 +3,13 @@ use crate::message::{Outgoing, Received};
 use hermes_record::{Record, Rule, Timestamp};
 
 // What is fixed at a group's start, the same for all of its replicas (document 02): the rule of ties.
-#[derive(Drop)]
+#[derive(Clone, Copy)]
 pub struct Settings {
     pub rule: Rule,
 }
 
 // The identity of a replica (document 01's laptop): its number, its epoch, its view, a set of numbers in 16 bits, and its group's settings.
-#[derive(Drop)]
+#[derive(Clone, Copy)]
 pub struct Replica {
     pub number: u8,
     pub epoch: u32,
@@ -19,7 +19,7 @@ pub struct Replica {
 
 // An event on one record. A write, a commit and an invalidation bring a value with them, beside the event; a commit also the
 // timestamp that an ask handed out.
-#[derive(Drop)]
+#[derive(Clone, Copy)]
 pub enum Event {
     Read,
     Ask,
@@ -32,21 +32,21 @@ pub enum Event {
 }
 
 // The answer to an event: accepted, with what leaves; or the number of the question that said no.
-#[derive(Drop)]
+#[derive(Clone, Copy)]
 pub enum Answer {
     Accepted(Outgoing),
     Refused(u8),
 }
 
 // The answer, and the record as the event leaves it.
-#[derive(Drop)]
+#[derive(Clone, Copy)]
 pub struct Moved {
     pub answer: Answer,
     pub after: Record,
 }
 
 // The answer to a fresh start and to a view: the identity from then on, or the number of the question that said no.
-#[derive(Drop)]
+#[derive(Clone, Copy)]
 pub enum Admission {
     Admitted(Replica),
     Refused(u8),

@@ -2,7 +2,7 @@
 use hermes_record::Timestamp;
 
 // An invalidation (INV), an acknowledgement (ACK) or a validation (VAL), each with its timestamp.
-#[derive(Drop)]
+#[derive(Clone, Copy)]
 pub enum Message {
     Inv(Timestamp),
     Ack(Timestamp),
@@ -19,7 +19,7 @@ impl Message {
 }
 
 // Whose message it is, in which epoch it left, and the number of the record that it is about.
-#[derive(Drop)]
+#[derive(Clone, Copy)]
 pub struct Header {
     pub sender: u8,
     pub epoch: u32,
@@ -27,14 +27,14 @@ pub struct Header {
 }
 
 // What leaves an event: nothing, or a message with its header.
-#[derive(Drop)]
+#[derive(Clone, Copy)]
 pub enum Outgoing {
     None,
     Sent(Message, Header),
 }
 
 // A message as it is delivered. The record that it is about is the one that the delivery names.
-#[derive(Drop)]
+#[derive(Clone, Copy)]
 pub struct Received {
     pub sender: u8,
     pub epoch: u32,

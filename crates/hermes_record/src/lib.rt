@@ -1,4 +1,6 @@
 // A record: its type, and its own moves, each by value.
+#![tactic(auto)]
+
 mod members;
 mod record;
 mod timestamp;

@@ -5,7 +5,7 @@ ghost use Rattle.hermes_record.specs.Record.{fresh_record, written_by, replayed,
 use crate::members::with;
 use crate::timestamp::Timestamp;
 
-#[derive(Drop)]
+#[derive(Clone, Copy)]
 pub enum State {
     Valid,
     Invalid,
@@ -16,7 +16,7 @@ pub enum State {
 
 // `writer` is the last writer, `written` the last-write timestamp, `acks` the set of replicas whose acknowledgement has come,
 // `len` the value's length.
-#[derive(Drop)]
+#[derive(Clone, Copy)]
 pub struct Record {
     pub state: State,
     pub timestamp: Timestamp,

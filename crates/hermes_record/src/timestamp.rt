@@ -3,7 +3,7 @@ ghost use Rattle.std.specs.Prelude.{◌≡◌};
 ghost use Rattle.hermes_record.specs.Order.{rule_number, ties, later, same_timestamp};
 
 // The rule of ties: of two timestamps with one version the higher number wins (document 01), or the lower (document 02, Wish 6).
-#[derive(Drop)]
+#[derive(Clone, Copy)]
 pub enum Rule {
     Higher,
     Lower,
@@ -26,7 +26,7 @@ impl Rule {
 }
 
 // Document 01's stamp: a version and a tie-breaker.
-#[derive(Drop)]
+#[derive(Clone, Copy)]
 pub struct Timestamp {
     pub version: u32,
     pub tie: u8,

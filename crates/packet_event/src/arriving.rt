@@ -8,7 +8,7 @@ use hermes::{Answer, Event, Received, Record, Replica};
 use packet_format::{Entry, Fetched};
 
 // What a fetch comes to: an event on the record of this number.
-#[derive(Drop)]
+#[derive(Clone, Copy)]
 pub struct Arriving {
     pub fetched: Fetched,
     pub index: usize,

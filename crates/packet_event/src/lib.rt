@@ -1,4 +1,6 @@
 // A packet's message as an event on the record that it is about.
+#![tactic(auto)]
+
 mod arriving;
 
 pub use arriving::{Arriving, answer_in, event_in};

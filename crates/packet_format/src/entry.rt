@@ -6,7 +6,7 @@ ghost use Rattle.packet_format.specs.Entry.{entry_of, good};
 use hermes::{Header, Message, Record, Timestamp};
 
 // A message in a packet, and the length of its body.
-#[derive(Drop)]
+#[derive(Clone, Copy)]
 pub struct Entry {
     pub header: Header,
     pub message: Message,
@@ -14,7 +14,7 @@ pub struct Entry {
 }
 
 // An entry's fields as numbers, in the order of their bytes.
-#[derive(Drop)]
+#[derive(Clone, Copy)]
 pub struct Fields {
     pub kind: u8,
     pub sender: u8,
@@ -31,6 +31,7 @@ impl Fields {
     pub const INDEX_MAX: usize = 4095;
 
     // Are the fields as question 22 asks, the offset aside? It ends at the first that is not.
+    #[tactic(auto, unfolding(crate::specs::Entry::good))]
     pub fn good(self) -> bool
         ensures { result ≡ good self }
     {

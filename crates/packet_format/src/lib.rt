@@ -1,5 +1,7 @@
 // Packets: the messages of the protocol as bytes. The reader stands in crate `packet_reader`, the writer in `packet_writer`.
 // What a packet is stands in specs/; that writing and reading are inverse in proofs/RoundTrip.antt.
+#![tactic(auto)]
+
 mod answer;
 mod entry;
 mod fields;

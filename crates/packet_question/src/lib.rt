@@ -1,4 +1,6 @@
 // Question 24 of the messages that a packet is to be written of, asked of their words.
+#![tactic(auto)]
+
 mod question;
 
 pub use question::{Asked, ask};

@@ -9,13 +9,14 @@ use packet_format::Fields;
 use packet_words::WORDS;
 
 // Passed with the summed length of the bodies, or refused.
-#[derive(Drop)]
+#[derive(Clone, Copy)]
 pub enum Asked {
     Passed(usize),
     Refused,
 }
 
 // Are the fields that stand at w as question 22 asks, each of them a word?
+#[tactic(auto, unfolding(packet_format::specs::Entry::good))]
 fn good_at(words: &[u32], w: usize) -> bool
     requires { w + 7 ≤ length words.now }
     ensures { result ≡ good (fields_at words.now w 0) }

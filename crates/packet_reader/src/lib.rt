@@ -1,4 +1,6 @@
 // The reader of packets: message i with its body, or the number of the question that said no; and all of a packet in one pass, accepted once.
+#![tactic(auto)]
+
 mod accepting;
 mod entry;
 mod numbers;

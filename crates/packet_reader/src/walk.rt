@@ -8,7 +8,7 @@ use crate::entry::fields_of;
 use packet_format::{ENTRY_BYTES, Fields, HEADER_BYTES};
 
 // Where a walk ended: the number of the entry that comes next, and where its body is to begin.
-#[derive(Drop)]
+#[derive(Clone, Copy)]
 pub(crate) struct Reached {
     pub next: usize,
     pub at: usize,

@@ -1,4 +1,6 @@
 // Delivery from a packet, on the lent table: for a Rattle program that lends a table of records. The exported functions have their own, over bytes.
+#![tactic(auto)]
+
 ghost use Rattle.std.specs.Prelude.{◌≡◌};
 ghost use Rattle.hermes_record.specs.Order.{ties};
 ghost use Rattle.hermes.specs.Node.{lent};

@@ -1,7 +1,19 @@
 // Plays the script on standard input: at most 65,536 bytes of it are read.
-ghost use Rattle.std.specs.Prelude.{◌≡◌, length};
+#![tactic(auto)]
+
+ghost use Rattle.std.specs.Prelude.{◌≡◌, ◌<◌, ◌≤◌, length, take, IfOk};
+ghost use Rattle.std.specs.Io.KnownBytes.{Consumes, IsAtEnd};
 
 use play_game::Played;
+use std::io;
+use std::io::Read;
+
+// Room for the script.
+fn input() -> [u8; 65536]
+    ensures { 65536 ≡ length result }
+{
+    [0; 65536]
+}
 
 // Room for whatever an input of 65,536 bytes can print.
 fn output() -> [u8; 1638402]
@@ -10,15 +22,33 @@ fn output() -> [u8; 1638402]
     [0; 1638402]
 }
 
-fn main() {
-    let mut input = io::large_buffer();
-    let n = io::read_full(0, &mut input);
+// Reads until the buffer is full or the input ends. The answer is how many bytes stand at the buffer's front then.
+fn read_full<R: Read>(reader: &mut R, buf: &mut [u8]) -> io::Result<usize>
+    ensures bound { IfOk result (λ n. n ≤ length buf.new) }
+    ensures bytes { IfOk result (λ n. Consumes (R.remaining reader.old) (R.remaining reader.new) (take n buf.new)) }
+    ensures end { IfOk result (λ n. n < length buf.new → IsAtEnd (R.remaining reader.new)) }
+{
+    let mut done = 0;
+    while done < buf.len() {
+        let n = reader.read(&mut buf[done..])?;
+        if n == 0 {
+            break;
+        }
+        done += n;
+    }
+    Ok(done)
+}
+
+fn main(rt: HostRuntime) -> io::Result<()> {
+    let mut input = input();
+    let n = read_full(&mut rt.stdin(), &mut input)?;
     let mut out = output();
     let played = play_game::play(&input[..n], &mut out);
     let Played::Printed(to) = played else {
-        return;
+        return Ok(());
     };
     if to <= out.len() {
-        io::write_all(1, &out[..to]);
+        return rt.write_all(&out[..to]);
     }
+    Ok(())
 }

@@ -8,11 +8,11 @@ use native.Mathlib.Omega.{arith}
 use lib.Dec.{eqb}
 use lib.ListN.{length, take, drop, length-drop}
 use lib.Seq.{take-length, drop-drop}
-use Rattle.bytes.specs.Bytes.{index_of, index_after, slice}
+use Rattle.play_script.specs.Seek.{index_of, index_after, slice}
 use Rattle.play_script.specs.Text.{lines, lengthen}
 
 lines_step : (r : List ℕ) → 0 < length r → lines r ≡ take (index_of 10 r) r ∷ lines (drop (index_of 10 r + 1) r)
-unfolding lines index_of index_after
+unfolding lines index_of
 lines_step [] h = absurd (not-suc-le-zero h)
 lines_step (b ∷ []) h = one (eqb b 10)
   where

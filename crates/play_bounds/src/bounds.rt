@@ -10,7 +10,7 @@ const LINE_FEED: u8 = b'\n';
 const INPUT_MAX: usize = 65536;
 
 // Where a line ends, and where the next one begins.
-#[derive(Drop)]
+#[derive(Clone, Copy)]
 pub struct Bounds {
     pub end: usize,
     pub next: usize,
@@ -43,7 +43,7 @@ pub fn line_at(input: &[u8], from: usize) -> Bounds
             next: from,
         };
     }
-    let end = bytes::scan::find(input, from, input.len(), LINE_FEED);
+    let end = play_script::find(input, from, input.len(), LINE_FEED);
     Bounds {
         end: end,
         next: end + 1,

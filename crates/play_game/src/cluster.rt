@@ -5,7 +5,7 @@ ghost use Rattle.play_game.specs.Cluster.{fresh_cluster};
 use play_member::Member;
 
 // `count` members are in play; `sent` messages have left. The log of these stands in lent memory.
-#[derive(Drop)]
+#[derive(Clone, Copy)]
 pub struct Cluster {
     pub count: usize,
     pub members: [Member; 4],

@@ -9,7 +9,7 @@ use crate::turn;
 use play_script::Size;
 
 // How many bytes were printed; refused where the input is too long, or the output too short for what an input of its length could print.
-#[derive(Drop)]
+#[derive(Clone, Copy)]
 pub enum Played {
     Printed(usize),
     Refused,

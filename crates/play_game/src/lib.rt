@@ -1,4 +1,6 @@
 // The playing program as a library: what a script prints.
+#![tactic(auto)]
+
 mod cluster;
 mod game;
 mod turn;

@@ -17,7 +17,7 @@ use play_script::Line;
 use play_words::Command;
 
 // The member after a line, how many messages have left, and the index in the output after what it printed.
-#[derive(Drop)]
+#[derive(Clone, Copy)]
 pub struct Done {
     pub member: Member,
     pub sent: usize,

@@ -11,7 +11,7 @@ pub const LINE_MAX: usize = 25;
 const UNKNOWN_LEN: usize = 2;
 
 // The log number of the message that left, if one did. A log has at most 256 messages.
-#[derive(Drop)]
+#[derive(Clone, Copy)]
 pub enum Left {
     Message(u8),
     Nothing,

@@ -7,7 +7,7 @@ ghost use Rattle.play_log.specs.Log.{decode_all, envelope_at, envelope_of, envel
 use hermes::{Header, Message, Record, Timestamp};
 
 // A message that left, and the length of its body. It is about record 0.
-#[derive(Drop)]
+#[derive(Clone, Copy)]
 pub struct Envelope {
     pub sender: u8,
     pub epoch: u32,

@@ -1,4 +1,6 @@
 // One member of the group in play: its start, what an event on it comes to, and what leaves then.
+#![tactic(auto)]
+
 mod answer;
 mod member;
 

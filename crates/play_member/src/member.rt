@@ -9,7 +9,7 @@ ghost use Rattle.play_member.specs.Member.{node_of, fresh_in, result_of};
 use hermes::{Admission, Answer, Event, Outgoing, Record, Replica, Rule, Settings};
 
 // A replica of one record, with its store.
-#[derive(Drop)]
+#[derive(Clone, Copy)]
 pub struct Member {
     pub me: Replica,
     pub held: Record,
@@ -17,7 +17,7 @@ pub struct Member {
 }
 
 // What an entry came to: its answer, and the member after it. Where it is not known, there was no event.
-#[derive(Drop)]
+#[derive(Clone, Copy)]
 pub struct Judged {
     pub known: bool,
     pub answer: Answer,

@@ -1,2 +1,3 @@
 -- Laws of the text of a script.
+pub mod Places
 pub mod Words

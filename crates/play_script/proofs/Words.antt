@@ -9,7 +9,7 @@ use borrow.Author.Tests.{lt-ltb, le-ltb}
 use lib.Dec.{leb}
 use lib.ListN.{length, take, drop, length-drop, drop_of_length-le}
 use lib.Seq.{take_all, take-length}
-use Rattle.bytes.specs.Bytes.{index_of, slice}
+use Rattle.play_script.specs.Seek.{index_of, slice}
 use Rattle.play_numbers.proofs.Numbers.{number-below}
 use Rattle.play_numbers.specs.Number.{word_number, Below}
 use Rattle.play_words.specs.Words.{same, keyword_of}

@@ -1,11 +1,11 @@
 -- The commands of a script (01, "A line is `read`, `validate`, `replay` or `resend` with a laptop, or `write` with laptop and text, or ..").
 use Rattle.std.specs.Prelude.{ℕ, ◌+◌, Bool, cond, ◌&&◌, List, [], ◌∷◌, length, take, drop, ltb, leb}
-use Rattle.bytes.specs.Bytes.{index_of}
 use Rattle.play_numbers.specs.Number.{word_number}
 use Rattle.play_words.specs.Words.{same, keyword_of}
 use Rattle.play_numbers.specs.declared.number.Number.{Number}
 use Rattle.play_numbers.specs.declared.number.Number.TheVariants.{Value, NotANumber}
 use Rattle.play_words.specs.declared.command.Command.TheVariants as command
+use Rattle.play_script.specs.Seek.{index_of}
 use Rattle.play_script.specs.declared.command.Line.{Line}
 use Rattle.play_script.specs.declared.command.Line.TheVariants as line
 use Rattle.play_words.specs.declared.command.Keyword.{Keyword}

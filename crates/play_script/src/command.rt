@@ -7,14 +7,14 @@ use play_numbers::Number;
 use play_words::Command;
 
 // What a line asks for: the number of a laptop, and the command for it.
-#[derive(Drop)]
+#[derive(Clone, Copy)]
 pub enum Line {
     Entry(usize, Command),
     Unknown,
 }
 
 // What stands behind the laptop of a command that takes more.
-#[derive(Drop)]
+#[derive(Clone, Copy)]
 pub enum Operands {
     Given(Command),
     Wrong,

@@ -4,6 +4,7 @@ ghost use Rattle.play_script.specs.Command.{rest_of, operands_of, entry_of, long
 
 use crate::command;
 use crate::command::{Line, Operands};
+use crate::seek::find;
 use play_numbers::Number;
 use play_words::{Command, Keyword};
 
@@ -21,7 +22,7 @@ const VIEW_MAX: u32 = 65535;
 const SIZE_MAX: u32 = 4;
 
 // The number of laptops that line one gives.
-#[derive(Drop)]
+#[derive(Clone, Copy)]
 pub enum Size {
     Of(usize),
     Wrong,
@@ -42,7 +43,7 @@ fn operands(keyword: Keyword, rest: &[u8]) -> Operands
 fn epoch_and_view(rest: &[u8]) -> Operands
     ensures { result ≡ operands_of Keyword.View rest.now }
 {
-    let k = bytes::scan::find(rest, 0, rest.len(), SPACE);
+    let k = find(rest, 0, rest.len(), SPACE);
     if rest.len() <= k {
         return Operands::Wrong;
     }
@@ -67,7 +68,7 @@ fn entry(laptop: Number, operands: Operands) -> Line
 fn longer(keyword: Keyword, rest: &[u8]) -> Line
     ensures { result ≡ longer_of keyword rest.now }
 {
-    let k = bytes::scan::find(rest, 0, rest.len(), SPACE);
+    let k = find(rest, 0, rest.len(), SPACE);
     if rest.len() <= k {
         return Line::Unknown;
     }
@@ -93,7 +94,7 @@ fn arguments(keyword: Keyword, rest: &[u8]) -> Line
 pub fn parse(line: &[u8]) -> Line
     ensures { result ≡ line_of line.now }
 {
-    let k = bytes::scan::find(line, 0, line.len(), SPACE);
+    let k = find(line, 0, line.len(), SPACE);
     if line.len() <= k {
         return Line::Unknown;
     }
@@ -111,7 +112,7 @@ pub fn text(line: &[u8]) -> &[u8]
 fn rest(s: &[u8]) -> &[u8]
     ensures { result.now ≡ rest_of s.now }
 {
-    let k = bytes::scan::find(s, 0, s.len(), SPACE);
+    let k = find(s, 0, s.len(), SPACE);
     if s.len() <= k {
         return &s[k..];
     }
@@ -134,7 +135,7 @@ fn size_in(n: Number) -> Size
 pub fn group_size(line: &[u8]) -> Size
     ensures { result ≡ size_of line.now }
 {
-    let k = bytes::scan::find(line, 0, line.len(), SPACE);
+    let k = find(line, 0, line.len(), SPACE);
     if line.len() <= k {
         return Size::Wrong;
     }

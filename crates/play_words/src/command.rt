@@ -3,7 +3,7 @@ ghost use Rattle.std.specs.Prelude.{◌≡◌};
 ghost use Rattle.play_words.specs.Words.{same, keyword_of};
 
 // What a laptop is to do. A write's text is the rest of its line.
-#[derive(Drop)]
+#[derive(Clone, Copy)]
 pub enum Command {
     Read,
     Write,
@@ -17,7 +17,7 @@ pub enum Command {
 }
 
 // A first word: a command that takes no more than the laptop, or one that takes more.
-#[derive(Drop)]
+#[derive(Clone, Copy)]
 pub enum Keyword {
     Bare(Command),
     Write,

@@ -1,4 +1,5 @@
 // How a question answers: it passes its record on, or refuses with its number. Questions 1 to 5, which every event asks.
+#![tactic(auto)]
 
 ghost use Rattle.std.specs.Prelude.{◌≡◌, [], ◌∷◌};
 ghost use Rattle.hermes.specs.Event.{common};
@@ -9,7 +10,7 @@ ghost use Rattle.replica_asking.specs.Cascade.{asked, beforehand, stopped_by};
 use hermes::{Answer, Moved, Outgoing, Record, Replica, Timestamp};
 
 // What a question answers: the record, passed on, or its own number.
-#[derive(Drop)]
+#[derive(Clone, Copy)]
 pub enum Asked {
     Passed(Record),
     Refused(u8),
@@ -140,6 +141,7 @@ pub fn beforehand(me: Replica, count: usize, bytes: usize, i: usize, r: Record) 
 }
 
 // Questions 1 to 5, of every event.
+#[inline(always)]
 pub fn every(me: Replica, count: usize, bytes: usize, i: usize, r: Record) -> Asked
     ensures { result ≡ asked (common me count bytes i r []) r }
 {

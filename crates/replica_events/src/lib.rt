@@ -1,4 +1,6 @@
 // The engine of one replica: the events on one record by value, with the lent store.
+#![tactic(auto)]
+
 mod events;
 
 pub use events::step;

@@ -1,4 +1,6 @@
 // Questions 6 to 17 and 26, which some events ask. A change of view asks its own, 18 and 19, itself (`replica_membership`).
+#![tactic(auto)]
+
 mod states;
 
 ghost use Rattle.std.specs.Prelude.{◌≡◌, [], ◌∷◌};

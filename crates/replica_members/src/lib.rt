@@ -1,4 +1,6 @@
 // Sets of replica numbers in 16 bits.
+#![tactic(auto)]
+
 ghost use Rattle.std.specs.Prelude.{◌≡◌, leb};
 ghost use Rattle.hermes_record.specs.Members.{has, size, lowest, within, without, others_in};
 

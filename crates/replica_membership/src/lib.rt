@@ -1,4 +1,6 @@
 // Membership: the fresh start of a replica, and its change of view.
+#![tactic(auto)]
+
 ghost use Rattle.std.specs.Prelude.{◌≡◌, cond, leb};
 ghost use Rattle.hermes.specs.declared.event.Admission.TheVariants.{Refused};
 ghost use Rattle.hermes_record.specs.Members.{size};

@@ -1,5 +1,7 @@
 // The questions of a message that comes in, in order: 1 to 5, 10 to 12, and that of its kind. Each kind has a function of its own: one of all
 // these questions with three callers is not inlined, and the record goes through memory.
+#![tactic(auto)]
+
 ghost use Rattle.std.specs.Prelude.{◌≡◌, [], ◌∷◌, ◌++◌};
 ghost use Rattle.hermes.specs.Event.{common};
 ghost use Rattle.hermes.specs.Guards.{question13, question14};
@@ -10,6 +12,7 @@ use hermes::{Received, Record, Replica, Timestamp};
 use replica_asking::Asked;
 
 // Questions 10 to 12, of every message.
+#[inline(always)]
 fn asks_message(me: Replica, r: Record, m: Received, n: usize) -> Asked
     ensures { result ≡ asked (of_message me m n) r }
 {

@@ -1,4 +1,6 @@
 // How an event ends, and the bytes of a value.
+#![tactic(auto)]
+
 mod ends;
 mod value;
 

@@ -1,4 +1,6 @@
 // What leaves an event: the message with its header, the bytes that it takes along, and who gets it. A read hands out the same bytes.
+#![tactic(auto)]
+
 ghost use Rattle.std.specs.Prelude.{◌≡◌};
 ghost use Rattle.hermes.specs.Store.{value_at};
 ghost use Rattle.hermes.specs.Event.{send, leaving_body, sender_of, recipients};

@@ -1,3 +1,1 @@
--- What the proofs share.
-pub mod Looking
-pub mod RecordAt
+-- Nothing of its own: the laws are below.

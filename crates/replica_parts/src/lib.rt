@@ -1,4 +1,6 @@
 // What a lent table and store hand out: a read's number and part, an ask's number and timestamp, and the bytes that an invalidation takes along.
+#![tactic(auto)]
+
 mod asking;
 mod leaving;
 mod reading;

@@ -9,7 +9,7 @@ use hermes::{Answer, Outgoing, Record, Replica, Timestamp};
 use replica_asking::Asked;
 
 // The answer to an ask, and the record's timestamp; (0, 0), which stands for none, where it is refused.
-#[derive(Drop)]
+#[derive(Clone, Copy)]
 pub struct Handed {
     pub answer: Answer,
     pub timestamp: Timestamp,

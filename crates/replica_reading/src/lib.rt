@@ -1,4 +1,6 @@
 // Read and ask.
+#![tactic(auto)]
+
 mod asking;
 mod reading;
 

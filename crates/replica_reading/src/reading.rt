@@ -9,6 +9,7 @@ use hermes::{Answer, Moved, Outgoing, Record, Replica};
 use replica_asking::Asked;
 
 // Questions 1 to 6, which an ask asks too.
+#[inline(always)]
 pub(crate) fn asks(me: Replica, count: usize, bytes: usize, i: usize, r: Record) -> Asked
     ensures { result ≡ asked (common me count bytes i r (own me r Read 0)) r }
 {

@@ -31,6 +31,12 @@ module _ (me : Replica) (i : ℕ) (r : Record) where
   fits-own : (e : Event) → Saves e → (n : ℕ) → AllYes (own me r e n) → n ≤ 192
   fits-own Write s n y = (write-own me r n y).fits
   fits-own (Commit t) s n y = (commit-own me r t n y).fits
+  fits-own Read s n y = absurd s
+  fits-own Ask s n y = absurd s
+  fits-own Replay s n y = absurd s
+  fits-own (Deliver m) s n y = absurd s
+  fits-own Validate s n y = absurd s
+  fits-own Resend s n y = absurd s
 
   -- question 8
   pub saves-fit : (e : Event) → Saves e → (count bytes n : ℕ) → refusal me count bytes i r e n ≡ 0 → n ≤ 192
@@ -40,6 +46,12 @@ module _ (me : Replica) (i : ℕ) (r : Record) where
   saves-step : (e : Event) → Saves e → (v : List ℕ) → step ties me i r e v ≡ write_step me i r v
   saves-step Write s v = refl
   saves-step (Commit t) s v = refl
+  saves-step Read s v = absurd s
+  saves-step Ask s v = absurd s
+  saves-step Replay s v = absurd s
+  saves-step (Deliver m) s v = absurd s
+  saves-step Validate s v = absurd s
+  saves-step Resend s v = absurd s
 
 module _ (me : Replica) (count i : ℕ) (r : Record) (store v : List ℕ) (e : Event) (s : Saves e) where
   abbrev no : ℕ

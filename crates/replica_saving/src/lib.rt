@@ -1,4 +1,6 @@
 // The events that save a value: write, and commit, which brings back the timestamp that an ask handed out.
+#![tactic(auto)]
+
 mod committing;
 mod saving;
 mod writing;

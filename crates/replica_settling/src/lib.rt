@@ -1,4 +1,6 @@
 // Replay, validate and resend, and the acknowledgement that settles a record.
+#![tactic(auto)]
+
 mod settle;
 
 pub use settle::{acknowledge, replay, resend, validate};

@@ -1,3 +1,2 @@
 -- What the proofs share; the laws of walks serve `replica_table` too.
-pub mod Walk
 pub mod Filling

@@ -1,4 +1,6 @@
 // The fresh start of a replica on the lent table and store.
+#![tactic(auto)]
+
 ghost use Rattle.std.specs.Prelude.{◌≡◌, length, replicate};
 ghost use Rattle.hermes.specs.Node.{admit, first_record, start};
 ghost use Rattle.replica_start.specs.Filling.{filled_by, zeroed_by};
@@ -7,7 +9,7 @@ use hermes::{Admission, Record, Settings};
 use replica_membership::{admit, fresh_record};
 
 // What a fresh start comes to: its admission, how many records it fills, and with what.
-#[derive(Drop)]
+#[derive(Clone, Copy)]
 struct Begun {
     admission: Admission,
     filled: usize,

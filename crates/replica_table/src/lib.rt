@@ -1,4 +1,6 @@
 // A replica over the memory that the caller lends: the table of records and the store.
+#![tactic(auto)]
+
 mod events;
 
 pub use events::apply;

@@ -1,4 +1,0 @@
--- What the proofs share.
-pub mod Lending
-pub mod Arrays
-pub mod Reading
