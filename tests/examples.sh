@@ -1,7 +1,8 @@
 #!/bin/sh
 # Plays every script of examples/ and compares what it prints with the stored output; then the inputs at the limits.
-# The program is target/bin/play, or the first argument. Exits non-zero and names what differs.
+# The program is target/bin/play, which tools/player makes, or the first argument. Exits non-zero and names what differs.
 here=$(cd "$(dirname "$0")/.." && pwd)
+[ $# -gt 0 ] || sh "$here/tools/player" || exit 1
 play=${1:-$here/target/bin/play}
 dir=$(mktemp -d) || exit 2
 trap 'rm -rf "$dir"' EXIT

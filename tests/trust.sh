@@ -7,7 +7,7 @@ dir=$(mktemp -d) || exit 2
 trap 'rm -rf "$dir"' EXIT
 
 # DEMAND|WHAT IT SAYS|STATEMENT ..|PROOF ..: statements as CRATE.MODULE.NAME, and for each FILE:NAME of its proof.
-exported=$(grep -lr '^#\[no_mangle\]' crates/export_*/src | sort | tr '\n' ' ')
+exported=$(grep -lr '^#\[unsafe(no_mangle)\]' crates/export_*/src | sort | tr '\n' ' ')
 cat >"$dir/roots" <<END
 1|what every function answers and leaves behind|$exported|
 1|what an event may change, and what it looks at|hermes.Locality.Demand1|crates/hermes/proofs/Locality.antt:confinement
@@ -34,8 +34,8 @@ Wish 6|the same, as C calls the functions|export_packets.OnePass.OtherRule|crate
 END
 
 grep -nE '^(pub )?(struct|enum) ' crates/*/src/*.rt >"$dir/types"
-# the kit's folder is where its guide is; without it its lines are not counted
-guide=$(rt doc 2>/dev/null) && kit=$(cd "$(dirname "$guide")/.." && pwd) || kit=''
+# the kit's text is in the folder rattle/ beside its first page; without it its lines are not counted
+guide=$(rt doc 2>/dev/null) && kit=$(cd "$(dirname "$guide")/rattle" 2>/dev/null && pwd) || kit=''
 [ -d "$kit/logic" ] || kit=''
 
 count() { LC_ALL=C awk -v roots="$dir/roots" -v types="$dir/types" -v kit="$kit" "$@" -f tests/trust/reading.awk -f tests/trust/counting.awk; }

@@ -21,7 +21,7 @@ function reach_list(row, list, n,  i, own) {
     for (i = 1; i <= n; i++) own[i] = list[i]
     for (i = 1; i <= n; i++) reach(row, own[i])
 }
-function root(row, word,  parts, n, list, i, module, file) {
+function root(row, word,  n, list, i, module) {
     if (word ~ /\.rt$/) {
         n = split(exports(word), list, " ")
         for (i = 1; i <= n; i++) reach(row, "def " list[i])
@@ -29,7 +29,8 @@ function root(row, word,  parts, n, list, i, module, file) {
     }
     match(word, /\.[^.]*$/)
     module = substr(word, 1, RSTART - 1)
-    reach(row, in_module(module, substr(word, RSTART + 1)))
+    n = split(in_module(module, substr(word, RSTART + 1)), list, "\n")
+    reach_list(row, list, n)
 }
 # counts of a row, or of all rows together for row 0
 function tally(row,  target, parts, n, i, list, seen, line) {
@@ -50,20 +51,21 @@ function tally(row,  target, parts, n, i, list, seen, line) {
     }
 }
 # each proof of a row is there, and is a proof of the statement
-function proofs(row,  n, i, w, s, parts, from, line, name, found) {
+function proofs(row,  n, i, w, s, parts, from, line, open, found) {
     n = split(proof[row], w, " ")
     if (n == 0) return
     if (n != split(statement[row], s, " ")) { fail("row " row " has not a proof for each statement"); return }
     for (i = 1; i <= n; i++) {
         split(w[i], parts, ":")
-        match(s[i], /\.[^.]*$/)
-        name = substr(s[i], RSTART + 1)
         split(s[i], from, ".")
         found = 0
+        open = ""
         while ((getline line < parts[1]) > 0) {
+            line = bare(line)
+            if (line == "pub " parts[2] " : " from[3]) found += 2
             # the statement's name is the one that specs/ gives that meaning
-            if (line ~ ("^use Rattle·" from[1] "·specs\\.specs\\." from[2] "\\.\\{") && line ~ ("[{ ]" name "[,}]")) found += 1
-            if (line == "pub " parts[2] " : " name) found += 2
+            if (open != "" || line ~ ("^use Rattle\\." from[1] "\\.specs\\." from[2] "\\.\\{")) open = open " " line
+            if (open ~ /}/) { if (open ~ ("[{,] *" from[3] " *[,}]")) found += 1; open = "" }
         }
         close(parts[1])
         if (found != 3) fail(parts[1] " does not prove " s[i] " as " parts[2])

@@ -239,7 +239,7 @@ fn a_record_has_the_fields_of_its_bytes() {
 fn a_message_has_the_fields_of_its_words() {
     let words = specs("packet_words/specs/Words");
     let named = words.lines().filter_map(|line| {
-        let (name, place) = line.trim().split_once(" = getD words ")?;
+        let (name, place) = line.trim().split_once(" = get_or words ")?;
         let place = place.strip_suffix(" 0;")?.trim_start_matches("(at + ");
         let place = place.trim_end_matches(')').replace("at", "0");
         Some((place.parse().expect("a word's place"), name))
