@@ -18,8 +18,8 @@ const PERCENT: u64 = 2;
 /// A full packet in one pass, and how much of the model's instructions it may take.
 const PASS: &str = "fetch-pass";
 const PASS_PERCENT: u64 = 125;
-/// The calls of that pass, and the instructions of each that are no source line's and not the model's: the kit's compiler (`rattle-kit-13f`) makes
-/// an empty slice of a null one at every call that crosses.
+/// The calls of that pass, and the instructions of each that no source line was found to leave out, and that the model has not: the kit's compiler
+/// (`rattle-kit-13f`) makes an empty slice of a null one at every call that crosses. Both are to go once the whole is below the bound.
 const PASS_CALLS: u64 = 65;
 const CROSSING: u64 = 6;
 
