@@ -5,6 +5,7 @@ ghost use Rattle.export_packets.specs.Calls.{fetch_answer, accept_answer, take_a
 
 use export_fields::{CetskobiAccepted, CetskobiFetched, CetskobiWritten};
 use export_numbers::CetskobiSettings;
+use packet_format::Taken;
 
 // Message i of a packet, read in a group with these settings.
 #[unsafe(no_mangle)]
@@ -40,7 +41,15 @@ pub extern "C" fn cetskobi_fetch_accepted(
     ensures { result ≡ take_answer packet.now accepted i }
 {
     let facts = export_fields::accepted_in(accepted);
-    export_fields::taken_out(packet_reader::take(packet, facts, i))
+    // A return in each case: the compiler then writes the numbers straight into the answer. Of two cases joined it carries all nine in registers first.
+    match packet_reader::take(packet, facts, i) {
+        Taken::Entry(f) => {
+            return export_fields::taken_out(Taken::Entry(f));
+        }
+        Taken::Refused(k) => {
+            return export_fields::taken_out(Taken::Refused(k));
+        }
+    }
 }
 
 // A packet of messages, seven words for each, whose bodies stand end to end, in a group with these settings.

@@ -18,10 +18,6 @@ const PERCENT: u64 = 2;
 /// A full packet in one pass, and how much of the model's instructions it may take.
 const PASS: &str = "fetch-pass";
 const PASS_PERCENT: u64 = 125;
-/// The calls of that pass, and the instructions of each that no source line was found to leave out, and that the model has not: the kit's compiler
-/// (`rattle-kit-13f`) makes an empty slice of a null one at every call that crosses. Both are to go once the whole is below the bound.
-const PASS_CALLS: u64 = 65;
-const CROSSING: u64 = 6;
 
 /// Times of every case.
 #[derive(Default)]
@@ -161,10 +157,9 @@ fn messages() -> Result<Vec<&'static str>, String> {
 fn pass() -> Result<Vec<&'static str>, String> {
     let engine = count(PASS, Which::Engine, FEW)?;
     let model = count(PASS, Which::Model, FEW)?;
-    let inside = engine - PASS_CALLS * CROSSING;
-    let [_, ratio] = beside(inside, model);
-    println!("{PASS}: {engine} instructions, {inside} inside its calls, {model} in the model: {ratio}");
-    Ok(exceeds(inside, model).then_some(PASS).into_iter().collect())
+    let [_, ratio] = beside(engine, model);
+    println!("{PASS}: {engine} instructions, {model} in the model: {ratio}");
+    Ok(exceeds(engine, model).then_some(PASS).into_iter().collect())
 }
 
 fn grows(few: u64, many: u64) -> bool {
