@@ -19,7 +19,7 @@
  *
  * Threads and stack. No function keeps anything between calls, and none allocates. One laptop's table and store take one call at a time;
  * calls on different memory may run at once. A call needs at most CETSKOBI_STACK bytes of stack, cetskobi_play CETSKOBI_PLAY_STACK;
- * measured are some 250 bytes and some 60 KiB, and 3 KiB more where the loader looks for memset or memcpy at the first call (tests/c/stack.c).
+ * measured are some 270 bytes and some 58 KiB, and 3 KiB more where the loader looks for memset or memcpy at the first call (tests/c/stack.c).
  *
  * Versions. A version is major.minor.patch. Within one major version what is here stays: names, numbers, layouts, signatures, and what is
  * accepted and refused. A minor version may add functions, refusals (28 to 37 are announced), kinds and states: have a default for numbers

@@ -1,7 +1,7 @@
 -- Demand 2: the actions of the Hermes specification (source 000) under their names, guard first and effect after, as its page words them.
 -- Completed as document 01 rules: HRcvInv after 003 and 004, the end of HSendVals after 003; the view for the alive nodes; values; the
 -- epoch and the record's number on messages. What 02's Wishes add stands beside the source's own, and says so. Nothing here uses the steps of `Event`.
--- Its variables and words have this language's spelling, and the comment beside each has the page's.
+-- Its variables and words have this language's spelling: epochID is `epoch_id`. The page's stand in comments beside them.
 use Rattle.std.specs.Prelude.{ℕ, ◌+◌, ◌≤◌, ◌<◌, ◌≡◌, Bool, true, false, ◌⊎◌, ◌≢◌, ◌↔◌, List, [], ◌∷◌}
 use Rattle.hermes_record.specs.declared.timestamp.Timestamp.{Timestamp}
 use Rattle.hermes_record.specs.declared.record.State.{State}
@@ -13,7 +13,7 @@ use Rattle.hermes.specs.declared.message.Outgoing.TheVariants.{None, Sent}
 use Rattle.hermes.specs.declared.event.Replica.{Replica}
 use Rattle.hermes_record.specs.Members.{has}
 
--- ---- the source's variables at one node, for one record
+-- ---- the source's variables at one node, for one record: nodeTS, nodeState, nodeRcvdAcks, nodeLastWriter, nodeLastWriteTS
 
 pub record Vars : Type 0 where
   pub node_ts : Timestamp

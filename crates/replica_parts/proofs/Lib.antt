@@ -1,1 +1,1 @@
--- Nothing of its own: the laws are below.
+-- No law of its own.

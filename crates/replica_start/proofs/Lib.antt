@@ -1,2 +1,2 @@
--- What the proofs share; the laws of walks serve `replica_table` too.
+-- What the proofs share.
 pub mod Filling

@@ -301,7 +301,7 @@ fn the_lists_that_are_computed_in_the_logic() {
     let start = |n| Laptop::start(n, 0b111, Rule::Higher, 1).expect("a fresh start");
     let three = || (0..3).map(start).collect::<Vec<_>>();
 
-    // `lostVal`, then `deadWinner` with `deadWinnerByOther`
+    // `lost_val`, then `dead_winner` with `dead_winner_by_other`
     let mut laptops = three();
     let _overtaken = save(&mut laptops, 0);
     let inv = save(&mut laptops, 2);
@@ -315,7 +315,7 @@ fn the_lists_that_are_computed_in_the_logic() {
     let by_other = ["1 replays", "0 takes 0", "1 takes 1", "0 takes 2"];
     each_settles(&laptops, &[&replay, &by_other]);
 
-    // `lostSave`
+    // `lost_save`
     let mut laptops = three();
     let _lost = save(&mut laptops, 0);
     let invs = ["0 resends", "1 takes 0", "2 takes 0"];
@@ -323,7 +323,7 @@ fn the_lists_that_are_computed_in_the_logic() {
     let vals = ["1 takes 4", "2 takes 4"];
     settles(&laptops, &[&invs[..], &acks, &vals].concat());
 
-    // `vainSave`
+    // `vain_save`
     let mut laptops = three();
     let inv = save(&mut laptops, 1);
     let ack = comes(&mut laptops, 0, &inv).expect("an ACK");
