@@ -137,7 +137,11 @@ BEGIN {
                 if (q[1] == "def" && is_kit(def_module[q[2]])) { module = def_module[q[2]]; name = def_name[q[2]]; if (!((module, name) in once)) { once[module, name] = 1; used[module] = used[module] " " name } }
             }
         }
-        for (module in used) names[++k] = module
+        for (module in used) {
+            names[++k] = module
+            # a module of the kit's proofs may pass a definition on, and may not have it
+            if (kit != "" && module ~ /^Rattle\.[^.]*\.proofs(\.|$)/) fail(module " is no definition: a statement rests on a proof")
+        }
         sorted(names, k)
         print "| module of the kit | names |"
         print "|---|---|"
