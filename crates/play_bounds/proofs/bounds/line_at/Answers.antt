@@ -8,7 +8,7 @@ returns c = (
   λ h.
       record {
         begins = omega (arith, c.find-end.ensures.value);
-        inside = c.find-end.ensures.bound;
+        inside = c.find-end.ensures.bound (omega (arith, c.if-input-from.false));
         onward = omega arith;
         parts = line-parts c.args.input.now c.args.from c.find-end.result h c.find-end.ensures.value;
       },
