@@ -1,7 +1,7 @@
 // Plays the script on standard input: at most 65,536 bytes of it are read.
 #![tactic(auto)]
 
-ghost use Rattle.std.specs.Prelude.{◌≡◌, ◌<◌, ◌≤◌, length, take, IfOk, OnErr};
+ghost use Rattle.std.specs.Prelude.{◌≡◌, ℕ, ◌<◌, ◌≤◌, length, take, IfOk, OnErr};
 ghost use Rattle.std.specs.Io.KnownBytes.{Consumes, IsAtEnd};
 
 use play_game::Played;
@@ -22,13 +22,13 @@ fn output() -> [u8; 1638402]
     [0; 1638402]
 }
 
-// Reads until the buffer is full or the input ends. The answer is how many bytes stand at the buffer's front then. The reader's error ends it, and
-// leaves the buffer as long as it was.
+// Reads until the buffer is full or the input ends. The answer is how many bytes stand at the buffer's front then. The reader's error ends it,
+// and leaves at the buffer's front all that the reader gave.
 fn read_full<R: Read>(reader: &mut R, buf: &mut [u8]) -> io::Result<usize>
     ensures bound { IfOk result (λ n. n ≤ length buf.new) }
     ensures bytes { IfOk result (λ n. Consumes (R.remaining reader.old) (R.remaining reader.new) (take n buf.new)) }
     ensures end { IfOk result (λ n. n < length buf.new → IsAtEnd (R.remaining reader.new)) }
-    ensures err { OnErr result (length buf.new ≡ length buf.old) }
+    ensures err { OnErr result ((n : ℕ) × (n ≤ length buf.new) × Consumes (R.remaining reader.old) (R.remaining reader.new) (take n buf.new)) }
 {
     let mut done = 0;
     while done < buf.len() {
