@@ -6,7 +6,8 @@ use native.Mathlib.Omega.{arith}
 use lib.ListN.{length, set, take, drop, length-set}
 use lib.Seq.{set-get_or, get_or-set_same, get_or-set_other}
 use Rattle.hermes.specs.declared.event.Event.{Event}
-use Rattle.hermes.specs.declared.event.Answer.TheVariants.{Accepted, Refused}
+use Rattle.hermes.specs.Answer.{no}
+use Rattle.std.specs.Prelude.{Err, Ok}
 use Rattle.hermes_record.specs.declared.record.Record.{Record}
 use Rattle.hermes_record.specs.Order.{Orders}
 use Rattle.hermes.specs.Guards.{Question, AllYes}
@@ -97,9 +98,9 @@ changed wins n i e v y = record {
     room = slot-fits (first-five n i e v y)
 
 pub data Applied (wins : Orders) (n : Node) (i : ℕ) (e : Event) (v : List ℕ) (o : Outcome) : Type 0 where
-  refused : (k : ℕ) → refusal_of n i e v ≡ suc k → o ≡ record { answer = Refused (suc k); node = n } → Applied wins n i e v o
+  refused : (k : ℕ) → refusal_of n i e v ≡ suc k → o ≡ record { answer = Err (no (suc k)); node = n } → Applied wins n i e v o
   accepted : AllYes (questions_of n i e v) → Changed i (step_of wins n i e v) n (done n i (step_of wins n i e v))
-      → o ≡ record { answer = Accepted (step_of wins n i e v).sent; node = done n i (step_of wins n i e v) } → Applied wins n i e v o
+      → o ≡ record { answer = Ok (step_of wins n i e v).sent; node = done n i (step_of wins n i e v) } → Applied wins n i e v o
 
 pub applied : (wins : Orders) (n : Node) (i : ℕ) (e : Event) (v : List ℕ) → Applied wins n i e v (apply wins n i e v)
 unfolding apply effect
@@ -111,7 +112,7 @@ applied wins n i e v = go (refusal_of n i e v) refl
     go : (k : ℕ) → refusal_of n i e v ≡ k → Applied wins n i e v o
     go zero z = let y : AllYes (questions_of n i e v) = passed n.me (length n.table) (length n.store) i (record_of i n) e (length v) z in
         accepted y (changed wins n i e v y) (rw z)
-    go (suc k) z = refused k z (rw z (ap (λ (t : List Record). record { answer = Refused (suc k); node = record { me = n.me; table = t; store = n.store } }) (set-get_or n.table i (fresh_record 0))))
+    go (suc k) z = refused k z (rw z (ap (λ (t : List Record). record { answer = Err (no (suc k)); node = record { me = n.me; table = t; store = n.store } }) (set-get_or n.table i (fresh_record 0))))
 
 -- an event whose questions all say yes is accepted, and sends what its step does
 pub answered : (wins : Orders) (n : Node) (i : ℕ) (e : Event) (v : List ℕ) → AllYes (questions_of n i e v)

@@ -14,8 +14,8 @@ use Rattle.hermes_record.specs.declared.record.State.{State}
 use Rattle.hermes.specs.declared.message.Message.{Message}
 use Rattle.hermes.specs.Kind.{kind_of, timestamp_of, message_of}
 use Rattle.hermes.proofs.Kind.{message-back}
-use Rattle.hermes.specs.declared.message.Outgoing.{Outgoing}
-use Rattle.hermes.specs.declared.message.Outgoing.TheVariants.{None, Sent}
+use Rattle.hermes.specs.Answer.{Outgoing}
+use Rattle.std.specs.Prelude.{None, Some}
 use Rattle.hermes.specs.declared.event.Replica.{Replica}
 use Rattle.hermes_record.specs.Order.{rule_number}
 use Rattle.hermes_record.specs.Record.{code}
@@ -101,16 +101,16 @@ message_numbers m = kind_of m ∷ (timestamp_of m).version ∷ (timestamp_of m).
 
 unfoldable pub outgoing_numbers : Outgoing → List ℕ
 outgoing_numbers None = []
-outgoing_numbers (Sent m h) = h.sender ∷ h.epoch ∷ h.index ∷ message_numbers m
+outgoing_numbers (Some (m, h)) = h.sender ∷ h.epoch ∷ h.index ∷ message_numbers m
 
 pub outgoing_back : List ℕ → Outgoing
 outgoing_back [] = None
-outgoing_back (x ∷ l) = Sent (message_of (get_or l 2 0) (record { version = get_or l 3 0; tie = get_or l 4 0 })) (record { sender = x; epoch = get_or l 0 0; index = get_or l 1 0 })
+outgoing_back (x ∷ l) = Some (message_of (get_or l 2 0) (record { version = get_or l 3 0; tie = get_or l 4 0 }), record { sender = x; epoch = get_or l 0 0; index = get_or l 1 0 })
 
 pub outgoing-had : (o : Outgoing) → outgoing_back (outgoing_numbers o) ≡ o
 unfolding outgoing_back outgoing_numbers message_numbers
 outgoing-had None = refl
-outgoing-had (Sent m h) = ap (λ (x : Message). Sent x h) (message-back m)
+outgoing-had (Some (m, h)) = ap (λ (x : Message). Some (x, h)) (message-back m)
 
 unfoldable pub outgoing_code : Coded Outgoing
 outgoing_code = record { numbers = outgoing_numbers; back = outgoing_back; had = outgoing-had }

@@ -15,12 +15,11 @@ use Rattle.hermes_record.specs.declared.record.State.{State}
 use Rattle.hermes_record.specs.declared.record.State.TheVariants as state
 use Rattle.hermes.specs.declared.message.Message.{Message}
 use Rattle.hermes.specs.declared.message.Message.TheVariants.{Inv, Ack, Val}
-use Rattle.hermes.specs.declared.message.Outgoing.TheVariants.{None}
+use Rattle.std.specs.Prelude.{None, Ok}
 use Rattle.hermes.specs.declared.event.Replica.{Replica}
 use Rattle.hermes.specs.declared.event.Settings.{Settings}
 use Rattle.hermes.specs.declared.event.Event.{Event}
 use Rattle.hermes.specs.declared.event.Event.TheVariants.{Read, Ask, Write, Commit, Replay, Deliver, Validate, Resend}
-use Rattle.hermes.specs.declared.event.Admission.TheVariants.{Admitted}
 use Rattle.hermes_record.specs.Members.{has, lowest, others_in}
 use Rattle.hermes_record.specs.Order.{Orders, ties, later, same_timestamp}
 use Rattle.hermes.specs.Settings.{under}
@@ -355,10 +354,10 @@ start-follows k view settings table store = record { accepted = (to, from); does
     questions : List Question
     questions = start_questions (newcomer k view settings) (length table) (length store)
 
-    to : (start k view settings table store).admission ≡ Admitted (newcomer k view settings) → AllYes questions
+    to : (start k view settings table store).admission ≡ Ok (newcomer k view settings) → AllYes questions
     to a = (begun k view settings table store (newcomer k view settings) a).asked
 
-    from : AllYes questions → (start k view settings table store).admission ≡ Admitted (newcomer k view settings)
+    from : AllYes questions → (start k view settings table store).admission ≡ Ok (newcomer k view settings)
     from y = unfold start in rw (none-says-no questions y)
 
     inits : Begun k view settings table store (newcomer k view settings) → (i : ℕ) → i < length table

@@ -9,7 +9,8 @@ use lib.Seq.{drop-length}
 use Rattle.hermes_record.specs.declared.record.Record.{Record}
 use Rattle.hermes.specs.declared.event.Replica.{Replica}
 use Rattle.hermes.specs.declared.event.Settings.{Settings}
-use Rattle.hermes.specs.declared.event.Admission.TheVariants.{Refused}
+use Rattle.hermes.specs.Answer.{no}
+use Rattle.std.specs.Prelude.{Err}
 use Rattle.hermes.specs.Node.{newcomer, admission_of, start_refusal, admit, begin, start}
 
 -- the first i of a list are r, and the others are as they were
@@ -30,20 +31,20 @@ begins-admission zero me table store = refl
 begins-admission (suc k) me table store = refl
 
 module _ (number view : ℕ) (settings : Settings) (table : List Record) (store : List ℕ) where
-  abbrev no : ℕ
-  no = start_refusal number view settings (length table) (length store)
+  abbrev first : ℕ
+  first = start_refusal number view settings (length table) (length store)
 
   pub start-admission : admit number view settings (length table) (length store) ≡ (start number view settings table store).admission
   unfolding start
-  start-admission = begins-admission no (newcomer number view settings) table store
+  start-admission = begins-admission first (newcomer number view settings) table store
 
   -- a refused start leaves the memory as found
-  pub start-refused : (k : ℕ) → (start number view settings table store).admission ≡ Refused k
+  pub start-refused : (k : ℕ) → (start number view settings table store).admission ≡ Err (no k)
       → ((start number view settings table store).table ≡ table) × ((start number view settings table store).store ≡ store)
   unfolding start
-  start-refused k a = go no a
+  start-refused k a = go first a
     where
-      go : (z : ℕ) → (begin z (newcomer number view settings) table store).admission ≡ Refused k
+      go : (z : ℕ) → (begin z (newcomer number view settings) table store).admission ≡ Err (no k)
           → ((begin z (newcomer number view settings) table store).table ≡ table) × ((begin z (newcomer number view settings) table store).store ≡ store)
       go zero e = let q : ◌≡◌ {A = ℕ} 0 1 = cc in absurd (omega arith)
       go (suc z) e = (refl, refl)

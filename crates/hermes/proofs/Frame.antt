@@ -7,7 +7,7 @@ use Rattle.hermes.specs.declared.event.Event.{Event}
 use Rattle.hermes.specs.declared.event.Replica.{Replica}
 use Rattle.hermes.specs.declared.event.Settings.{Settings}
 use Rattle.hermes_record.specs.declared.record.Record.{Record}
-use Rattle.hermes.specs.declared.message.Outgoing.TheVariants.{None}
+use Rattle.std.specs.Prelude.{None}
 use Rattle.hermes_record.specs.Order.{Orders}
 use Rattle.hermes.specs.Guards.{first_no}
 use Rattle.hermes.specs.Event.{number_of, answer_of}

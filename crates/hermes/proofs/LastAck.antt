@@ -13,7 +13,7 @@ use Rattle.hermes_record.specs.declared.record.Record.{Record}
 use Rattle.hermes_record.specs.declared.record.State.{State}
 use Rattle.hermes_record.specs.declared.record.State.TheVariants as state
 use Rattle.hermes.specs.declared.message.Message.TheVariants.{Val}
-use Rattle.hermes.specs.declared.message.Outgoing.TheVariants.{None}
+use Rattle.std.specs.Prelude.{None}
 use Rattle.hermes.specs.declared.event.Replica.{Replica}
 use Rattle.hermes.specs.declared.event.Settings.{Settings}
 use Rattle.hermes.specs.declared.event.Event.TheVariants.{Deliver}

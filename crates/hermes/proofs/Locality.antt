@@ -6,11 +6,10 @@ use mathlib.Core.List.{List, []}
 use native.Mathlib.Omega.{arith}
 use lib.ListN.{length, take}
 use Rattle.hermes_record.specs.declared.record.Record.{Record}
-use Rattle.hermes.specs.declared.message.Outgoing.{Outgoing}
-use Rattle.hermes.specs.declared.message.Outgoing.TheVariants.{None, Sent}
+use Rattle.hermes.specs.Answer.{Outgoing, no}
+use Rattle.std.specs.Prelude.{Err, None, Ok, Some}
 use Rattle.hermes.specs.declared.event.Event.{Event}
 use Rattle.hermes.specs.declared.event.Event.TheVariants.{Read, Ask}
-use Rattle.hermes.specs.declared.event.Answer.TheVariants.{Accepted, Refused}
 use Rattle.hermes_record.specs.Order.{Orders, ties}
 use Rattle.hermes.specs.Store.{slot}
 use Rattle.hermes.specs.Event.{Step, refusal, step, part_of, read_part, Handed, stamp_handed, ask_stamp, ask_hands, body_of}
@@ -27,11 +26,11 @@ use Rattle.hermes.proofs.Apply.{passed-zero, refusal_of, questions_of, step_of, 
 -- the bytes that leave, taken from the record's 192
 abbrev pub leaving_slot : Outgoing → Record → List ℕ → List ℕ
 leaving_slot None r b = []
-leaving_slot (Sent m h) r b = body_of m (take r.len b)
+leaving_slot (Some (m, h)) r b = body_of m (take r.len b)
 
 pub leaving-slot : (i : ℕ) (o : Outgoing) → About i o → (n : Node) → (record_of i n).len ≤ 192 → leaving o n.table n.store ≡ leaving_slot o (record_of i n) (slot i n.store)
 leaving-slot i None a n h = refl
-leaving-slot i (Sent m d) a n h = ap (body_of m) (ap (λ (j : ℕ). value_of j n) a ∙ value-slot i (record_of i n).len n.store h)
+leaving-slot i (Some (m, d)) a n h = ap (body_of m) (ap (λ (j : ℕ). value_of j n) a ∙ value-slot i (record_of i n).len n.store h)
 
 module _ (wins : Orders) (i : ℕ) (n m : Node) (q : EqualAt i n m) (e : Event) (v : List ℕ) where
   same-refusal : refusal_of n i e v ≡ refusal_of m i e v
@@ -54,10 +53,10 @@ pub locality : (wins : Orders) → Locality wins
 locality wins i n m q e v = go (apply wins n i e v) (applied wins n i e v) (apply wins m i e v) (applied wins m i e v)
   where
     go : (o : Outcome) → Applied wins n i e v o → (p : Outcome) → Applied wins m i e v p → AnswersAlike i o p
-    go o (refused k z a) p (refused k' z' b) = rw (a, b) (record { answer = ap Refused (sym z ∙ same-refusal wins i n m q e v ∙ z'); leaves = refl; after = q })
+    go o (refused k z a) p (refused k' z' b) = rw (a, b) (record { answer = ap (λ (k : ℕ). Err (no k)) (sym z ∙ same-refusal wins i n m q e v ∙ z'); leaves = refl; after = q })
     go o (refused k z a) p (accepted y d b) = absurd (omega (arith, z, same-refusal wins i n m q e v, passed-zero m i e v y))
     go o (accepted y c a) p (refused k z b) = absurd (omega (arith, z, same-refusal wins i n m q e v, passed-zero n i e v y))
-    go o (accepted y c a) p (accepted y' d b) = rw (a, b) (record { answer = ap (λ (s : Step). Accepted s.sent) same; leaves = leaves; after = after })
+    go o (accepted y c a) p (accepted y' d b) = rw (a, b) (record { answer = ap (λ (s : Step). Ok s.sent) same; leaves = leaves; after = after })
       where
         same : step_of wins n i e v ≡ step_of wins m i e v
         same = same_step wins i n m q e v

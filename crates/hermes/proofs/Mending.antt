@@ -14,7 +14,7 @@ use Rattle.hermes_record.specs.declared.record.Record.{Record}
 use Rattle.hermes_record.specs.declared.record.State.TheVariants as state
 use Rattle.hermes.specs.declared.message.Message.{Message}
 use Rattle.hermes.specs.declared.message.Message.TheVariants.{Inv, Ack, Val}
-use Rattle.hermes.specs.declared.message.Outgoing.TheVariants.{Sent}
+use Rattle.std.specs.Prelude.{Some}
 use Rattle.hermes.specs.declared.event.Event.TheVariants.{Replay, Deliver, Validate, Resend}
 use Rattle.hermes_record.specs.Members.{has, count_below, others_in, with}
 use Rattle.hermes_record.specs.Order.{TieOrder, later, same_timestamp}
@@ -88,7 +88,7 @@ module _ (T : Task) (inside : T.i < T.count) (ord : TieOrder (order T)) (d : ℕ
           → (k : ℕ) (x : Logged) → old ≤ k → find f.log k ≡ found x → x.header.index ≡ i → Fine T d M t0 sent' f x.header.sender x.message
       messages-on sent' up ro new k x l e j = go (D.before k x e)
         where
-          go : (find g.log k ≡ found x) ⊎ (s.sent ≡ Sent x.message x.header) → Fine T d M t0 sent' f x.header.sender x.message
+          go : (find g.log k ≡ found x) ⊎ (s.sent ≡ Some (x.message, x.header)) → Fine T d M t0 sent' f x.header.sender x.message
           go (inl z) = fine-on sent' up ro x.header.sender x.message (p.messages k x l z j)
           go (inr z) = subst (Leaves T d M t0 sent' f) z new
 

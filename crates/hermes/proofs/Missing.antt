@@ -12,8 +12,8 @@ use Rattle.hermes_record.specs.declared.record.Record.{Record}
 use Rattle.hermes_record.specs.declared.record.State.TheVariants as state
 use Rattle.hermes.specs.declared.message.Message.{Message}
 use Rattle.hermes.specs.declared.message.Message.TheVariants.{Inv, Ack, Val}
-use Rattle.hermes.specs.declared.message.Outgoing.{Outgoing}
-use Rattle.hermes.specs.declared.message.Outgoing.TheVariants.{None, Sent}
+use Rattle.hermes.specs.Answer.{Outgoing}
+use Rattle.std.specs.Prelude.{None, Some}
 use Rattle.hermes.specs.declared.event.Replica.{Replica}
 use Rattle.hermes.specs.declared.event.Event.{Event}
 use Rattle.hermes_record.specs.Members.{has, count_below, others_in}
@@ -77,7 +77,7 @@ module _ (T : Task) (d : ℕ) (M t0 : Timestamp) where
   -- what leaves
   abbrev pub Leaves : Bool → Group → Outgoing → Type 0
   Leaves sent g None = Unit
-  Leaves sent g (Sent m h) = Fine sent g h.sender m
+  Leaves sent g (Some (m, h)) = Fine sent g h.sender m
 
   pub record Stage (sent : Bool) (g : Group) : Type 0 where
     pub alive : Alive T g

@@ -8,7 +8,7 @@ use mathlib.Core.List.{[], ◌∷◌}
 use native.Mathlib.Omega.{arith}
 use lib.ListN.{replicate, take, drop}
 use borrow.Author.Tests.{ltb-true}
-use Rattle.hermes.specs.declared.event.Admission.TheVariants.{Admitted}
+use Rattle.std.specs.Prelude.{Ok}
 use Rattle.hermes_record.specs.Members.{has, size, lowest, within, others_in, with}
 use Rattle.hermes.specs.declared.event.Settings.{Settings}
 use Rattle.hermes_record.specs.Order.{ties, later, same_timestamp}
@@ -27,7 +27,7 @@ use Rattle.hermes.proofs.Members.{others-every}
 use Rattle.hermes.proofs.Agreement.{agreement}
 use Rattle.hermes.proofs.Overtaken.{given-up, nobody-hangs}
 
-admitted : (settings : Settings) (k : ℕ) → three k ≡ true → (start k 7 settings lent_table (replicate 192 0)).admission ≡ Admitted (newcomer k 7 settings)
+admitted : (settings : Settings) (k : ℕ) → three k ≡ true → (start k 7 settings lent_table (replicate 192 0)).admission ≡ Ok (newcomer k 7 settings)
 unfolding start has size
 admitted settings zero e = refl
 admitted settings (suc zero) e = refl

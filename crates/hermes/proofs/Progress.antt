@@ -14,14 +14,13 @@ use Rattle.hermes_record.specs.declared.record.Record.{Record}
 use Rattle.hermes.specs.declared.message.Message.{Message}
 use Rattle.hermes.specs.declared.message.Message.TheVariants.{Inv, Ack, Val}
 use Rattle.hermes.specs.declared.message.Header.{Header}
-use Rattle.hermes.specs.declared.message.Outgoing.{Outgoing}
-use Rattle.hermes.specs.declared.message.Outgoing.TheVariants.{None, Sent}
+use Rattle.hermes.specs.Answer.{Outgoing}
+use Rattle.std.specs.Prelude.{None, Ok, Some}
 use Rattle.hermes.specs.declared.message.Received.{Received}
 use Rattle.hermes.specs.declared.event.Replica.{Replica}
 use Rattle.hermes.specs.declared.event.Settings.{Settings}
 use Rattle.hermes.specs.declared.event.Event.{Event}
 use Rattle.hermes.specs.declared.event.Event.TheVariants.{Deliver}
-use Rattle.hermes.specs.declared.event.Answer.TheVariants.{Accepted}
 use Rattle.hermes_record.specs.Members.{count_below}
 use Rattle.hermes_record.specs.Order.{Orders}
 use Rattle.hermes.specs.Settings.{under}
@@ -113,9 +112,9 @@ pub record Did (T : Task) (g : Group) (a : Entry) (s : Step) : Type 0 where
   pub here : record_of T.i ((advance T.wins g a).at a.who) ≡ s.after
   pub others : (m : ℕ) → m ≢ a.who → record_of T.i ((advance T.wins g a).at m) ≡ record_of T.i (g.at m)
   pub keeps : (k sender : ℕ) (m : Message) → Post T g.log k sender m → Post T (advance T.wins g a).log k sender m
-  pub left : (m : Message) → s.sent ≡ Sent m (record { sender = a.who; epoch = T.e; index = T.i }) → (stamp_of m).tie ≤ 15 → Post T (advance T.wins g a).log (length g.log) a.who m
-  pub longer : (m : Message) (h : Header) → s.sent ≡ Sent m h → length (advance T.wins g a).log ≡ suc (length g.log)
-  pub before : (k : ℕ) (x : Logged) → find (advance T.wins g a).log k ≡ found x → (find g.log k ≡ found x) ⊎ (s.sent ≡ Sent x.message x.header)
+  pub left : (m : Message) → s.sent ≡ Some (m, record { sender = a.who; epoch = T.e; index = T.i }) → (stamp_of m).tie ≤ 15 → Post T (advance T.wins g a).log (length g.log) a.who m
+  pub longer : (m : Message) (h : Header) → s.sent ≡ Some (m, h) → length (advance T.wins g a).log ≡ suc (length g.log)
+  pub before : (k : ℕ) (x : Logged) → find (advance T.wins g a).log k ≡ found x → (find g.log k ≡ found x) ⊎ (s.sent ≡ Some (x.message, x.header))
   pub silent : s.sent ≡ None → length (advance T.wins g a).log ≡ length g.log
 
 pub identity : (T : Task) (m : ℕ) (n : Node) → Live T m n → n.me ≡ self T m
@@ -123,9 +122,9 @@ identity T m n l = λ t. record { number = l.sound.number t; epoch = l.epoch t; 
 
 -- an event of replica m whose own questions say yes
 acts : (T : Task) → T.i < T.count → (m : ℕ) → Has T.set m → (n : Node) → Live T m n → (ev : Event) (v : List ℕ) → AllYes (own (self T m) (record_of T.i n) ev (length v))
-    → (apply T.wins n T.i ev v ≡ record { answer = Accepted (step_by T m (record_of T.i n) ev v).sent; node = done n T.i (step_by T m (record_of T.i n) ev v) })
+    → (apply T.wins n T.i ev v ≡ record { answer = Ok (step_by T m (record_of T.i n) ev v).sent; node = done n T.i (step_by T m (record_of T.i n) ev v) })
     × (record_of T.i (done n T.i (step_by T m (record_of T.i n) ev v)) ≡ (step_by T m (record_of T.i n) ev v).after)
-acts T inside m h n l ev v y = subst (λ (me : Replica). (apply wins n i ev v ≡ record { answer = Accepted (s me).sent; node = done n i (s me) }) × (record_of i (done n i (s me)) ≡ (s me).after))
+acts T inside m h n l ev v y = subst (λ (me : Replica). (apply wins n i ev v ≡ record { answer = Ok (s me).sent; node = done n i (s me) }) × (record_of i (done n i (s me)) ≡ (s me).after))
     (identity T m n l) (go (apply wins n i ev v) (applied wins n i ev v))
   where
     wins : Orders
@@ -140,7 +139,7 @@ acts T inside m h n l ev v y = subst (λ (me : Replica). (apply wins n i ev v �
     yes-all : AllYes (questions_of n i ev v)
     yes-all = five-say-yes T.count T.settings m n l.sound i inside (rw l.view h) ev v (subst (λ (me : Replica). AllYes (own me (record_of i n) ev (length v))) (sym (identity T m n l)) y)
 
-    go : (o : Outcome) → Applied wins n i ev v o → (o ≡ record { answer = Accepted (s n.me).sent; node = done n i (s n.me) }) × (record_of i (done n i (s n.me)) ≡ (s n.me).after)
+    go : (o : Outcome) → Applied wins n i ev v o → (o ≡ record { answer = Ok (s n.me).sent; node = done n i (s n.me) }) × (record_of i (done n i (s n.me)) ≡ (s n.me).after)
     go o (refused k z q) = absurd (omega (arith, z, passed-zero n i ev v yes-all))
     go o (accepted w c q) = (q, c.here)
 
@@ -157,7 +156,7 @@ module _ (T : Task) (inside : T.i < T.count) (g : Group) (all : Alive T g) (m : 
   after : Node
   after = done (g.at m) i s
 
-  what-it-is : result wins g a ≡ event (record { answer = Accepted s.sent; node = after })
+  what-it-is : result wins g a ≡ event (record { answer = Ok s.sent; node = after })
   unfolding result after
   what-it-is = does ∙ ap event (acts T inside m h (g.at m) (all.live m h) ev v y).0
 
@@ -178,23 +177,23 @@ module _ (T : Task) (inside : T.i < T.count) (g : Group) (all : Alive T g) (m : 
   -- what joined the log
   grown : (o : Outgoing) (log : List Logged) → log ≡ logged g.log after o → length g.log ≤ length log
   grown None log q = rw q (omega arith)
-  grown (Sent p d) log q = rw (q, length-append) (omega arith)
+  grown (Some (p, d)) log q = rw (q, length-append) (omega arith)
 
   keep : (o : Outgoing) (log : List Logged) → log ≡ logged g.log after o → (k sender : ℕ) (p : Message) → Post T g.log k sender p → Post T log k sender p
   keep None log q k sender p x = rw q x
-  keep (Sent p' d) log q k sender p x = record { since = x.since; body = x.body; there = rw q (find-front g.log _ k _ x.there); shape = x.shape }
+  keep (Some (p', d)) log q k sender p x = record { since = x.since; body = x.body; there = rw q (find-front g.log _ k _ x.there); shape = x.shape }
 
-  post : (p : Message) → s.sent ≡ Sent p (record { sender = m; epoch = e; index = i }) → (stamp_of p).tie ≤ 15 → Post T (advance wins g a).log (length g.log) m p
+  post : (p : Message) → s.sent ≡ Some (p, record { sender = m; epoch = e; index = i }) → (stamp_of p).tie ≤ 15 → Post T (advance wins g a).log (length g.log) m p
   post p q t = record {
     since = all.since;
-    body = leaving (Sent p (record { sender = m; epoch = e; index = i })) after.table after.store;
+    body = leaving (Some (p, record { sender = m; epoch = e; index = i })) after.table after.store;
     there = rw (log_is, q) (find-last g.log _);
     shape = shaped p _ t (value-short i (record_of i after).len after.store (sound-passed after.me (record_of i after) (rw at-m at ((live-after m h).sound.fifth i inside))).short);
   }
 
-  earlier : (o : Outgoing) (log : List Logged) → log ≡ logged g.log after o → (k : ℕ) (x : Logged) → find log k ≡ found x → (find g.log k ≡ found x) ⊎ (o ≡ Sent x.message x.header)
+  earlier : (o : Outgoing) (log : List Logged) → log ≡ logged g.log after o → (k : ℕ) (x : Logged) → find log k ≡ found x → (find g.log k ≡ found x) ⊎ (o ≡ Some (x.message, x.header))
   earlier None log q k x f = inl (rw q at f)
-  earlier (Sent p d) log q k x f = ⊎_map (λ z. z) (λ z. ap (λ (y : Logged). Sent y.message y.header) z) (find-either g.log _ k x (rw q at f))
+  earlier (Some (p, d)) log q k x f = ⊎_map (λ z. z) (λ z. ap (λ (y : Logged). Some (y.message, y.header)) z) (find-either g.log _ k x (rw q at f))
 
   pub did : Did T g a s
   did = record {

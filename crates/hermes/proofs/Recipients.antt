@@ -12,8 +12,8 @@ use Rattle.hermes_record.specs.declared.record.State.{State}
 use Rattle.hermes_record.specs.declared.record.State.TheVariants as state
 use Rattle.hermes.specs.declared.message.Message.{Message}
 use Rattle.hermes.specs.declared.message.Message.TheVariants.{Inv, Ack, Val}
-use Rattle.hermes.specs.declared.message.Outgoing.{Outgoing}
-use Rattle.hermes.specs.declared.message.Outgoing.TheVariants.{None, Sent}
+use Rattle.hermes.specs.Answer.{Outgoing}
+use Rattle.std.specs.Prelude.{None, Some}
 use Rattle.hermes.specs.declared.message.Received.{Received}
 use Rattle.hermes.specs.declared.event.Replica.{Replica}
 use Rattle.hermes.specs.declared.event.Event.{Event}
@@ -105,6 +105,6 @@ others-only wins n i e v m = go (leaves wins n i e v) (recipients n.me e (leaves
   where
     go : (o : Outgoing) (to : ℕ) → GoesTo n.me e o to → Has to m → Other n.me m
     go None to g h = absurd ((g m).0 h)
-    go (Sent (Inv t) d) to g h = (g m).0 h
-    go (Sent (Ack t) d) to g h = rw ((g.sender m).0 h) g.other
-    go (Sent (Val t) d) to g h = (g m).0 h
+    go (Some (Inv t, d)) to g h = (g m).0 h
+    go (Some (Ack t, d)) to g h = rw ((g.sender m).0 h) g.other
+    go (Some (Val t, d)) to g h = (g m).0 h

@@ -17,8 +17,8 @@ use Rattle.hermes_record.specs.declared.record.State.TheVariants as state
 use Rattle.hermes.specs.declared.message.Message.{Message}
 use Rattle.hermes.specs.declared.message.Message.TheVariants.{Inv, Ack, Val}
 use Rattle.hermes.specs.declared.message.Header.{Header}
-use Rattle.hermes.specs.declared.message.Outgoing.{Outgoing}
-use Rattle.hermes.specs.declared.message.Outgoing.TheVariants.{None, Sent}
+use Rattle.hermes.specs.Answer.{Outgoing}
+use Rattle.std.specs.Prelude.{None, Some}
 use Rattle.hermes.specs.declared.event.Replica.{Replica}
 use Rattle.hermes.specs.declared.event.Settings.{Settings}
 use Rattle.hermes.specs.declared.event.Event.{Event}
@@ -117,7 +117,7 @@ module _ (wins : Orders) (settings : Settings) (issued : ℕ → ℕ) where
   -- it goes out under the replica's name and epoch, about record j
   abbrev Says : Replica → ℕ → Copy Cell → Outgoing → Type 0
   Says me j b None = Unit
-  Says me j b (Sent m h) = (h ≡ record { sender = me.number; epoch = me.epoch; index = j }) × True b m
+  Says me j b (Some (m, h)) = (h ≡ record { sender = me.number; epoch = me.epoch; index = j }) × True b m
 
   -- an accepted step on record j
   record Good (log : List Logged) (j : ℕ) (n : Node) (s : Step) : Type 0 where
@@ -146,7 +146,7 @@ module _ (wins : Orders) (settings : Settings) (issued : ℕ → ℕ) where
   joins : (i j : ℕ) (log : List Logged) (n : Node) (o : Outgoing) → (record_of j n).len ≤ 192 → Says n.me j (copy j n) o → (p : Msg Cell)
       → Known i (logged log n o) p → Known i log p ⊎ Honest (setting wins settings issued) n.me.number (copy i n) p
   joins i j log n None f h p k = inl k
-  joins i j log n (Sent m d) f h p (x, t, e, q) = go (Memᴰ.append_cases log t)
+  joins i j log n (Some (m, d)) f h p (x, t, e, q) = go (Memᴰ.append_cases log t)
     where
       new : Header → Logged
       new d = record { header = d; message = m; body = body_of m (value_at d.index (record_of d.index n).len n.store) }

@@ -5,7 +5,7 @@ use mathlib.Core.List.{List, [], ◌∷◌, Memᴰ}
 use lib.Dec.{eqb}
 use lib.ListN.{length}
 use borrow.Author.Tests.{eqb-true}
-use Rattle.hermes.specs.declared.message.Outgoing.TheVariants.{None}
+use Rattle.std.specs.Prelude.{None}
 use Rattle.hermes_record.specs.Members.{has, size, lowest, within, others_in, with}
 use Rattle.hermes_record.specs.Order.{later, same_timestamp}
 use Rattle.hermes.specs.Settings.{old_settings}

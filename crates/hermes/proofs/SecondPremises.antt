@@ -7,7 +7,7 @@ use mathlib.Core.List.{List, [], ◌∷◌}
 use native.Mathlib.Omega.{arith}
 use lib.ListN.{replicate}
 use Rattle.hermes.specs.declared.event.Settings.{Settings}
-use Rattle.hermes.specs.declared.event.Admission.TheVariants.{Admitted}
+use Rattle.std.specs.Prelude.{Ok}
 use Rattle.hermes_record.specs.Members.{has, size, lowest, within, others_in, with}
 use Rattle.hermes_record.specs.Order.{later, same_timestamp}
 use Rattle.hermes.specs.Store.{padded, place}
@@ -38,7 +38,7 @@ each : (P : Node → Type 0) (x : Node) (rest : List Node) → P x → ((n : Nod
 each P x rest h others n first = h
 each P x rest h others n (further a) = others n a
 
-started : (settings : Settings) (k : ℕ) → (start k 7 settings lent_table (replicate 192 0)).admission ≡ Admitted (fresh settings k).me → FreshStart 7 1 settings (fresh settings k)
+started : (settings : Settings) (k : ℕ) → (start k 7 settings lent_table (replicate 192 0)).admission ≡ Ok (fresh settings k).me → FreshStart 7 1 settings (fresh settings k)
 started settings k e = record { number = k; table = lent_table; store = replicate 192 0; records = refl; accepted = rw (← e) }
 
 -- {0,1} is within {0,1,2}

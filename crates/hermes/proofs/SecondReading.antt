@@ -15,11 +15,10 @@ use Rattle.hermes_record.specs.declared.timestamp.Rule.{Rule}
 use Rattle.hermes_record.specs.declared.timestamp.Rule.TheVariants.{Higher, Lower}
 use Rattle.hermes_record.specs.declared.record.State.TheVariants as state
 use Rattle.hermes.specs.declared.message.Message.TheVariants.{Inv, Ack, Val}
-use Rattle.hermes.specs.declared.message.Outgoing.{Outgoing}
-use Rattle.hermes.specs.declared.message.Outgoing.TheVariants.{None, Sent}
+use Rattle.hermes.specs.Answer.{Outgoing}
+use Rattle.std.specs.Prelude.{None, Ok, Some}
 use Rattle.hermes.specs.declared.event.Replica.{Replica}
 use Rattle.hermes.specs.declared.event.Settings.{Settings}
-use Rattle.hermes.specs.declared.event.Admission.TheVariants.{Admitted}
 use Rattle.hermes_record.specs.Members.{has}
 use Rattle.hermes_record.specs.Order.{ties, later, NotAfter, equal, rises}
 use Rattle.hermes.specs.Settings.{old_settings}
@@ -134,7 +133,7 @@ fresh_start count issued settings k n e f = subst (λ (x : ℕ). one.FreshStart 
   store_after = ap (λ (s : Start). s.store) (sym f.accepted);
 })
   where
-    admitted : (start f.number (issued 0) settings f.table f.store).admission ≡ Admitted n.me
+    admitted : (start f.number (issued 0) settings f.table f.store).admission ≡ Ok n.me
     admitted = ap (λ (s : Start). s.admission) f.accepted
 
     number : n.me.number ≡ f.number
@@ -154,14 +153,14 @@ module _ (m : Mail) (log : List Logged) (n : Node) where
   -- what the log has, it keeps
   stays : (out : Outgoing) → In log m → In (logged log n out) m
   stays None k = k
-  stays (Sent kind h) (j, e) = (j, find-front log _ j (posted m) e)
+  stays (Some (kind, h)) (j, e) = (j, find-front log _ j (posted m) e)
 
   -- what leaves joins it, with the same bytes
   joins : (out : Outgoing) → Leaves m out n → In (logged log n out) m
   joins None e = elim e [ ]
-  joins (Sent (Inv t) h) e = rw e (length log, find-last log _)
-  joins (Sent (Ack t) h) e = rw e (length log, find-last log _)
-  joins (Sent (Val t) h) e = rw e (length log, find-last log _)
+  joins (Some (Inv t, h)) e = rw e (length log, find-last log _)
+  joins (Some (Ack t, h)) e = rw e (length log, find-last log _)
+  joins (Some (Val t, h)) e = rw e (length log, find-last log _)
 
 -- ---- entries
 

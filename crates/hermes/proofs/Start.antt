@@ -11,7 +11,7 @@ use borrow.Author.Tests.{eqb-true}
 use Rattle.hermes_record.specs.declared.record.Record.{Record}
 use Rattle.hermes.specs.declared.event.Replica.{Replica}
 use Rattle.hermes.specs.declared.event.Settings.{Settings}
-use Rattle.hermes.specs.declared.event.Admission.TheVariants.{Admitted}
+use Rattle.std.specs.Prelude.{Ok}
 use Rattle.hermes_record.specs.Members.{has, lowest, lowest_from}
 use Rattle.hermes_record.specs.Record.{fresh_record}
 use Rattle.hermes.specs.Source.{Lowest}
@@ -32,11 +32,11 @@ pub record Begun (k view : ℕ) (settings : Settings) (table : List Record) (sto
   pub store_after : (start k view settings table store).store ≡ zeros (length store)
   pub asked : AllYes (start_questions (newcomer k view settings) (length table) (length store))
 
-pub begun : (k view : ℕ) (settings : Settings) (table : List Record) (store : List ℕ) (me : Replica) → (start k view settings table store).admission ≡ Admitted me → Begun k view settings table store me
+pub begun : (k view : ℕ) (settings : Settings) (table : List Record) (store : List ℕ) (me : Replica) → (start k view settings table store).admission ≡ Ok me → Begun k view settings table store me
 unfolding start
 begun k view settings table store me a = go (start_refusal k view settings (length table) (length store)) refl a
   where
-    go : (z : ℕ) → start_refusal k view settings (length table) (length store) ≡ z → (begin z (newcomer k view settings) table store).admission ≡ Admitted me
+    go : (z : ℕ) → start_refusal k view settings (length table) (length store) ≡ z → (begin z (newcomer k view settings) table store).admission ≡ Ok me
         → Begun k view settings table store me
     go zero e a = record {
       identity = cc;

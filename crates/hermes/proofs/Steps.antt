@@ -15,8 +15,8 @@ use Rattle.hermes_record.specs.declared.record.State.{State}
 use Rattle.hermes_record.specs.declared.record.State.TheVariants as state
 use Rattle.hermes.specs.declared.message.Message.{Message}
 use Rattle.hermes.specs.declared.message.Message.TheVariants.{Inv, Ack, Val}
-use Rattle.hermes.specs.declared.message.Outgoing.{Outgoing}
-use Rattle.hermes.specs.declared.message.Outgoing.TheVariants.{None, Sent}
+use Rattle.hermes.specs.Answer.{Outgoing}
+use Rattle.std.specs.Prelude.{None, Some}
 use Rattle.hermes.specs.declared.event.Replica.{Replica}
 use Rattle.hermes.specs.declared.event.Event.{Event}
 use Rattle.hermes.specs.declared.event.Event.TheVariants.{Read, Ask, Write, Commit, Replay, Deliver, Validate, Resend}
@@ -91,7 +91,7 @@ module _ (wins : Orders) (me : Replica) (i : ℕ) (r : Record) (small : me.numbe
 
 abbrev pub About : ℕ → Outgoing → Type 0
 About i None = Unit
-About i (Sent m h) = h.index ≡ i
+About i (Some (m, h)) = h.index ≡ i
 
 inv-about : (me : Replica) (i : ℕ) (r : Record) (t : Timestamp) (sender : ℕ) (v : List ℕ) (g : Bool) → About i (inv_step g me i r t sender v).sent
 inv-about me i r t sender v true = search rules

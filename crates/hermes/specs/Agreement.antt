@@ -1,11 +1,10 @@
 -- Demand 3, agreement: its premises and its claim, over every list of entries of a whole group (01, "Premises of agreement").
-use Rattle.std.specs.Prelude.{ℕ, ◌<◌, ◌≡◌, Bool, true, List, [], ◌∷◌, ◌++◌, length}
+use Rattle.std.specs.Prelude.{ℕ, ◌<◌, ◌≡◌, Bool, true, List, [], ◌∷◌, ◌++◌, length, Ok}
 use Rattle.hermes_record.specs.declared.timestamp.Timestamp.{Timestamp}
 use Rattle.hermes_record.specs.declared.record.Record.{Record}
 use Rattle.hermes_record.specs.declared.record.State.TheVariants.{Valid}
 use Rattle.hermes.specs.declared.message.Message.TheVariants.{Ack}
 use Rattle.hermes.specs.declared.event.Settings.{Settings}
-use Rattle.hermes.specs.declared.event.Admission.TheVariants.{Admitted}
 use Rattle.hermes_record.specs.Members.{has}
 use Rattle.hermes_record.specs.Order.{Orders, TieOrders, ties, NotAfter}
 use Rattle.hermes.specs.Settings.{under}
@@ -22,7 +21,7 @@ pub record FreshStart (count : ℕ) (issued : ℕ → ℕ) (settings : Settings)
   pub table : List Record
   pub store : List ℕ
   pub records : length table ≡ count
-  pub accepted : (start k (issued 0) settings table store).admission ≡ Admitted n.me
+  pub accepted : (start k (issued 0) settings table store).admission ≡ Ok n.me
   pub table_after : n.table ≡ (start k (issued 0) settings table store).table
   pub store_after : n.store ≡ (start k (issued 0) settings table store).store
 

@@ -1,16 +1,14 @@
 -- Demand 2: each event is accepted exactly when document 01's own questions say yes and the source's guard holds (a replay's as 02, Wish 2 widens it, a commit's as Wish 5 narrows a write's);
 -- accepted, it does the source's action; refused, nothing moves and nothing leaves.
-use Rattle.std.specs.Prelude.{ℕ, ◌<◌, ◌≡◌, not, ◌&&◌, ◌≢◌, ◌↔◌, List, [], ◌∷◌, eqb, length}
+use Rattle.std.specs.Prelude.{ℕ, ◌<◌, ◌≡◌, not, ◌&&◌, ◌≢◌, ◌↔◌, List, [], ◌∷◌, eqb, length, None, Ok}
 use Rattle.hermes_record.specs.declared.timestamp.Timestamp.{Timestamp}
 use Rattle.hermes_record.specs.declared.record.Record.{Record}
 use Rattle.hermes.specs.declared.message.Message.{Message}
 use Rattle.hermes.specs.declared.message.Message.TheVariants.{Inv, Ack, Val}
-use Rattle.hermes.specs.declared.message.Outgoing.TheVariants.{None}
 use Rattle.hermes.specs.declared.message.Received.{Received}
 use Rattle.hermes.specs.declared.event.Settings.{Settings}
 use Rattle.hermes.specs.declared.event.Event.{Event}
 use Rattle.hermes.specs.declared.event.Event.TheVariants.{Read, Ask, Write, Commit, Replay, Deliver, Validate, Resend}
-use Rattle.hermes.specs.declared.event.Admission.TheVariants.{Admitted}
 use Rattle.hermes_record.specs.Members.{has}
 use Rattle.hermes_record.specs.Order.{Orders, ties}
 use Rattle.hermes.specs.Settings.{under}
@@ -60,9 +58,9 @@ pub record ViewFollows (n : Node) (epoch alive : ℕ) : Type 0 where
 
 -- a fresh start: 1, 2 and 3 are document 01's own, and every record is as HInit says
 pub record StartFollows (k view : ℕ) (settings : Settings) (table : List Record) (store : List ℕ) : Type 0 where
-  pub accepted : ((start k view settings table store).admission ≡ Admitted (newcomer k view settings))
+  pub accepted : ((start k view settings table store).admission ≡ Ok (newcomer k view settings))
       ↔ AllYes (question1 (newcomer k view settings) ∷ question2 (length table) (length store) ∷ question3 (newcomer k view settings) ∷ [])
-  pub does : (start k view settings table store).admission ≡ Admitted (newcomer k view settings) → (i : ℕ) → i < length table
+  pub does : (start k view settings table store).admission ≡ Ok (newcomer k view settings) → (i : ℕ) → i < length table
       → HInit view (vars_of i (record { me = newcomer k view settings; table = (start k view settings table store).table; store = (start k view settings table store).store }))
 
 module _ (wins : Orders) where

@@ -1,18 +1,15 @@
 -- The events on one record: the questions in the paper's order, and the step (01, "Steps" and "The questions, in order").
-use Rattle.std.specs.Prelude.{ℕ, zero, suc, Bool, true, false, List, [], ◌∷◌, length}
+use Rattle.std.specs.Prelude.{ℕ, zero, suc, Bool, true, false, List, [], ◌∷◌, length, Err, None, Ok, Some}
 use Rattle.hermes_record.specs.declared.timestamp.Timestamp.{Timestamp}
 use Rattle.hermes_record.specs.declared.record.Record.{Record}
 use Rattle.hermes_record.specs.declared.record.State.{State}
 use Rattle.hermes_record.specs.declared.record.State.TheVariants as state
 use Rattle.hermes.specs.declared.message.Message.{Message}
 use Rattle.hermes.specs.declared.message.Message.TheVariants.{Inv, Ack, Val}
-use Rattle.hermes.specs.declared.message.Outgoing.{Outgoing}
-use Rattle.hermes.specs.declared.message.Outgoing.TheVariants.{None, Sent}
+use Rattle.hermes.specs.Answer.{Outgoing, Answer, no}
 use Rattle.hermes.specs.declared.event.Replica.{Replica}
 use Rattle.hermes.specs.declared.event.Event.{Event}
 use Rattle.hermes.specs.declared.event.Event.TheVariants.{Read, Ask, Write, Commit, Replay, Deliver, Validate, Resend}
-use Rattle.hermes.specs.declared.event.Answer.{Answer}
-use Rattle.hermes.specs.declared.event.Answer.TheVariants.{Accepted, Refused}
 use Rattle.hermes.specs.declared.event.Moved.{Moved}
 use Rattle.hermes_record.specs.Members.{with, without}
 use Rattle.hermes_record.specs.Order.{Orders, later}
@@ -87,7 +84,7 @@ pub record Step : Type 0 where
 
 -- 01, "A leaving message carries the laptop's number and epoch and the record's number"
 abbrev pub send : Replica → ℕ → Message → Outgoing
-send me i m = Sent m (record { sender = me.number; epoch = me.epoch; index = i })
+send me i m = Some (m, record { sender = me.number; epoch = me.epoch; index = i })
 
 -- 01, Read: nothing moves
 abbrev pub read_step : Record → Step
@@ -158,18 +155,18 @@ module _ (wins : Orders) where
 
 -- 01, "The answer is one of these numbers, or 0 with the message": each case of an answer, by its number and its message
 abbrev pub answer_of : ℕ → Outgoing → Answer
-answer_of zero o = Accepted o
-answer_of (suc k) o = Refused (suc k)
+answer_of zero o = Ok o
+answer_of (suc k) o = Err (no (suc k))
 
 -- 01, "one of these numbers, or 0": the number of an answer
 abbrev pub number_of : Answer → ℕ
-number_of (Accepted o) = 0
-number_of (Refused k) = k
+number_of (Ok o) = 0
+number_of (Err k) = k.0
 
 -- 01, "0 with the message": what leaves with an answer
 abbrev pub sent_by : Answer → Outgoing
-sent_by (Accepted o) = o
-sent_by (Refused k) = None
+sent_by (Ok o) = o
+sent_by (Err k) = None
 
 -- 01, "value stored": the store after a step
 abbrev pub storing : ℕ → Stored → List ℕ → List ℕ
@@ -245,7 +242,7 @@ body_of (Val t) v = []
 -- the same of what leaves an event that left record r
 abbrev pub leaving_body : Outgoing → Record → List ℕ → List ℕ
 leaving_body None r store = []
-leaving_body (Sent m h) r store = body_of m (value_at h.index r.len store)
+leaving_body (Some (m, h)) r store = body_of m (value_at h.index r.len store)
 
 -- 01, Deliver INV, an ACK leaves "for its sender": the sender of the message that the event delivered, as a set
 abbrev pub sender_of : Event → ℕ
@@ -261,6 +258,6 @@ sender_of Resend = 0
 -- 01, "INV and VAL go to all others in the view"
 abbrev pub recipients : Replica → Event → Outgoing → ℕ
 recipients me e None = 0
-recipients me e (Sent (Inv t) h) = without me.view me.number
-recipients me e (Sent (Ack t) h) = sender_of e
-recipients me e (Sent (Val t) h) = without me.view me.number
+recipients me e (Some (Inv t, h)) = without me.view me.number
+recipients me e (Some (Ack t, h)) = sender_of e
+recipients me e (Some (Val t, h)) = without me.view me.number

@@ -1,11 +1,11 @@
 -- Demand 1, what an event changes: "an accepted event changes only the named record with its text, or the laptop's view; a refused one
 -- .. changes nothing lent".
-use Rattle.std.specs.Prelude.{ℕ, ◌+◌, ◌*◌, ◌≡◌, ◌≢◌, List, length, take, drop, replicate}
+use Rattle.std.specs.Prelude.{ℕ, ◌+◌, ◌*◌, ◌≡◌, ◌≢◌, List, length, take, drop, replicate, Err, Ok}
 use Rattle.hermes_record.specs.declared.record.Record.{Record}
 use Rattle.hermes.specs.declared.event.Replica.{Replica}
 use Rattle.hermes.specs.declared.event.Settings.{Settings}
 use Rattle.hermes.specs.declared.event.Event.{Event}
-use Rattle.hermes.specs.declared.event.Admission.TheVariants.{Admitted, Refused}
+use Rattle.hermes.specs.Answer.{no}
 use Rattle.hermes_record.specs.Order.{Orders}
 use Rattle.hermes.specs.Store.{slot, padded}
 use Rattle.hermes.specs.Event.{Stored, kept, placed, Step, step, number_of}
@@ -40,7 +40,7 @@ pub record ViewFrame (n : Node) (epoch set : ℕ) : Type 0 where
 
 -- a fresh start: every record fresh and the store zero, or all as found
 pub record StartFrame (k view : ℕ) (settings : Settings) (table : List Record) (store : List ℕ) : Type 0 where
-  pub accepted : (me : Replica) → (start k view settings table store).admission ≡ Admitted me
+  pub accepted : (me : Replica) → (start k view settings table store).admission ≡ Ok me
       → (me ≡ newcomer k view settings) × ((start k view settings table store).table ≡ replicate (length table) (first_record view)) × ((start k view settings table store).store ≡ replicate (length store) 0)
-  pub refused : (number : ℕ) → (start k view settings table store).admission ≡ Refused number
+  pub refused : (number : ℕ) → (start k view settings table store).admission ≡ Err (no number)
       → ((start k view settings table store).table ≡ table) × ((start k view settings table store).store ≡ store)

@@ -1,11 +1,10 @@
 -- 02, Wish 1, "The last acknowledgement settles the record": what an accepted ACK does; and that, until a view changes, no record waits although
 -- everyone has replied.
-use Rattle.std.specs.Prelude.{ℕ, ◌<◌, ◌≡◌, Bool, true, ◌⊎◌, ◌≢◌, List, [], ◌∷◌}
+use Rattle.std.specs.Prelude.{ℕ, ◌<◌, ◌≡◌, Bool, true, ◌⊎◌, ◌≢◌, List, [], ◌∷◌, None}
 use Rattle.hermes_record.specs.declared.timestamp.Timestamp.{Timestamp}
 use Rattle.hermes_record.specs.declared.record.Record.{Record}
 use Rattle.hermes_record.specs.declared.record.State.TheVariants.{Valid, Write, Replay}
 use Rattle.hermes.specs.declared.message.Message.TheVariants.{Ack, Val}
-use Rattle.hermes.specs.declared.message.Outgoing.TheVariants.{None}
 use Rattle.hermes.specs.declared.message.Received.{Received}
 use Rattle.hermes.specs.declared.event.Replica.{Replica}
 use Rattle.hermes.specs.declared.event.Settings.{Settings}

@@ -1,6 +1,7 @@
 -- What is right, rule by rule of document 01, lowest first.
 pub mod Kind
 pub mod Store
+pub mod Answer
 pub mod Guards
 pub mod Settings
 pub mod Event

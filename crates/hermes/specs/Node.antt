@@ -1,14 +1,10 @@
 -- A replica with its lent memory: the table of records and the store (01, "Laptop and record").
-use Rattle.std.specs.Prelude.{ℕ, zero, suc, List, [], ◌∷◌, length, get_or, set, replicate}
+use Rattle.std.specs.Prelude.{ℕ, zero, suc, List, [], ◌∷◌, length, get_or, set, replicate, Err, None, Ok, Some}
 use Rattle.hermes_record.specs.declared.record.Record.{Record}
-use Rattle.hermes.specs.declared.message.Outgoing.{Outgoing}
-use Rattle.hermes.specs.declared.message.Outgoing.TheVariants.{None, Sent}
+use Rattle.hermes.specs.Answer.{Outgoing, Answer, Admission, no}
 use Rattle.hermes.specs.declared.event.Replica.{Replica}
 use Rattle.hermes.specs.declared.event.Settings.{Settings}
 use Rattle.hermes.specs.declared.event.Event.{Event}
-use Rattle.hermes.specs.declared.event.Answer.{Answer}
-use Rattle.hermes.specs.declared.event.Admission.{Admission}
-use Rattle.hermes.specs.declared.event.Admission.TheVariants.{Admitted, Refused}
 use Rattle.hermes_record.specs.Members.{lowest}
 use Rattle.hermes_record.specs.Order.{Orders}
 use Rattle.hermes_record.specs.Record.{fresh_record}
@@ -41,7 +37,7 @@ value_of i n = value_at i (record_of i n).len n.store
 -- the number of the record that a message which left is about
 abbrev pub index_of : Outgoing → ℕ
 index_of None = 0
-index_of (Sent m h) = h.index
+index_of (Some (m, h)) = h.index
 
 -- the bytes that what left takes along, out of the memory that the event left
 abbrev pub leaving : Outgoing → List Record → List ℕ → List ℕ
@@ -77,18 +73,18 @@ asked n i = ask_hands n.me (length n.table) i (record_of i n) n.store
 
 -- each case of an admission, by its number and its identity
 abbrev pub admission_of : ℕ → Replica → Admission
-admission_of zero me = Admitted me
-admission_of (suc k) me = Refused (suc k)
+admission_of zero me = Ok me
+admission_of (suc k) me = Err (no (suc k))
 
 -- the identity after an admission
 abbrev pub identity : Admission → Replica → Replica
-identity (Admitted me) old = me
-identity (Refused k) old = old
+identity (Ok me) old = me
+identity (Err k) old = old
 
 -- 01, "one of these numbers, or 0": the number of an admission
 abbrev pub admission_number : Admission → ℕ
-admission_number (Admitted me) = 0
-admission_number (Refused k) = k
+admission_number (Ok me) = 0
+admission_number (Err k) = k.0
 
 -- 01, "A fresh start takes number, view and lent memory, and asks questions 1, 2 and 3 below. It sets epoch 0". 02, Wish 6: the
 -- settings are "fixed at a group's start"

@@ -1,9 +1,8 @@
 -- Who gets what leaves an event: "INV and VAL go to all others in the view", and an ACK leaves "for its sender", that of the INV (01, "Steps").
-use Rattle.std.specs.Prelude.{ℕ, ◌≡◌, true, ◌↔◌, ◌≢◌, List}
+use Rattle.std.specs.Prelude.{ℕ, ◌≡◌, true, ◌↔◌, ◌≢◌, List, None, Some}
 use Rattle.hermes_record.specs.declared.timestamp.Timestamp.{Timestamp}
 use Rattle.hermes.specs.declared.message.Message.TheVariants.{Inv, Ack, Val}
-use Rattle.hermes.specs.declared.message.Outgoing.{Outgoing}
-use Rattle.hermes.specs.declared.message.Outgoing.TheVariants.{None, Sent}
+use Rattle.hermes.specs.Answer.{Outgoing}
 use Rattle.hermes.specs.declared.message.Received.{Received}
 use Rattle.hermes.specs.declared.event.Replica.{Replica}
 use Rattle.hermes.specs.declared.event.Event.{Event}
@@ -33,9 +32,9 @@ pub record ForItsSender (me : Replica) (e : Event) (t : Timestamp) (to : ℕ) : 
 -- whom the set `to` has to be, of what leaves event e
 abbrev pub GoesTo : Replica → Event → Outgoing → ℕ → Type 0
 GoesTo me e None to = Exactly to (λ m. ⊥)
-GoesTo me e (Sent (Inv t) h) to = Exactly to (Other me)
-GoesTo me e (Sent (Ack t) h) to = ForItsSender me e t to
-GoesTo me e (Sent (Val t) h) to = Exactly to (Other me)
+GoesTo me e (Some (Inv t, h)) to = Exactly to (Other me)
+GoesTo me e (Some (Ack t, h)) to = ForItsSender me e t to
+GoesTo me e (Some (Val t, h)) to = Exactly to (Other me)
 
 -- what leaves an event on record i, with the value v
 abbrev pub leaves : Orders → Node → ℕ → Event → List ℕ → Outgoing

@@ -1,10 +1,9 @@
 -- Runs of a whole group (01, "Premises of agreement"): lists of entries, each an event of one replica, and the messages that left.
-use Rattle.std.specs.Prelude.{ℕ, zero, suc, cond, List, [], ◌∷◌, ◌++◌, eqb}
+use Rattle.std.specs.Prelude.{ℕ, zero, suc, cond, List, [], ◌∷◌, ◌++◌, eqb, None, Some}
 use Rattle.hermes_record.specs.declared.timestamp.Timestamp.{Timestamp}
 use Rattle.hermes.specs.declared.message.Message.{Message}
 use Rattle.hermes.specs.declared.message.Header.{Header}
-use Rattle.hermes.specs.declared.message.Outgoing.{Outgoing}
-use Rattle.hermes.specs.declared.message.Outgoing.TheVariants.{None, Sent}
+use Rattle.hermes.specs.Answer.{Outgoing}
 use Rattle.hermes.specs.declared.message.Received.{Received}
 use Rattle.hermes.specs.declared.event.Event.TheVariants.{Read, Ask, Write, Commit, Replay, Deliver, Validate, Resend}
 use Rattle.hermes_record.specs.Order.{Orders}
@@ -95,7 +94,7 @@ node_after (event o) n = o.node
 -- the log with what left, and the bytes that an INV took along: the record's value after the event
 abbrev pub logged : List Logged → Node → Outgoing → List Logged
 logged log n None = log
-logged log n (Sent m h) = log ++ (record { header = h; message = m; body = leaving (Sent m h) n.table n.store } ∷ [])
+logged log n (Some (m, h)) = log ++ (record { header = h; message = m; body = leaving (Some (m, h)) n.table n.store } ∷ [])
 
 -- 01, what left an entry can be delivered: the log after a result
 abbrev pub log_after : Result → List Logged → List Logged

@@ -1,6 +1,6 @@
 -- Demand 3 a second time, written from DEMANDS.md, document 01 and document 02's Wishes 1, 5 and 6 alone.
 -- What one laptop does to one event (Event, Node) is taken as given.
-use Rattle.std.specs.Prelude.{ℕ, ◌+◌, ◌*◌, ◌/◌, ◌%◌, ◌^◌, ◌<◌, ◌≡◌, ◌≢◌, ◌⊎◌, List, [], ◌∷◌, length, get_or, take, drop}
+use Rattle.std.specs.Prelude.{ℕ, ◌+◌, ◌*◌, ◌/◌, ◌%◌, ◌^◌, ◌<◌, ◌≡◌, ◌≢◌, ◌⊎◌, List, [], ◌∷◌, length, get_or, take, drop, None, Ok, Some}
 use Rattle.hermes_record.specs.declared.timestamp.Rule.{Rule}
 use Rattle.hermes_record.specs.declared.timestamp.Rule.TheVariants.{Higher, Lower}
 use Rattle.hermes_record.specs.declared.timestamp.Timestamp.{Timestamp}
@@ -10,10 +10,8 @@ use Rattle.hermes_record.specs.declared.record.State.TheVariants as state
 use Rattle.hermes_record.specs.Order.{ties}
 use Rattle.hermes.specs.declared.message.Message.{Message}
 use Rattle.hermes.specs.declared.message.Message.TheVariants.{Inv, Ack, Val}
-use Rattle.hermes.specs.declared.message.Outgoing.{Outgoing}
-use Rattle.hermes.specs.declared.message.Outgoing.TheVariants.{None, Sent}
+use Rattle.hermes.specs.Answer.{Outgoing}
 use Rattle.hermes.specs.declared.event.Event.TheVariants.{Read, Ask, Write, Commit, Replay, Deliver, Validate, Resend}
-use Rattle.hermes.specs.declared.event.Admission.TheVariants.{Admitted}
 use Rattle.hermes.specs.declared.event.Settings.{Settings}
 use Rattle.hermes.specs.Event.{number_of, sent_by}
 use Rattle.hermes.specs.Node.{Node, Outcome, record_of, apply, viewed, start}
@@ -100,7 +98,7 @@ bytes_with (Val t) i after = []
 -- 01, "The message that leaves an event is none, or one": m is what leaves, out of the memory after the event
 abbrev pub Leaves : Mail → Outgoing → Node → Type 0
 Leaves m None after = ⊥
-Leaves m (Sent kind h) after =
+Leaves m (Some (kind, h)) after =
     m ≡ record { sender = h.sender; epoch = h.epoch; number = h.index; kind = kind; bytes = bytes_with kind h.index after }
 
 -- 01, "A delivered message left an earlier entry, keeps the bytes it left with"
@@ -147,7 +145,7 @@ pub record FreshStart (first count : ℕ) (settings : Settings) (n : Node) : Typ
   pub table : List Record
   pub store : List ℕ
   pub records : length table ≡ count
-  pub accepted : start number first settings table store ≡ record { admission = Admitted n.me; table = n.table; store = n.store }
+  pub accepted : start number first settings table store ≡ record { admission = Ok n.me; table = n.table; store = n.store }
 
 -- 01, "The laptops of a group have different numbers"
 abbrev pub Different : List Node → Type 0

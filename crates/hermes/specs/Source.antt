@@ -2,14 +2,13 @@
 -- Completed as document 01 rules: HRcvInv after 003 and 004, the end of HSendVals after 003; the view for the alive nodes; values; the
 -- epoch and the record's number on messages. What 02's Wishes add stands beside the source's own, and says so. Nothing here uses the steps of `Event`.
 -- Its variables and words have this language's spelling: epochID is `epoch_id`. The page's stand in comments beside them.
-use Rattle.std.specs.Prelude.{ℕ, ◌+◌, ◌≤◌, ◌<◌, ◌≡◌, Bool, true, false, ◌⊎◌, ◌≢◌, ◌↔◌, List, [], ◌∷◌}
+use Rattle.std.specs.Prelude.{ℕ, ◌+◌, ◌≤◌, ◌<◌, ◌≡◌, Bool, true, false, ◌⊎◌, ◌≢◌, ◌↔◌, List, [], ◌∷◌, None, Some}
 use Rattle.hermes_record.specs.declared.timestamp.Timestamp.{Timestamp}
 use Rattle.hermes_record.specs.declared.record.State.{State}
 use Rattle.hermes_record.specs.declared.record.State.TheVariants.{Valid, Invalid, InvalidWrite, Write, Replay}
 use Rattle.hermes.specs.declared.message.Message.{Message}
 use Rattle.hermes.specs.declared.message.Message.TheVariants.{Inv, Ack, Val}
-use Rattle.hermes.specs.declared.message.Outgoing.{Outgoing}
-use Rattle.hermes.specs.declared.message.Outgoing.TheVariants.{None, Sent}
+use Rattle.hermes.specs.Answer.{Outgoing}
 use Rattle.hermes.specs.declared.event.Replica.{Replica}
 use Rattle.hermes_record.specs.Members.{has}
 
@@ -30,7 +29,7 @@ pub record Sending : Type 0 where
   pub body : List ℕ
 
 abbrev from : Replica → ℕ → Message → Outgoing
-from n i m = Sent m (record { sender = n.number; epoch = n.epoch; index = i })
+from n i m = Some (m, record { sender = n.number; epoch = n.epoch; index = i })
 
 -- UNCHANGED msgs
 abbrev pub silent : Sending

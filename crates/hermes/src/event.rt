@@ -1,6 +1,8 @@
 // A replica, its events and their answers.
 use crate::message::{Outgoing, Received};
 use hermes_record::{Record, Rule, Timestamp};
+use std::error::Error;
+use std::fmt;
 
 // What is fixed at a group's start, the same for all of its replicas (document 02): the rule of ties.
 #[derive(Clone, Copy)]
@@ -31,12 +33,21 @@ pub enum Event {
     Resend,
 }
 
-// The answer to an event: accepted, with what leaves; or the number of the question that said no.
-#[derive(Clone, Copy)]
-pub enum Answer {
-    Accepted(Outgoing),
-    Refused(u8),
+// A question said no: its number.
+#[derive(Clone, Copy, Debug, PartialEq, Eq)]
+pub struct Refused(pub u8);
+
+impl fmt::Display for Refused {
+    fn fmt<W: fmt::Write>(&self, f: &mut fmt::Formatter<W>) -> fmt::Result {
+        let number = self.0;
+        write!(f, "refused by question {number}")
+    }
 }
+
+impl Error for Refused {}
+
+// The answer to an event: accepted, with what leaves; or the question that said no.
+pub type Answer = Result<Outgoing, Refused>;
 
 // The answer, and the record as the event leaves it.
 #[derive(Clone, Copy)]
@@ -45,9 +56,5 @@ pub struct Moved {
     pub after: Record,
 }
 
-// The answer to a fresh start and to a view: the identity from then on, or the number of the question that said no.
-#[derive(Clone, Copy)]
-pub enum Admission {
-    Admitted(Replica),
-    Refused(u8),
-}
+// The answer to a fresh start and to a view: the identity from then on, or the question that said no.
+pub type Admission = Result<Replica, Refused>;

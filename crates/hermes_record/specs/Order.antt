@@ -1,8 +1,9 @@
 -- The order of timestamps (01, "The greater stamp has the greater version or, versions equal, the greater tie-breaker"; 02, Wish 6, "Comparing two
 -- stamps now depends on the rule"), over any strict total order of ties.
-use Rattle.std.specs.Prelude.{ℕ, ◌<◌, ◌≡◌, Bool, true, false, ◌&&◌, ◌||◌, ◌≢◌, ltb, eqb}
+use Rattle.std.specs.Prelude.{ℕ, ◌<◌, ◌≡◌, Bool, true, false, cond, ◌&&◌, ◌||◌, ◌≢◌, ltb, eqb, Result, Ok, Err}
 use Rattle.hermes_record.specs.declared.timestamp.Timestamp.{Timestamp}
 use Rattle.hermes_record.specs.declared.timestamp.Rule.{Rule}
+use Rattle.hermes_record.specs.declared.timestamp.UnknownRule.{UnknownRule}
 use Rattle.hermes_record.specs.declared.timestamp.Rule.TheVariants.{Higher, Lower}
 
 -- `wins a b`, tie-breaker a is the greater, is a strict total order
@@ -36,6 +37,10 @@ TieOrders wins = (rule : Rule) → TieOrder (wins rule)
 abbrev pub rule_number : Rule → ℕ
 rule_number Higher = 1
 rule_number Lower = 2
+
+-- the rule with this number, or no rule
+abbrev pub rule_of : ℕ → Result Rule UnknownRule
+rule_of n = cond (eqb n 1) (Ok Higher) (cond (eqb n 2) (Ok Lower) (Err (record { 0 = n })))
 
 -- s is the greater timestamp
 unfoldable pub later : (ℕ → ℕ → Bool) → Timestamp → Timestamp → Bool

@@ -1,9 +1,10 @@
 -- One record: its states, and what each step makes of it (01, "Steps").
-use Rattle.std.specs.Prelude.{ℕ, ◌+◌, Bool, false, cond, ◌||◌, List, [], ◌∷◌, ltb, eqb}
+use Rattle.std.specs.Prelude.{ℕ, ◌+◌, Bool, false, cond, ◌||◌, List, [], ◌∷◌, ltb, eqb, Result, Ok, Err}
 use Rattle.hermes_record.specs.declared.timestamp.Timestamp.{Timestamp}
 use Rattle.hermes_record.specs.declared.record.Record.{Record}
 use Rattle.hermes_record.specs.declared.record.State.{State}
 use Rattle.hermes_record.specs.declared.record.State.TheVariants.{Valid, Invalid, InvalidWrite, Write, Replay}
+use Rattle.hermes_record.specs.declared.record.UnknownState.{UnknownState}
 use Rattle.hermes_record.specs.Members.{with}
 
 -- a number for each state, to tell them apart
@@ -13,6 +14,10 @@ code Invalid = 1
 code InvalidWrite = 2
 code Write = 3
 code Replay = 4
+
+-- the state with this number, or no state
+abbrev pub state_of : ℕ → Result State UnknownState
+state_of n = cond (eqb n 0) (Ok Valid) (cond (eqb n 1) (Ok Invalid) (cond (eqb n 2) (Ok InvalidWrite) (cond (eqb n 3) (Ok Write) (cond (eqb n 4) (Ok Replay) (Err (record { 0 = n }))))))
 
 -- the state is one of those listed
 abbrev pub one_of : State → List State → Bool

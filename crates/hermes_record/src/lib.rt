@@ -6,5 +6,5 @@ mod record;
 mod timestamp;
 
 pub use members::with;
-pub use record::{Record, State};
-pub use timestamp::{Rule, Timestamp};
+pub use record::{Record, State, UnknownState};
+pub use timestamp::{Rule, Timestamp, UnknownRule};

@@ -1,11 +1,11 @@
 // One record, moved by value.
 ghost use Rattle.std.specs.Prelude.{◌≡◌};
-ghost use Rattle.hermes_record.specs.Record.{fresh_record, written_by, replayed, invalidated_state, invalidated, acknowledged, validated};
+ghost use Rattle.hermes_record.specs.Record.{code, state_of, fresh_record, written_by, replayed, invalidated_state, invalidated, acknowledged, validated};
 
 use crate::members::with;
 use crate::timestamp::Timestamp;
 
-#[derive(Clone, Copy)]
+#[derive(Clone, Copy, Debug, PartialEq, Eq)]
 pub enum State {
     Valid,
     Invalid,
@@ -14,9 +14,54 @@ pub enum State {
     Replay,
 }
 
+// A number that no state has.
+#[derive(Clone, Copy, Debug, PartialEq, Eq)]
+pub struct UnknownState(pub u8);
+
+impl State {
+    // What a taken invalidation makes of a state.
+    fn invalidated(self) -> State
+        ensures { result ≡ invalidated_state self }
+    {
+        match self {
+            State::Valid => State::Invalid,
+            State::Invalid => State::Invalid,
+            State::InvalidWrite => State::InvalidWrite,
+            State::Write => State::InvalidWrite,
+            State::Replay => State::Invalid,
+        }
+    }
+}
+
+// The states by their numbers, as a record's bytes have them.
+impl From<State> for u8 {
+    ghost from_gives = { λ state number. number ≡ code state };
+
+    fn from(state: State) -> u8 {
+        state as u8
+    }
+}
+
+impl TryFrom<u8> for State {
+    type Error = UnknownState;
+
+    ghost try_from_gives = { λ number state. state ≡ state_of number };
+
+    fn try_from(number: u8) -> Result<State, UnknownState> {
+        match number {
+            0 => Ok(State::Valid),
+            1 => Ok(State::Invalid),
+            2 => Ok(State::InvalidWrite),
+            3 => Ok(State::Write),
+            4 => Ok(State::Replay),
+            _ => Err(UnknownState(number)),
+        }
+    }
+}
+
 // `writer` is the last writer, `written` the last-write timestamp, `acks` the set of replicas whose acknowledgement has come,
 // `len` the value's length.
-#[derive(Clone, Copy)]
+#[derive(Clone, Copy, Debug, PartialEq, Eq)]
 pub struct Record {
     pub state: State,
     pub timestamp: Timestamp,
@@ -36,7 +81,7 @@ impl Record {
     // The greatest number of a replica.
     pub const NUMBER_MAX: u8 = 15;
 
-    pub const VERSION_MAX: u32 = 4294967295;
+    pub const VERSION_MAX: u32 = u32::MAX;
 
     // The record of a fresh start, whose view has this lowest number.
     pub fn fresh(lowest: u8) -> Record
@@ -47,7 +92,7 @@ impl Record {
             tie: lowest,
         };
         Record {
-            state: State::Valid, // fresh
+            state: State::Valid,
             timestamp: first,
             writer: lowest,
             written: first,
@@ -60,13 +105,8 @@ impl Record {
     pub fn write(self, me: u8, len: u8) -> Record
         ensures { result ≡ written_by self me len }
     {
-        let old = self.timestamp.version;
-        let mut version = old;
-        if old < Self::VERSION_MAX {
-            version = old + 1;
-        }
         let next = Timestamp {
-            version: version,
+            version: self.timestamp.version.saturating_add(1),
             tie: me,
         };
         Record {
@@ -74,8 +114,8 @@ impl Record {
             timestamp: next,
             writer: me,
             written: next,
-            acks: 0, // emptied by a write
-            len: len,
+            acks: 0,
+            len,
         }
     }
 
@@ -83,14 +123,12 @@ impl Record {
     pub fn replay(self, me: u8) -> Record
         ensures { result ≡ replayed self me }
     {
-        let kept = self.timestamp;
         Record {
             state: State::Replay,
-            timestamp: kept,
             writer: me,
-            written: kept,
-            acks: 0, // emptied by a replay
-            len: self.len,
+            written: self.timestamp,
+            acks: 0,
+            ..self
         }
     }
 
@@ -98,53 +136,32 @@ impl Record {
     pub fn take_invalidation(self, timestamp: Timestamp, sender: u8, len: u8) -> Record
         ensures { result ≡ invalidated self timestamp sender len }
     {
-        let own = self.written;
-        let old = self.state;
-        let next = invalidated_state(old);
         Record {
-            state: next,
-            timestamp: timestamp,
+            state: self.state.invalidated(),
+            timestamp,
             writer: sender,
-            written: own,
-            acks: self.acks,
-            len: len,
+            len,
+            ..self
         }
     }
 
     // An acknowledgement is counted.
-    pub fn acknowledge(mut self, sender: u8) -> Record
+    pub fn acknowledge(self, sender: u8) -> Record
         ensures { result ≡ acknowledged self sender }
     {
-        self.acks = with(self.acks, sender);
-        self
+        Record {
+            acks: with(self.acks, sender),
+            ..self
+        }
     }
 
     // The record becomes valid.
     pub fn validate(self) -> Record
         ensures { result ≡ validated self }
     {
-        let now = self.timestamp;
-        let own = self.written;
         Record {
             state: State::Valid, // the one change
-            timestamp: now,
-            writer: self.writer,
-            written: own,
-            acks: self.acks,
-            len: self.len,
+            ..self
         }
-    }
-}
-
-// What a taken invalidation makes of a state.
-fn invalidated_state(state: State) -> State
-    ensures { result ≡ invalidated_state state }
-{
-    match state {
-        State::Valid => State::Invalid,
-        State::Invalid => State::Invalid,
-        State::InvalidWrite => State::InvalidWrite,
-        State::Write => State::InvalidWrite,
-        State::Replay => State::Invalid,
     }
 }
