@@ -15,9 +15,9 @@ use Rattle.hermes_record.proofs.Tests.{alike, or-false, or-true}
 use Rattle.hermes.proofs.Members.{bit, bit-small, and-bit, same_bits, has-small, member-bit, bit-member, all_same, within-members, members-within, has-with}
 
 -- question 15, with one set for the acknowledgements and the own number
-pub others-within : (n view s : ℕ) → others_in n view s ≡ within view (with s n)
+pub others_within : (n view s : ℕ) → others_in n view s ≡ within view (with s n)
 unfolding others_in within
-others-within n view s =
+others_within n view s =
     all_same 16 (λ (m : ℕ). not (has view m) || (eqb m n || has s m)) (λ (m : ℕ). not (has view m) || has (with s n) m)
     (λ m l. ap (λ (b : Bool). not (has view m) || b) (go m l (ℕ_discrete m n) ∙ sym (has-with s n m)))
   where
@@ -26,8 +26,8 @@ others-within n view s =
     go m l (no d) = rw (ne_eqb m n d) (sym (or-false (has s m)))
 
 -- `a & b == a`
-pub and-within : (a b : ℕ) → a < 2 ^ 16 → b < 2 ^ 16 → eqb (bit_and a b) a ≡ within a b
-and-within a b ha hb = alike (eqb (bit_and a b) a) (within a b) to from
+pub and_within : (a b : ℕ) → a < 2 ^ 16 → b < 2 ^ 16 → eqb (bit_and a b) a ≡ within a b
+and_within a b ha hb = alike (eqb (bit_and a b) a) (within a b) to from
   where
     to : eqb (bit_and a b) a ≡ true → within a b ≡ true
     to e = members-within a b (λ m k. bit-member b m (has-small a m k)
@@ -63,9 +63,9 @@ count_ones (suc k) s l =
     one (suc zero) h = refl
     one (suc (suc d)) h = absurd (omega arith)
 
-pub size-ones : (s : ℕ) → s < 2 ^ 16 → size s ≡ ones s
+pub size_ones : (s : ℕ) → s < 2 ^ 16 → size s ≡ ones s
 unfolding size
-size-ones s h = count_ones 16 s (omega arith) ∙ ap ones (mod-eq_of_lt h)
+size_ones s h = count_ones 16 s (omega arith) ∙ ap ones (mod-eq_of_lt h)
 
 -- `trailing_zeros`
 lowest-from : (f k s : ℕ) → k + f ≤ 16 → lowest_from f k s ≡ k + count_trailing_zeros f (s / 2 ^ k)
@@ -87,9 +87,9 @@ lowest-from (suc f) k s l = go (s / 2 ^ k % 2) refl (lowest-from f (suc k) s (om
     go zero e h = rw (here, e, h, rest) (omega arith)
     go (suc d) e h = rw (here, e, eq-eqb (suc d) 1 (omega arith)) (omega arith)
 
-pub lowest-zeros : (s : ℕ) → lowest s ≡ count_trailing_zeros 16 s
+pub lowest_zeros : (s : ℕ) → lowest s ≡ count_trailing_zeros 16 s
 unfolding lowest
-lowest-zeros s = lowest-from 16 0 s (omega arith) ∙ first (count_trailing_zeros 16 (s / 1)) ∙ ap (count_trailing_zeros 16) whole
+lowest_zeros s = lowest-from 16 0 s (omega arith) ∙ first (count_trailing_zeros 16 (s / 1)) ∙ ap (count_trailing_zeros 16) whole
   where
     first : (x : ℕ) → 0 + x ≡ x
     first x = omega arith
