@@ -7,80 +7,46 @@ ghost use Rattle.hermes.specs.Guards.{ask, question1, question2, question3, ques
 ghost use Rattle.hermes.specs.Node.{start_questions};
 ghost use Rattle.replica_asking.specs.Cascade.{asked, beforehand, stopped_by};
 
-use hermes::{Answer, Moved, Outgoing, Record, Replica, Timestamp};
+use hermes::{Moved, Record, Refused, Replica};
 
-// What a question answers: the record, passed on, or its own number.
-#[derive(Clone, Copy)]
-pub enum Asked {
-    Passed(Record),
-    Refused(u8),
-}
-
-// The record as it is, field by field: a copy of the whole would take its padding along, byte by byte.
-fn same(r: Record) -> Record
-    ensures { result ≡ r }
-{
-    let state = r.state;
-    let now = Timestamp {
-        version: r.timestamp.version,
-        tie: r.timestamp.tie,
-    };
-    let own = Timestamp {
-        version: r.written.version,
-        tie: r.written.tie,
-    };
-    Record {
-        state: state,
-        timestamp: now,
-        writer: r.writer,
-        written: own,
-        acks: r.acks,
-        len: r.len,
-    }
-}
+// What a question answers: the record, passed on, or its own number. So `?` after a question goes on after a yes, and ends at a no.
+pub type Asked = Result<Record, Refused>;
 
 // A question of this number, answered.
 pub fn question(number: u8, yes: bool, r: Record) -> Asked
     ensures { result ≡ asked (ask number yes ∷ []) r }
 {
-    if yes {
-        Asked::Passed(same(r))
-    } else {
-        Asked::Refused(number)
-    }
+    if yes { Ok(r) } else { Err(Refused(number)) }
 }
 
 // The end of an event that a question refused.
 pub fn stopped(a: Asked, r: Record) -> Moved
     ensures { result ≡ stopped_by a r }
 {
-    match a {
-        Asked::Refused(k) => Moved {
-            answer: Answer::Refused(k),
-            after: same(r),
-        },
-        Asked::Passed(_) => Moved {
-            answer: Answer::Accepted(Outgoing::None),
-            after: r,
-        },
+    Moved {
+        answer: a.map(|_| None),
+        after: r,
     }
 }
 
 pub fn question1(me: Replica, r: Record) -> Asked
     ensures { result ≡ asked (question1 me ∷ []) r }
 {
-    let two = replica_members::plural(me.view);
-    question(1, (me.number <= Record::NUMBER_MAX) & two, r)
+    question(
+        1,
+        me.number <= Record::NUMBER_MAX && replica_members::plural(me.view),
+        r,
+    )
 }
 
 pub fn question2(count: usize, bytes: usize, r: Record) -> Asked
     ensures { result ≡ asked (question2 count bytes ∷ []) r }
 {
-    if count <= Record::COUNT_MAX {
-        question(2, (1 <= count) & (bytes == Record::VALUE_MAX * count), r)
-    } else {
-        Asked::Refused(2)
-    }
+    question(
+        2,
+        1 <= count && count <= Record::COUNT_MAX && bytes == Record::VALUE_MAX * count,
+        r,
+    )
 }
 
 pub fn question3(me: Replica, r: Record) -> Asked
@@ -95,21 +61,17 @@ pub fn question4(i: usize, count: usize, r: Record) -> Asked
     question(4, i < count, r)
 }
 
-// The acknowledgements by themselves: the compiler then tests the one bit where it stands.
+// The acknowledgements first: the compiler then tests the one bit where it stands.
 pub fn question5(me: Replica, r: Record) -> Asked
     ensures { result ≡ asked (question5 me r ∷ []) r }
 {
-    let counted = replica_members::has(r.acks, me.number);
-    if counted {
-        return Asked::Refused(5);
-    }
-    let short = r.len as usize <= Record::VALUE_MAX;
     question(
         5,
-        short
-            & (r.timestamp.tie <= Record::NUMBER_MAX)
-            & (r.written.tie <= Record::NUMBER_MAX)
-            & (r.writer <= Record::NUMBER_MAX),
+        !replica_members::has(r.acks, me.number)
+            && r.len as usize <= Record::VALUE_MAX
+            && r.timestamp.tie <= Record::NUMBER_MAX
+            && r.written.tie <= Record::NUMBER_MAX
+            && r.writer <= Record::NUMBER_MAX,
         r,
     )
 }
@@ -118,26 +80,17 @@ pub fn question5(me: Replica, r: Record) -> Asked
 pub fn at_start(me: Replica, count: usize, bytes: usize, r: Record) -> Asked
     ensures { result ≡ asked (start_questions me count bytes) r }
 {
-    let a = question1(me, r);
-    let Asked::Passed(r1) = a else {
-        return a;
-    };
-    let b = question2(count, bytes, r1);
-    let Asked::Passed(r2) = b else {
-        return b;
-    };
-    question3(me, r2)
+    let r = question1(me, r)?;
+    let r = question2(count, bytes, r)?;
+    question3(me, r)
 }
 
 // Questions 1 to 4, of every event on a record: they look at none.
 pub fn beforehand(me: Replica, count: usize, bytes: usize, i: usize, r: Record) -> Asked
     ensures { result ≡ asked (beforehand me count bytes i) r }
 {
-    let a = at_start(me, count, bytes, r);
-    let Asked::Passed(r1) = a else {
-        return a;
-    };
-    question4(i, count, r1)
+    let r = at_start(me, count, bytes, r)?;
+    question4(i, count, r)
 }
 
 // Questions 1 to 5, of every event.
@@ -145,9 +98,6 @@ pub fn beforehand(me: Replica, count: usize, bytes: usize, i: usize, r: Record) 
 pub fn every(me: Replica, count: usize, bytes: usize, i: usize, r: Record) -> Asked
     ensures { result ≡ asked (common me count bytes i r []) r }
 {
-    let a = beforehand(me, count, bytes, i, r);
-    let Asked::Passed(r1) = a else {
-        return a;
-    };
-    question5(me, r1)
+    let r = beforehand(me, count, bytes, i, r)?;
+    question5(me, r)
 }
