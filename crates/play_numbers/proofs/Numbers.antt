@@ -11,8 +11,7 @@ use lib.Dec.{T, ltb, leb, eqb}
 use lib.ListN.{length, drop, get_or, drop_of_length-le, length-append}
 use lib.Seq.{drop-cons}
 use Rattle.play_numbers.specs.Number.{digits, decimal, is_digit, more, word_number, Below}
-use Rattle.play_numbers.specs.declared.number.Number.{Number}
-use Rattle.play_numbers.specs.declared.number.Number.TheVariants.{Value, NotANumber}
+use Rattle.std.specs.Prelude.{Option, None, Some}
 
 zero_one : ◌≡◌ {A = ℕ} 0 1 → ⊥
 zero_one z = omega arith
@@ -70,15 +69,15 @@ length-decimal n = length_digits 10 n
 
 -- ---- reading digit by digit
 
-pub more-end : (limit v k : ℕ) (s : List ℕ) → length s ≤ k → more limit v (drop k s) ≡ Value v
+pub more_end : (limit v k : ℕ) (s : List ℕ) → length s ≤ k → more limit v (drop k s) ≡ Some v
 unfolding more
-more-end limit v k s h = ap (more limit v) (drop_of_length-le s h)
+more_end limit v k s h = ap (more limit v) (drop_of_length-le s h)
 
-pub more-step : (limit v k : ℕ) (s : List ℕ) → k < length s
+pub more_step : (limit v k : ℕ) (s : List ℕ) → k < length s
     → more limit v (drop k s)
-    ≡ cond (is_digit (get_or s k 0) && ltb (v * 10 + (get_or s k 0 - 48)) limit) (more limit (v * 10 + (get_or s k 0 - 48)) (drop (k + 1) s)) NotANumber
+    ≡ cond (is_digit (get_or s k 0) && ltb (v * 10 + (get_or s k 0 - 48)) limit) (more limit (v * 10 + (get_or s k 0 - 48)) (drop (k + 1) s)) None
 unfolding more
-more-step limit v k s h = rw (add-one k) (ap (more limit v) (drop-cons s k 0 h))
+more_step limit v k s h = rw (add-one k) (ap (more limit v) (drop-cons s k 0 h))
 
 pub digit-range : (b : ℕ) → is_digit b ≡ true → (48 ≤ b) × (b ≤ 57)
 digit-range b h = go (leb 48 b) refl h
@@ -88,14 +87,6 @@ digit-range b h = go (leb 48 b) refl h
     go false e r = absurd (subst T (sym r) tt)
 
 module _ (limit : ℕ) (s : List ℕ) where
-  pub number-empty : length s < 1 → NotANumber ≡ word_number limit s
-  unfolding word_number
-  number-empty h = simp (lt-leb _ _ h)
-
-  pub number-zero : 1 ≤ length s → get_or s 0 0 ≡ 48 → 2 ≤ length s → NotANumber ≡ word_number limit s
-  unfolding word_number
-  number-zero h z l = simp (le-leb _ _ h, eq-eqb _ _ z, le-leb _ _ l)
-
   pub number-one : 1 ≤ length s → get_or s 0 0 ≡ 48 → length s < 2 → more limit 0 s ≡ word_number limit s
   unfolding word_number
   number-one h z l = simp (le-leb _ _ h, eq-eqb _ _ z, lt-leb _ _ l)
@@ -112,7 +103,7 @@ more-below limit v [] h = h
 more-below limit v (b ∷ s) h = go (is_digit b) (ltb (v * 10 + (b - 48)) limit) refl (λ l. more-below limit (v * 10 + (b - 48)) s l)
   where
     go : (d t : Bool) → ltb (v * 10 + (b - 48)) limit ≡ t → (v * 10 + (b - 48) < limit → Below limit (more limit (v * 10 + (b - 48)) s))
-        → Below limit (cond (d && t) (more limit (v * 10 + (b - 48)) s) NotANumber)
+        → Below limit (cond (d && t) (more limit (v * 10 + (b - 48)) s) None)
     go true true q r = r (ltb-true _ _ q)
     go true false q r = omega arith
     go false t q r = omega arith
@@ -121,7 +112,7 @@ pub number-below : (limit : ℕ) (s : List ℕ) → 0 < limit → Below limit (w
 unfolding word_number
 number-below limit s h = go (leb 1 (length s)) (eqb (get_or s 0 0) 48 && leb 2 (length s))
   where
-    go : (a b : Bool) → Below limit (cond a (cond b NotANumber (more limit 0 s)) NotANumber)
+    go : (a b : Bool) → Below limit (cond a (cond b None (more limit 0 s)) None)
     go true true = h
     go true false = more-below limit 0 s h
     go false b = h
@@ -129,10 +120,10 @@ number-below limit s h = go (leb 1 (length s)) (eqb (get_or s 0 0) 48 && leb 2 (
 -- ---- a number printed reads back
 
 -- digits one at a time: the last digit of a text
-and_more : ℕ → Number → List ℕ → Number
+and_more : ℕ → Option ℕ → List ℕ → Option ℕ
 unfolding more
-and_more limit (Value v) s = more limit v s
-and_more limit NotANumber s = NotANumber
+and_more limit (Some v) s = more limit v s
+and_more limit None s = None
 
 more-append : (limit v : ℕ) (a b : List ℕ) → more limit v (a ++ b) ≡ and_more limit (more limit v a) b
 unfolding more and_more
@@ -140,28 +131,28 @@ more-append limit v [] b = refl
 more-append limit v (x ∷ a) b = go (is_digit x && ltb (v * 10 + (x - 48)) limit) (more-append limit (v * 10 + (x - 48)) a b)
   where
     go : (t : Bool) → more limit (v * 10 + (x - 48)) (a ++ b) ≡ and_more limit (more limit (v * 10 + (x - 48)) a) b
-        → cond t (more limit (v * 10 + (x - 48)) (a ++ b)) NotANumber ≡ and_more limit (cond t (more limit (v * 10 + (x - 48)) a) NotANumber) b
+        → cond t (more limit (v * 10 + (x - 48)) (a ++ b)) None ≡ and_more limit (cond t (more limit (v * 10 + (x - 48)) a) None) b
     go true e = e
     go false e = refl
 
-more-one : (limit v d : ℕ) → d < 10 → v * 10 + d < limit → more limit v ((48 + d) ∷ []) ≡ Value (v * 10 + d)
+more-one : (limit v d : ℕ) → d < 10 → v * 10 + d < limit → more limit v ((48 + d) ∷ []) ≡ Some (v * 10 + d)
 unfolding more
 more-one limit v d h l =
     let e : 48 + d - 48 ≡ d = omega arith in
     simp (e, le-leb 48 (48 + d) (omega arith), le-leb (48 + d) 57 (omega arith), lt-ltb (v * 10 + d) limit l)
 
-small : (limit n : ℕ) → n < 10 → n < limit → more limit 0 (decimal n) ≡ Value n
+small : (limit n : ℕ) → n < 10 → n < limit → more limit 0 (decimal n) ≡ Some n
 small limit n t l =
     let z : 0 * 10 + n ≡ n = omega arith in
-    ap (more limit 0) (decimal-small n t) ∙ more-one limit 0 n t (omega arith) ∙ ap Value z
+    ap (more limit 0) (decimal-small n t) ∙ more-one limit 0 n t (omega arith) ∙ ap Some z
 
-large : (limit n : ℕ) → 10 ≤ n → n < 2 ^ 32 → n < limit → more limit 0 (decimal (n / 10)) ≡ Value (n / 10) → more limit 0 (decimal n) ≡ Value n
+large : (limit n : ℕ) → 10 ≤ n → n < 2 ^ 32 → n < limit → more limit 0 (decimal (n / 10)) ≡ Some (n / 10) → more limit 0 (decimal n) ≡ Some n
 unfolding and_more
 large limit n t b l r =
     let z : n / 10 * 10 + n % 10 ≡ n = omega arith in
     ap (more limit 0) (decimal-large n t b) ∙ more-append limit 0 (decimal (n / 10)) ((48 + n % 10) ∷ [])
-    ∙ ap (λ (x : Number). and_more limit x ((48 + n % 10) ∷ [])) r
-    ∙ more-one limit (n / 10) (n % 10) (omega arith) (omega arith) ∙ ap Value z
+    ∙ ap (λ (x : Option ℕ). and_more limit x ((48 + n % 10) ∷ [])) r
+    ∙ more-one limit (n / 10) (n % 10) (omega arith) (omega arith) ∙ ap Some z
 
 tenth : (f n : ℕ) → n < 10 ^ suc f → n / 10 < 10 ^ f
 tenth f n h = let h1 : n < 10 ^ f * 10 = rw pow-suc at h in omega arith
@@ -175,9 +166,9 @@ by-tens P z s (suc f) n h b = go (ltb n 10) refl (λ t. by-tens P z s f (n / 10)
     go true e r = z n (ltb-true n 10 e)
     go false e r = s n (ltb-false n 10 e) b (r (ltb-false n 10 e))
 
-more-decimal : (limit n : ℕ) → n < 2 ^ 32 → n < limit → more limit 0 (decimal n) ≡ Value n
+more-decimal : (limit n : ℕ) → n < 2 ^ 32 → n < limit → more limit 0 (decimal n) ≡ Some n
 more-decimal limit n b l =
-    by-tens (λ (n : ℕ). n < limit → more limit 0 (decimal n) ≡ Value n) (λ n t. small limit n t) (λ n t b r l. large limit n t b l (r (omega arith))) 10 n (omega arith) b l
+    by-tens (λ (n : ℕ). n < limit → more limit 0 (decimal n) ≡ Some n) (λ n t. small limit n t) (λ n t b r l. large limit n t b l (r (omega arith))) 10 n (omega arith) b l
 
 some : (n : ℕ) → n < 2 ^ 32 → 1 ≤ length (decimal n)
 some n b =
@@ -205,10 +196,10 @@ first-digit n b l =
     (λ n t b r l e. r (omega arith) (sym (head-append (decimal (n / 10)) ((48 + n % 10) ∷ []) (some (n / 10) (omega arith))) ∙ sym (ap (λ (x : List ℕ). get_or x 0 0) (decimal-large n t b)) ∙ e))
     10 n (omega arith) b l
 
-pub printed-reads : (limit n : ℕ) → limit ≤ 2 ^ 32 → n < limit → word_number limit (decimal n) ≡ Value n
+pub printed-reads : (limit n : ℕ) → limit ≤ 2 ^ 32 → n < limit → word_number limit (decimal n) ≡ Some n
 printed-reads limit n h l = go (eqb n 0) refl
   where
-    go : (t : Bool) → eqb n 0 ≡ t → word_number limit (decimal n) ≡ Value n
+    go : (t : Bool) → eqb n 0 ≡ t → word_number limit (decimal n) ≡ Some n
     go true e = let z = eqb-true n 0 e in sym (number-one limit (decimal n) (some n (omega arith)) (zero-digit n z) (length-zero n z)) ∙ more-decimal limit n (omega arith) l
     go false e = sym (number_more limit (decimal n) (some n (omega arith)) (first-digit n (omega arith) (above n (eqb-false n 0 e)))) ∙ more-decimal limit n (omega arith) l
 
@@ -222,14 +213,14 @@ push v b p d h =
     let q2 : 48 + (v * 10 + (b - 48)) % 10 ≡ b = omega arith in
     decimal-large (v * 10 + (b - 48)) (omega arith) h ∙ (λ i. decimal (q1 i) ++ (q2 i ∷ []))
 
-read_more : (limit v n : ℕ) (s : List ℕ) → limit ≤ 2 ^ 32 → 0 < v → more limit v s ≡ Value n → decimal v ++ s ≡ decimal n
+read_more : (limit v n : ℕ) (s : List ℕ) → limit ≤ 2 ^ 32 → 0 < v → more limit v s ≡ Some n → decimal v ++ s ≡ decimal n
 unfolding more
 read_more limit v n [] h p e = append-nil (decimal v) ∙ ap decimal (let q : v ≡ n = cc in q)
 read_more limit v n (b ∷ s) h p e = go (is_digit b) refl (ltb (v * 10 + (b - 48)) limit) refl (λ q d. read_more limit (v * 10 + (b - 48)) n s h (omega arith)) e
   where
     go : (d : Bool) → is_digit b ≡ d → (t : Bool) → ltb (v * 10 + (b - 48)) limit ≡ t
-        → (v * 10 + (b - 48) < limit → is_digit b ≡ true → more limit (v * 10 + (b - 48)) s ≡ Value n → decimal (v * 10 + (b - 48)) ++ s ≡ decimal n)
-        → cond (d && t) (more limit (v * 10 + (b - 48)) s) NotANumber ≡ Value n → decimal v ++ (b ∷ s) ≡ decimal n
+        → (v * 10 + (b - 48) < limit → is_digit b ≡ true → more limit (v * 10 + (b - 48)) s ≡ Some n → decimal (v * 10 + (b - 48)) ++ s ≡ decimal n)
+        → cond (d && t) (more limit (v * 10 + (b - 48)) s) None ≡ Some n → decimal v ++ (b ∷ s) ≡ decimal n
     go true ed true et r e =
         sym (append_assoc (decimal v) (b ∷ []) s)
         ∙ ap (λ (l : List ℕ). l ++ s) (sym (push v b p ed (less (ltb-true _ _ et))))
@@ -247,7 +238,7 @@ first b d =
     decimal-small (0 * 10 + (b - 48)) (omega arith) ∙ ap (λ (x : ℕ). x ∷ []) q
 
 -- the value of a first digit decides: above 0 the rest goes on, and after a zero there is no rest
-from_first : (limit n b : ℕ) (s : List ℕ) → limit ≤ 2 ^ 32 → is_digit b ≡ true → (b ≡ 48 → length (b ∷ s) < 2) → more limit (0 * 10 + (b - 48)) s ≡ Value n → (t : Bool) → ltb 0 (0 * 10 + (b - 48)) ≡ t
+from_first : (limit n b : ℕ) (s : List ℕ) → limit ≤ 2 ^ 32 → is_digit b ≡ true → (b ≡ 48 → length (b ∷ s) < 2) → more limit (0 * 10 + (b - 48)) s ≡ Some n → (t : Bool) → ltb 0 (0 * 10 + (b - 48)) ≡ t
     → b ∷ s ≡ decimal n
 unfolding more
 from_first limit n b s h d z e true et = ap (λ (l : List ℕ). l ++ s) (sym (first b d)) ∙ read_more limit (0 * 10 + (b - 48)) n s h (ltb-true _ _ et) e
@@ -257,13 +248,13 @@ from_first limit n b (c ∷ s) h d z e false et = let r = digit-range b d in let
     long : suc (suc (length s)) < 2 → ⊥
     long l = omega arith
 
-pub read-printed : (limit n : ℕ) (s : List ℕ) → limit ≤ 2 ^ 32 → word_number limit s ≡ Value n → s ≡ decimal n
+pub read-printed : (limit n : ℕ) (s : List ℕ) → limit ≤ 2 ^ 32 → word_number limit s ≡ Some n → s ≡ decimal n
 unfolding word_number more
 read-printed limit n [] h e = let z : ◌≡◌ {A = ℕ} 0 1 = cc in absurd (zero_one z)
 read-printed limit n (b ∷ s) h e = go (leb 1 (length (b ∷ s))) (eqb b 48) refl (leb 2 (length (b ∷ s))) refl (is_digit b) refl (ltb (0 * 10 + (b - 48)) limit) e
   where
     go : (a p : Bool) → eqb b 48 ≡ p → (q : Bool) → leb 2 (length (b ∷ s)) ≡ q → (d : Bool) → is_digit b ≡ d → (t : Bool)
-        → cond a (cond (p && q) NotANumber (cond (d && t) (more limit (0 * 10 + (b - 48)) s) NotANumber)) NotANumber ≡ Value n → b ∷ s ≡ decimal n
+        → cond a (cond (p && q) None (cond (d && t) (more limit (0 * 10 + (b - 48)) s) None)) None ≡ Some n → b ∷ s ≡ decimal n
     go true true ep true eq d ed t e = let z : ◌≡◌ {A = ℕ} 0 1 = cc in absurd (zero_one z)
     go true true ep false eq true ed true e = from_first limit n b s h ed (λ y. leb-false 2 (length (b ∷ s)) eq) e (ltb 0 (0 * 10 + (b - 48))) refl
     go true true ep false eq true ed false e = let z : ◌≡◌ {A = ℕ} 0 1 = cc in absurd (zero_one z)

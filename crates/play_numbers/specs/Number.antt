@@ -1,7 +1,5 @@
 -- Numbers as text: how one is printed, and what a word is as a number (01, "The playing program").
-use Rattle.std.specs.Prelude.{ℕ, zero, suc, ◌+◌, ◌*◌, ◌-◌, ◌/◌, ◌%◌, ◌<◌, Bool, cond, ◌&&◌, List, [], ◌∷◌, ◌++◌, length, get_or, ltb, leb, eqb}
-use Rattle.play_numbers.specs.declared.number.Number.{Number}
-use Rattle.play_numbers.specs.declared.number.Number.TheVariants.{Value, NotANumber}
+use Rattle.std.specs.Prelude.{ℕ, zero, suc, ◌+◌, ◌*◌, ◌-◌, ◌/◌, ◌%◌, ◌<◌, Bool, cond, ◌&&◌, List, [], ◌∷◌, ◌++◌, length, get_or, ltb, leb, eqb, Option, None, Some}
 
 -- the decimal digits of n, which is below 10 to the f
 unfoldable pub digits : ℕ → ℕ → List ℕ
@@ -16,17 +14,17 @@ abbrev pub is_digit : ℕ → Bool
 is_digit b = leb 48 b && leb b 57
 
 -- the number that further digits make of v, while it stays below the limit
-unfoldable pub more : ℕ → ℕ → List ℕ → Number
-more limit v [] = Value v
+unfoldable pub more : ℕ → ℕ → List ℕ → Option ℕ
+more limit v [] = Some v
 more limit v (b ∷ bs) =
-    cond (is_digit b && ltb (v * 10 + (b - 48)) limit) (more limit (v * 10 + (b - 48)) bs) NotANumber
+    cond (is_digit b && ltb (v * 10 + (b - 48)) limit) (more limit (v * 10 + (b - 48)) bs) None
 
 -- 01, "a number has no leading zero and fits its width": a whole word as a number below the limit
-unfoldable pub word_number : ℕ → List ℕ → Number
+unfoldable pub word_number : ℕ → List ℕ → Option ℕ
 word_number limit s =
-    cond (leb 1 (length s)) (cond (eqb (get_or s 0 0) 48 && leb 2 (length s)) NotANumber (more limit 0 s)) NotANumber
+    cond (leb 1 (length s)) (cond (eqb (get_or s 0 0) 48 && leb 2 (length s)) None (more limit 0 s)) None
 
 -- a number, if it is one, is below the limit
-abbrev pub Below : ℕ → Number → Type 0
-Below limit (Value v) = v < limit
-Below limit NotANumber = 0 < limit
+abbrev pub Below : ℕ → Option ℕ → Type 0
+Below limit (Some v) = v < limit
+Below limit None = 0 < limit

@@ -3,4 +3,4 @@
 
 mod number;
 
-pub use number::{Number, read};
+pub use number::read;

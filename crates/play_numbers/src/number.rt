@@ -1,56 +1,33 @@
 // Numbers in decimal.
 ghost use Rattle.std.specs.Prelude.{◌≡◌, ◌+◌, ◌^◌, ◌≤◌};
-ghost use Rattle.play_numbers.specs.Number.{is_digit, more, word_number};
-
-// What a word is as a number.
-#[derive(Clone, Copy)]
-pub enum Number {
-    Value(usize),
-    NotANumber,
-}
-
-const ZERO: u8 = b'0';
-
-const NINE: u8 = b'9';
-
-fn is_digit(b: u8) -> bool
-    ensures { result ≡ is_digit b }
-{
-    (ZERO <= b) & (b <= NINE)
-}
+ghost use Rattle.play_numbers.specs.Number.{more, word_number};
 
 // The number that a whole word spells, at most `greatest` and with no leading zero.
-pub fn read(word: &[u8], greatest: u32) -> Number
+#[tactic(auto, unfolding(crate::specs::Number::word_number))]
+pub fn read(word: &[u8], greatest: u32) -> Option<usize>
     ensures { result ≡ word_number (greatest + 1) word.now }
 {
-    if word.len() < 1 {
-        return Number::NotANumber;
+    match word {
+        [] | [b'0', _, ..] => None,
+        _ => digits(word, greatest as usize + 1),
     }
-    if word[0] == ZERO {
-        if 2 <= word.len() {
-            return Number::NotANumber;
-        }
-    }
-    digits(word, greatest as usize + 1)
 }
 
-fn digits(word: &[u8], limit: usize) -> Number
+// The number that digits spell, below the limit.
+#[tactic(auto, using(crate::proofs::Numbers::more_end, crate::proofs::Numbers::more_step))]
+fn digits(word: &[u8], limit: usize) -> Option<usize>
     requires { limit ≤ 2 ^ 32 }
     ensures { result ≡ more limit 0 word.now }
 {
-    let mut value: usize = 0;
-    let mut k = 0;
-    while k < word.len() {
-        let b = word[k];
-        if !is_digit(b) {
-            return Number::NotANumber;
+    let mut value = 0;
+    for b in word {
+        if !b.is_ascii_digit() {
+            return None;
         }
-        let next = value * 10 + (b - ZERO) as usize;
-        if limit <= next {
-            return Number::NotANumber;
+        value = value * 10 + (*b - b'0') as usize;
+        if limit <= value {
+            return None;
         }
-        value = next;
-        k += 1;
     }
-    Number::Value(value)
+    Some(value)
 }
