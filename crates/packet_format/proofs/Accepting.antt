@@ -17,9 +17,9 @@ use Rattle.hermes_record.specs.Order.{rule_number}
 use Rattle.hermes.specs.Store.{Bytes}
 use Rattle.packet_format.specs.declared.entry.Fields.{Fields}
 use Rattle.packet_format.specs.declared.answer.Accepted.{Accepted}
-use Rattle.packet_format.specs.declared.answer.Fetched.TheVariants as fetch
-use Rattle.packet_format.specs.declared.answer.Taken.{Taken}
-use Rattle.packet_format.specs.declared.answer.Taken.TheVariants.{Entry, Refused}
+use Rattle.hermes.specs.Answer.{no}
+use Rattle.packet_format.specs.Answer.{Taken}
+use Rattle.std.specs.Prelude.{Err, Ok}
 use Rattle.packet_format.specs.Bytes.{window}
 use Rattle.packet_format.specs.Entry.{fields_of, good}
 use Rattle.packet_format.specs.Reading.{rule_in, count_of, entry_place, question20, question27, question21, question22, walk, fetched, body_of}
@@ -88,21 +88,21 @@ module _ (rule : Rule) (p : List ℕ) where
 
 -- ---- the answer of a taking
 
-refused-by : (k : ℕ) (f : Fields) → (k ≡ 0 → ⊥) → Refused k ≡ taken_as k f
+refused-by : (k : ℕ) (f : Fields) → (k ≡ 0 → ⊥) → Err (no k) ≡ taken_as k f
 refused-by zero f n = absurd (n refl)
 refused-by (suc k) f n = refl
 
 module _ (p : List ℕ) (a : Accepted) (i : ℕ) where
-  pub take-refused : a.count ≤ i → (a.number ≡ 0 → ⊥) → Refused a.number ≡ taken p a i
+  pub take-refused : a.count ≤ i → (a.number ≡ 0 → ⊥) → Err (no a.number) ≡ taken p a i
   unfolding taken take_refusal
   take-refused l n = simp (le-ltb _ _ l, ne_eqb _ _ n) (refused-by a.number _ n)
 
-  pub take-23 : a.count ≤ i → a.number ≡ 0 → Refused 23 ≡ taken p a i
+  pub take-23 : a.count ≤ i → a.number ≡ 0 → Err (no 23) ≡ taken p a i
   unfolding taken take_refusal
   take-23 l e = simp (le-ltb _ _ l, e)
 
   module _ (l : i < a.count) where
-    pub take-21 : length p < entry_place (suc i) → Refused 21 ≡ taken p a i
+    pub take-21 : length p < entry_place (suc i) → Err (no 21) ≡ taken p a i
     unfolding taken take_refusal
     take-21 b = simp (lt-ltb _ _ l, lt-leb _ _ b)
 
@@ -110,13 +110,13 @@ module _ (p : List ℕ) (a : Accepted) (i : ℕ) where
       here : f ≡ fields_of (drop (entry_place i) p)
       here = e ∙ ap fields_of (part_to_end p (entry_place i))
 
-      pub take-22 : length p < f.offset + f.len → Refused 22 ≡ taken p a i
+      pub take-22 : length p < f.offset + f.len → Err (no 22) ≡ taken p a i
       unfolding taken take_refusal
       take-22 d = simp (lt-ltb _ _ l, le-leb _ _ b, lt-leb _ _ (rw here at d))
 
-      pub take_0 : f.offset + f.len ≤ length p → Entry f ≡ taken p a i
+      pub take_0 : f.offset + f.len ≤ length p → Ok f ≡ taken p a i
       unfolding taken take_refusal
-      take_0 d = simp (lt-ltb _ _ l, le-leb _ _ b, le-leb _ _ (rw here at d)) (ap Entry here)
+      take_0 d = simp (lt-ltb _ _ l, le-leb _ _ b, le-leb _ _ (rw here at d)) (ap Ok here)
 
 -- ---- what is claimed
 
@@ -129,7 +129,7 @@ record Whole (rule : Rule) (p : List ℕ) : Type 0 where
 
 -- a packet is refused, by the same number at every fetch, or it is whole
 data Verdict (rule : Rule) (p : List ℕ) : Type 0 where
-  refused : (k : ℕ) → ◌≡◌ {A = Accepted} (record { number = suc k; count = 0 }) (accepted rule p) → ((i : ℕ) → fetch.Refused (suc k) ≡ fetched rule p i) → Verdict rule p
+  refused : (k : ℕ) → ◌≡◌ {A = Accepted} (record { number = suc k; count = 0 }) (accepted rule p) → ((i : ℕ) → Err (no (suc k)) ≡ fetched rule p i) → Verdict rule p
   whole : Whole rule p → Verdict rule p
 
 verdict : (rule : Rule) (p : List ℕ) → Verdict rule p
@@ -149,14 +149,14 @@ verdict rule p = asked (question20 p).yes (question27 rule p).yes (question21 p)
     asked true true true true ea er eb ec = whole (record { passed20 = ea; passed27 = eqb-true _ _ er; passed21 = leb-true _ _ eb; passed22 = ec })
 
 module _ (rule : Rule) (p : List ℕ) (i : ℕ) where
-  refused-taken : (k : ℕ) → ◌≡◌ {A = Accepted} (record { number = suc k; count = 0 }) (accepted rule p) → taken p (accepted rule p) i ≡ Refused (suc k)
+  refused-taken : (k : ℕ) → ◌≡◌ {A = Accepted} (record { number = suc k; count = 0 }) (accepted rule p) → taken p (accepted rule p) i ≡ Err (no (suc k))
   refused-taken k e = ap (λ (a : Accepted). taken p a i) (sym e) ∙ sym (take-refused p (record { number = suc k; count = 0 }) i (omega arith) (λ z. omega arith))
 
   module _ (w : Whole rule p) where
     facts : ◌≡◌ {A = Accepted} (record { number = 0; count = count_of p }) (accepted rule p)
     facts = accept-0 rule p w.passed20 w.passed27 w.passed21 w.passed22
 
-    beyond-taken : count_of p ≤ i → taken p (accepted rule p) i ≡ Refused 23
+    beyond-taken : count_of p ≤ i → taken p (accepted rule p) i ≡ Err (no 23)
     beyond-taken l = ap (λ (a : Accepted). taken p a i) (sym facts) ∙ sym (take-23 p (record { number = 0; count = count_of p }) i l refl)
 
     module _ (l : i < count_of p) where
@@ -167,15 +167,15 @@ module _ (rule : Rule) (p : List ℕ) (i : ℕ) where
       part : fields_of (drop (entry_place i) p) ≡ fields_of (take (length p - entry_place i) (drop (entry_place i) p))
       part = ap fields_of (sym (part_to_end p (entry_place i)))
 
-      found-taken : taken p (accepted rule p) i ≡ Entry (fields_of (drop (entry_place i) p))
+      found-taken : taken p (accepted rule p) i ≡ Ok (fields_of (drop (entry_place i) p))
       found-taken =
           ap (λ (a : Accepted). taken p a i) (sym facts)
           ∙ sym (take_0 p (record { number = 0; count = count_of p }) i l (omega (arith, w.passed21)) (fields_of (drop (entry_place i) p)) part known.1)
 
-      found-fetched : fetched rule p i ≡ fetched_of (Entry (fields_of (drop (entry_place i) p)))
+      found-fetched : fetched rule p i ≡ fetched_of (Ok (fields_of (drop (entry_place i) p)))
       found-fetched = sym (fetch-0 rule p i w.passed20 w.passed27 w.passed21 w.passed22 l (fields_of (drop (entry_place i) p)) part)
 
-  beyond-fetched : Whole rule p → count_of p ≤ i → fetched rule p i ≡ fetch.Refused 23
+  beyond-fetched : Whole rule p → count_of p ≤ i → fetched rule p i ≡ Err (no 23)
   beyond-fetched w l = sym (fetch-23 rule p i w.passed20 w.passed27 w.passed21 w.passed22 l)
 
 -- a number below another, or not
@@ -188,13 +188,13 @@ split i n = asked (ltb i n) refl
 
 -- the entry of an answer, or another
 abbrev fields_in : Taken → Fields → Fields
-fields_in (Entry f) g = f
-fields_in (Refused k) g = g
+fields_in (Ok f) g = f
+fields_in (Err k) g = g
 
-no-entry : {k : ℕ} {f : Fields} → Refused (suc k) ≡ Entry f → ⊥
+no-entry : {k : ℕ} {f : Fields} → ◌≡◌ {A = Taken} (Err (no (suc k))) (Ok f) → ⊥
 no-entry e = let z = ap taken_number e in omega arith
 
-same-entry : {f g : Fields} → Entry f ≡ Entry g → f ≡ g
+same-entry : {f g : Fields} → ◌≡◌ {A = Taken} (Ok f) (Ok g) → f ≡ g
 same-entry {f} e = ap (λ (t : Taken). fields_in t f) e
 
 number : {n c : ℕ} {a : Accepted} → ◌≡◌ {A = Accepted} (record { number = n; count = c }) a → n ≡ a.number
@@ -223,7 +223,7 @@ accepted-tells rule p = by (verdict rule p)
     by : Verdict rule p → Tells rule p (accepted rule p)
     by (refused k e h) =
         record {
-          refused = λ j i n. sym (h i) ∙ ap fetch.Refused (number e ∙ n);
+          refused = λ j i n. sym (h i) ∙ ap (λ n. Err (no n)) (number e ∙ n);
           found = λ i z l. absurd (omega (arith, number e ∙ z));
           beyond = λ i z l. absurd (omega (arith, number e ∙ z));
         }
@@ -258,10 +258,10 @@ other-rule-refused rule other p different a own = record {
     facts : ◌≡◌ {A = Accepted} (record { number = 27; count = 0 }) (accepted other p)
     facts = accept-27 other p a foreign
 
-    fetching : (i : ℕ) → fetched other p i ≡ fetch.Refused 27
+    fetching : (i : ℕ) → fetched other p i ≡ Err (no 27)
     fetching i = sym (fetch-27 other p i a foreign)
 
-    taking : (i : ℕ) → taken p (accepted other p) i ≡ Refused 27
+    taking : (i : ℕ) → taken p (accepted other p) i ≡ Err (no 27)
     taking i = refused-taken other p i 26 facts
 
 pub accepted-by-one : AcceptedByOne
@@ -285,12 +285,12 @@ some_number : (k : ℕ) → 0 < cond (eqb k 0) 23 k
 some_number zero = omega arith
 some_number (suc k) = rw (ne_eqb (suc k) 0 (λ z. omega arith)) (omega arith)
 
-entry-taken : (k : ℕ) (g f : Fields) → taken_as k g ≡ Entry f → (k ≡ 0) × (g ≡ f)
+entry-taken : (k : ℕ) (g f : Fields) → taken_as k g ≡ Ok f → (k ≡ 0) × (g ≡ f)
 entry-taken zero g f e = (refl, same-entry e)
 entry-taken (suc k) g f e = absurd (no-entry e)
 
 -- whatever the facts, what is taken stands at the same place
-pub taken-alike : (p : List ℕ) (a b : Accepted) (i : ℕ) (f g : Fields) → taken p a i ≡ Entry f → taken p b i ≡ Entry g → f ≡ g
+pub taken-alike : (p : List ℕ) (a b : Accepted) (i : ℕ) (f g : Fields) → taken p a i ≡ Ok f → taken p b i ≡ Ok g → f ≡ g
 unfolding taken
 taken-alike p a b i f g ea eb =
     let h = fields_of (drop (entry_place i) p) in

@@ -13,7 +13,8 @@ use lib.Seq.{take_all, drop-drop}
 use Rattle.hermes_record.specs.declared.timestamp.Rule.{Rule}
 use Rattle.hermes_record.specs.Order.{rule_number}
 use Rattle.packet_format.specs.declared.entry.Fields.{Fields}
-use Rattle.packet_format.specs.declared.answer.Fetched.TheVariants.{Found, Refused}
+use Rattle.hermes.specs.Answer.{no}
+use Rattle.std.specs.Prelude.{Err, Ok}
 use Rattle.packet_format.specs.Bytes.{num, window}
 use Rattle.packet_format.specs.Entry.{fields_of, entry_of, good}
 use Rattle.packet_format.specs.Reading.{rule_in, count_of, entry_place, question20, question22, walk, fetch_refusal, fetched}
@@ -87,31 +88,31 @@ header-rest p total h e = simp (le-leb _ _ h, e)
 -- ---- the answer of a fetch
 
 module _ (rule : Rule) (p : List ℕ) (i : ℕ) where
-  pub fetch-20 : (question20 p).yes ≡ false → Refused 20 ≡ fetched rule p i
+  pub fetch-20 : (question20 p).yes ≡ false → Err (no 20) ≡ fetched rule p i
   unfolding fetched fetch_refusal
   fetch-20 a = simp a
 
   module _ (a : (question20 p).yes ≡ true) where
-    pub fetch-27 : (rule_in p ≡ rule_number rule → ⊥) → Refused 27 ≡ fetched rule p i
+    pub fetch-27 : (rule_in p ≡ rule_number rule → ⊥) → Err (no 27) ≡ fetched rule p i
     unfolding fetched fetch_refusal
     fetch-27 n = simp (a, ne_eqb _ _ n)
 
     module _ (own : rule_in p ≡ rule_number rule) where
-      pub fetch-21 : length p < entry_place (count_of p) → Refused 21 ≡ fetched rule p i
+      pub fetch-21 : length p < entry_place (count_of p) → Err (no 21) ≡ fetched rule p i
       unfolding fetched fetch_refusal
       fetch-21 b = simp (a, eq-eqb _ _ own, lt-leb _ _ b)
 
       module _ (b : entry_place (count_of p) ≤ length p) where
-        pub fetch-22 : (question22 p).yes ≡ false → Refused 22 ≡ fetched rule p i
+        pub fetch-22 : (question22 p).yes ≡ false → Err (no 22) ≡ fetched rule p i
         unfolding fetched fetch_refusal
         fetch-22 d = simp (a, eq-eqb _ _ own, le-leb _ _ b, d)
 
         module _ (d : (question22 p).yes ≡ true) where
-          pub fetch-23 : count_of p ≤ i → Refused 23 ≡ fetched rule p i
+          pub fetch-23 : count_of p ≤ i → Err (no 23) ≡ fetched rule p i
           unfolding fetched fetch_refusal
           fetch-23 e = simp (a, eq-eqb _ _ own, le-leb _ _ b, d, le-ltb _ _ e)
 
-          pub fetch-0 : i < count_of p → (f : Fields) → f ≡ fields_of (take (length p - entry_place i) (drop (entry_place i) p)) → Found (entry_of f) f.offset ≡ fetched rule p i
+          pub fetch-0 : i < count_of p → (f : Fields) → f ≡ fields_of (take (length p - entry_place i) (drop (entry_place i) p)) → Ok (entry_of f, f.offset) ≡ fetched rule p i
           unfolding fetched fetch_refusal
           fetch-0 l f e =
-              simp (a, eq-eqb _ _ own, le-leb _ _ b, d, lt-ltb _ _ l) (ap (λ (x : Fields). Found (entry_of x) x.offset) (e ∙ ap fields_of (part_to_end p (entry_place i))))
+              simp (a, eq-eqb _ _ own, le-leb _ _ b, d, lt-ltb _ _ l) (ap (λ (x : Fields). Ok (entry_of x, x.offset)) (e ∙ ap fields_of (part_to_end p (entry_place i))))

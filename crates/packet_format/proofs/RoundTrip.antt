@@ -14,8 +14,7 @@ use Rattle.hermes_record.specs.Order.{rule_number}
 use Rattle.hermes.specs.Store.{Bytes}
 use Rattle.packet_format.specs.declared.entry.Entry.{Entry}
 use Rattle.packet_format.specs.declared.entry.Fields.{Fields}
-use Rattle.packet_format.specs.declared.answer.Fetched.TheVariants.{Found}
-use Rattle.packet_format.specs.declared.answer.Written.TheVariants.{Total}
+use Rattle.std.specs.Prelude.{Ok}
 use Rattle.packet_format.specs.Bytes.{be, window}
 use Rattle.packet_format.specs.Entry.{fields_of, fields_for, no_entry}
 use Rattle.packet_format.specs.Reading.{rule_in, count_of, entry_place, packet_messages, bodies_in, question20, question27, question21, question22, question23, walk, fetch_refusal, fetched_as, fetched, body_of}
@@ -107,13 +106,13 @@ packet-reads-back rule es bodies room w =
     yes22 : (question22 p).yes ≡ true
     yes22 = packet-walk rule es bodies room w
 
-    message : (i : ℕ) → i < length es → fetched rule p i ≡ Found (get_or es i no_entry) (entry_place (length es) + summed (take i es))
+    message : (i : ℕ) → i < length es → fetched rule p i ≡ Ok (get_or es i no_entry, entry_place (length es) + summed (take i es))
     message i l =
         let at = entry_place (length es) + summed (take i es) in
         let e = get_or es i no_entry in
         let f : fields_of (drop (entry_place i) p) ≡ fields_for e at =
         ap fields_of (drop-header rule es bodies (16 * i)) ∙ contents-entry es i (entry_place (length es)) bodies l in
-        sym (fetch-0 rule p i yes20 own yes21 yes22 l (fields_for e at) (sym (ap fields_of (part_to_end p (entry_place i)) ∙ f))) ∙ ap (λ (x : Entry). Found x at) (entry-back e at)
+        sym (fetch-0 rule p i yes20 own yes21 yes22 l (fields_for e at) (sym (ap fields_of (part_to_end p (entry_place i)) ∙ f))) ∙ ap (λ (x : Entry). Ok (x, at)) (entry-back e at)
 
 -- a packet written reads back as the same messages
 pub written-reads-back : WrittenReadsBack
@@ -145,7 +144,7 @@ all-passed true true false c d h = absurd (omega (arith, h))
 all-passed true false b c d h = absurd (omega (arith, h))
 all-passed false r b c d h = absurd (omega (arith, h))
 
-found-zero : (k : ℕ) (f : Fields) (e : Entry) (at : ℕ) → fetched_as k f ≡ Found e at → k ≡ 0
+found-zero : (k : ℕ) (f : Fields) (e : Entry) (at : ℕ) → fetched_as k f ≡ Ok (e, at) → k ≡ 0
 found-zero zero f e at h = refl
 found-zero (suc k) f e at h = let z : ◌≡◌ {A = ℕ} 0 1 = cc in absurd (omega arith)
 
@@ -156,7 +155,7 @@ record Read (rule : Rule) (p : List ℕ) : Type 0 where
   whole : entry_place (count_of p) ≤ length p
   walked : (question22 p).yes ≡ true
 
-read : (rule : Rule) (p : List ℕ) (i : ℕ) (e : Entry) (at : ℕ) → fetched rule p i ≡ Found e at → Read rule p
+read : (rule : Rule) (p : List ℕ) (i : ℕ) (e : Entry) (at : ℕ) → fetched rule p i ≡ Ok (e, at) → Read rule p
 unfolding fetched fetch_refusal
 read rule p i e at h =
     let z = found-zero (fetch_refusal rule p i) (fields_of (drop (entry_place i) p)) e at h in
@@ -212,7 +211,7 @@ accepted-is-written rule p i e at out b h l =
     let made = packet-read rule p b r in
     let total : total_of (length es) (bodies_in p) ≡ length p = sym (packet-length rule es (bodies_in p)) ∙ ap length made in
     record {
-      answer = accepted es (bodies_in p) (length out) a ∙ ap Total total;
+      answer = accepted es (bodies_in p) (length out) a ∙ ap Ok total;
       output = ap (λ (q : List ℕ). q ++ drop (length p) out) made;
       reads = rw made at (packet-reads-back rule es (bodies_in p) (length out) a);
     }

@@ -6,10 +6,9 @@ use mathlib.Core.List.{List, [], ◌∷◌, Memᴰ}
 use lib.Dec.{eqb}
 use lib.ListN.{get_or, drop}
 use borrow.Author.Tests.{eqb-true}
-use Rattle.hermes.specs.declared.message.Outgoing.{Outgoing}
-use Rattle.hermes.specs.declared.message.Outgoing.TheVariants.{None, Sent}
-use Rattle.packet_format.specs.declared.answer.Fetched.{Fetched}
-use Rattle.packet_format.specs.declared.answer.Fetched.TheVariants.{Found, Refused}
+use Rattle.packet_format.specs.Answer.{Fetched}
+use Rattle.hermes.specs.Answer.{Outgoing, no}
+use Rattle.std.specs.Prelude.{Err, None, Ok, Some}
 use Rattle.packet_format.specs.Entry.{good, entry_bytes}
 use Rattle.packet_format.specs.Reading.{entry_place, walk, fetch_refusal, fetched, fetched_number}
 use Rattle.packet_format.specs.Accepting.{accept_refusal, accepted, take_refusal, taken, taken_number}
@@ -20,28 +19,28 @@ use Rattle.hermes.proofs.Coded.{Coded, same, same-sound, same_list, list-sound, 
 use Rattle.hermes.proofs.Table.{passing, every}
 
 fetched_numbers : Fetched → List ℕ
-fetched_numbers (Found e at) = 0 ∷ at ∷ e.len ∷ outgoing_numbers (Sent e.message e.header)
-fetched_numbers (Refused k) = 1 ∷ k ∷ []
+fetched_numbers (Ok (e, at)) = 0 ∷ at ∷ e.len ∷ outgoing_numbers (Some (e.message, e.header))
+fetched_numbers (Err k) = 1 ∷ k.0 ∷ []
 
 entry_back : ℕ → ℕ → Outgoing → Fetched
-entry_back at n None = Refused 0
-entry_back at n (Sent m h) = Found (record { header = h; message = m; len = n }) at
+entry_back at n None = Err (no 0)
+entry_back at n (Some (m, h)) = Ok (record { header = h; message = m; len = n }, at)
 
 fetched_back : List ℕ → Fetched
-fetched_back [] = Refused 0
+fetched_back [] = Err (no 0)
 fetched_back (zero ∷ l) = entry_back (get_or l 0 0) (get_or l 1 0) (outgoing_back (drop 2 l))
-fetched_back (suc k ∷ l) = Refused (get_or l 0 0)
+fetched_back (suc k ∷ l) = Err (no (get_or l 0 0))
 
 fetched-had : (f : Fetched) → fetched_back (fetched_numbers f) ≡ f
 unfolding fetched_back fetched_numbers entry_back
-fetched-had (Found e at) = rw (outgoing-had (Sent e.message e.header))
-fetched-had (Refused k) = refl
+fetched-had (Ok (e, at)) = rw (outgoing-had (Some (e.message, e.header)))
+fetched-had (Err k) = refl
 
 fetched_code : Coded Fetched
 fetched_code = record { numbers = fetched_numbers; back = fetched_back; had = fetched-had }
 
 test : Row → Bool
-test (packs rule e body p) = same_list (packet_bytes rule (e ∷ []) body) p && same fetched_code (fetched rule p 0) (Found e (entry_place 1))
+test (packs rule e body p) = same_list (packet_bytes rule (e ∷ []) body) p && same fetched_code (fetched rule p 0) (Ok (e, entry_place 1))
 test (fetches rule p i k) = eqb (fetched_number (fetched rule p i)) k
 test (accepts rule p k count) = eqb (accepted rule p).number k && eqb (accepted rule p).count count
 test (takes p number count i k) = eqb (taken_number (taken p (record { number = number; count = count }) i)) k
@@ -50,8 +49,8 @@ test (writes es bodies room k) = eqb (written_number (packet_written es bodies r
 holds : (r : Row) → test r ≡ true → Holds r
 unfolding test
 holds (packs rule m body p) e =
-    let (s, t) = both (same_list (packet_bytes rule (m ∷ []) body) p) (same fetched_code (fetched rule p 0) (Found m (entry_place 1))) e in
-    (list-sound (packet_bytes rule (m ∷ []) body) p s, same-sound fetched_code (fetched rule p 0) (Found m (entry_place 1)) t)
+    let (s, t) = both (same_list (packet_bytes rule (m ∷ []) body) p) (same fetched_code (fetched rule p 0) (Ok (m, entry_place 1))) e in
+    (list-sound (packet_bytes rule (m ∷ []) body) p s, same-sound fetched_code (fetched rule p 0) (Ok (m, entry_place 1)) t)
 holds (fetches rule p i k) e = eqb-true _ k e
 holds (accepts rule p k count) e =
     let (s, t) = both (eqb (accepted rule p).number k) (eqb (accepted rule p).count count) e in (eqb-true _ k s, eqb-true _ count t)

@@ -8,7 +8,7 @@ use borrow.Author.Tests.{eq-eqb, le-leb, leb-true, eqb-true}
 use lib.Dec.{leb, eqb}
 use lib.ListN.{length}
 use Rattle.packet_format.specs.declared.entry.Entry.{Entry}
-use Rattle.packet_format.specs.declared.answer.Written.TheVariants.{Total}
+use Rattle.std.specs.Prelude.{Ok}
 use Rattle.packet_format.specs.Writing.{summed, total_of, all_good, question24, question25, write_refusal, written_as, packet_written}
 use Rattle.hermes_record.proofs.Tests.{both}
 
@@ -26,7 +26,7 @@ both-passed true true h = (refl, refl)
 both-passed true false h = absurd (omega (arith, h))
 both-passed false b h = absurd (omega (arith, h))
 
-total-of : (k n m : ℕ) → written_as k n ≡ Total m → (k ≡ 0) × (n ≡ m)
+total-of : (k n m : ℕ) → written_as k n ≡ Ok m → (k ≡ 0) × (n ≡ m)
 total-of zero n m h = (refl, cc)
 total-of (suc k) n m h = let z : ◌≡◌ {A = ℕ} 0 1 = cc in absurd (omega arith)
 
@@ -53,10 +53,10 @@ module _ (es : List Entry) (bodies : List ℕ) (room : ℕ) where
   all_yes a =
       simp (le-leb _ _ a.some, le-leb _ _ a.few, a.good, eq-eqb _ _ a.exact, le-leb _ _ a.short, le-leb _ _ a.fits)
 
-  pub accepted : Accepts es bodies room → packet_written es bodies room ≡ Total (total_of (length es) bodies)
+  pub accepted : Accepts es bodies room → packet_written es bodies room ≡ Ok (total_of (length es) bodies)
   unfolding packet_written
   accepted a = ap (λ (k : ℕ). written_as k (total_of (length es) bodies)) (all_yes a)
 
-  pub total-yes : (n : ℕ) → packet_written es bodies room ≡ Total n → (write_refusal es bodies room ≡ 0) × (total_of (length es) bodies ≡ n)
+  pub total-yes : (n : ℕ) → packet_written es bodies room ≡ Ok n → (write_refusal es bodies room ≡ 0) × (total_of (length es) bodies ≡ n)
   unfolding packet_written
   total-yes n h = total-of (write_refusal es bodies room) (total_of (length es) bodies) n h

@@ -1,14 +1,11 @@
 -- 02, Wish 4, "Packets read in one pass": a packet is accepted once, and each of its messages is then taken at its place.
-use Rattle.std.specs.Prelude.{ℕ, zero, suc, ◌+◌, ◌≤◌, ◌<◌, ◌≡◌, true, cond, List, [], ◌∷◌, ◌≢◌, ltb, leb, eqb, length, drop}
+use Rattle.std.specs.Prelude.{ℕ, zero, suc, ◌+◌, ◌≤◌, ◌<◌, ◌≡◌, true, cond, List, [], ◌∷◌, ◌≢◌, ltb, leb, eqb, length, drop, Err, Ok}
 use Rattle.hermes_record.specs.declared.timestamp.Rule.{Rule}
 use Rattle.hermes.specs.Guards.{Question, ask, first_no}
 use Rattle.packet_format.specs.declared.entry.Fields.{Fields}
 use Rattle.packet_format.specs.declared.answer.Accepted.{Accepted}
-use Rattle.packet_format.specs.declared.answer.Fetched.{Fetched}
-use Rattle.packet_format.specs.declared.answer.Fetched.TheVariants.{Found}
-use Rattle.packet_format.specs.declared.answer.Fetched.TheVariants as fetch
-use Rattle.packet_format.specs.declared.answer.Taken.{Taken}
-use Rattle.packet_format.specs.declared.answer.Taken.TheVariants.{Entry, Refused}
+use Rattle.hermes.specs.Answer.{no}
+use Rattle.packet_format.specs.Answer.{Fetched, Taken}
 use Rattle.packet_format.specs.Entry.{fields_of, entry_of, good}
 use Rattle.packet_format.specs.Reading.{count_of, entry_place, question20, question27, question21, question22, fetched, body_of}
 
@@ -46,8 +43,8 @@ take_refusal p a i = first_no (question_count a i ∷ question_entry p i ∷ que
 
 -- each case of an answer, by its number: 0 with the entry, or the number of the question that said no
 abbrev pub taken_as : ℕ → Fields → Taken
-taken_as zero f = Entry f
-taken_as (suc k) f = Refused (suc k)
+taken_as zero f = Ok f
+taken_as (suc k) f = Err (no (suc k))
 
 -- message i of the packet p, by the facts a: its entry as it stands there
 unfoldable pub taken : List ℕ → Accepted → ℕ → Taken
@@ -55,13 +52,13 @@ taken p a i = taken_as (take_refusal p a i) (fields_of (drop (entry_place i) p))
 
 -- the number of an answer
 abbrev pub taken_number : Taken → ℕ
-taken_number (Entry f) = 0
-taken_number (Refused k) = k
+taken_number (Ok f) = 0
+taken_number (Err r) = r.0
 
 -- the same as a fetch answers it, and with it the body that is handed on (`body_of`)
 abbrev pub fetched_of : Taken → Fetched
-fetched_of (Entry f) = Found (entry_of f) f.offset
-fetched_of (Refused k) = fetch.Refused k
+fetched_of (Ok f) = Ok (entry_of f, f.offset)
+fetched_of (Err r) = Err r
 
 -- ---- what is claimed
 
@@ -72,30 +69,30 @@ TakenIsFetched = (rule : Rule) (p : List ℕ) (i : ℕ) → fetched_of (taken p 
 
 -- What is taken by a packet's own facts is the fields of an entry that question 22 lets pass: they are those of its message, every one.
 abbrev pub TakenIsGood : Type 0
-TakenIsGood = (rule : Rule) (p : List ℕ) (i : ℕ) (f : Fields) → taken p (accepted rule p) i ≡ Entry f → good f ≡ true
+TakenIsGood = (rule : Rule) (p : List ℕ) (i : ℕ) (f : Fields) → taken p (accepted rule p) i ≡ Ok f → good f ≡ true
 
 -- The facts tell at once what every fetch will answer: a refused packet its number, whatever is fetched; an accepted one a message up to the count, and 23 from there on.
 pub record Tells (rule : Rule) (p : List ℕ) (a : Accepted) : Type 0 where
-  pub refused : (k i : ℕ) → a.number ≡ suc k → fetched rule p i ≡ fetch.Refused (suc k)
-  pub found : (i : ℕ) → a.number ≡ 0 → i < a.count → (f : Fields) × (fetched rule p i ≡ Found (entry_of f) f.offset)
-  pub beyond : (i : ℕ) → a.number ≡ 0 → a.count ≤ i → fetched rule p i ≡ fetch.Refused 23
+  pub refused : (k i : ℕ) → a.number ≡ suc k → fetched rule p i ≡ Err (no (suc k))
+  pub found : (i : ℕ) → a.number ≡ 0 → i < a.count → (f : Fields) × (fetched rule p i ≡ Ok (entry_of f, f.offset))
+  pub beyond : (i : ℕ) → a.number ≡ 0 → a.count ≤ i → fetched rule p i ≡ Err (no 23)
 
 abbrev pub AcceptedTells : Type 0
 AcceptedTells = (rule : Rule) (p : List ℕ) → Tells rule p (accepted rule p)
 
 -- Whatever the facts, also those of another packet: the body of a message taken lies within this one.
 abbrev pub TakenLiesWithin : Type 0
-TakenLiesWithin = (p : List ℕ) (a : Accepted) (i : ℕ) (f : Fields) → taken p a i ≡ Entry f → f.offset + f.len ≤ length p
+TakenLiesWithin = (p : List ℕ) (a : Accepted) (i : ℕ) (f : Fields) → taken p a i ≡ Ok f → f.offset + f.len ≤ length p
 
 -- ---- a packet of the other rule
 
 -- A group of this rule refuses the packet p as a whole: every fetch answers k and hands on the empty part; no message of it is accepted; every
 -- taking by those facts answers k and hands on the empty part.
 pub record Refuses (rule : Rule) (p : List ℕ) (k : ℕ) : Type 0 where
-  pub fetching : (i : ℕ) → fetched rule p i ≡ fetch.Refused k
+  pub fetching : (i : ℕ) → fetched rule p i ≡ Err (no k)
   pub fetched_body : (i : ℕ) → body_of p (fetched rule p i) ≡ []
   pub accepting : accepted rule p ≡ record { number = k; count = 0 }
-  pub taking : (i : ℕ) → taken p (accepted rule p) i ≡ Refused k
+  pub taking : (i : ℕ) → taken p (accepted rule p) i ≡ Err (no k)
   pub taken_body : (i : ℕ) → body_of p (fetched_of (taken p (accepted rule p) i)) ≡ []
 
 -- 02, Wish 6: a packet of one rule, which question 20 lets pass and whose byte 0 is that rule's number, is refused with 27 by a group of the other;

@@ -1,12 +1,12 @@
 -- Reading: questions 20 to 23 and 27, the message fetched and its body (01, "Reading fetches message i"; 02, Wish 6).
-use Rattle.std.specs.Prelude.{ℕ, zero, suc, ◌+◌, ◌*◌, Bool, ◌&&◌, ◌||◌, List, [], ◌∷◌, ltb, leb, eqb, length, take, drop, get_or}
+use Rattle.std.specs.Prelude.{ℕ, zero, suc, ◌+◌, ◌*◌, Bool, ◌&&◌, ◌||◌, List, [], ◌∷◌, ltb, leb, eqb, length, take, drop, get_or, Err, Ok}
 use Rattle.hermes_record.specs.declared.timestamp.Rule.{Rule}
 use Rattle.hermes_record.specs.Order.{rule_number}
 use Rattle.hermes.specs.Guards.{Question, ask, first_no}
 use Rattle.packet_format.specs.declared.entry.Entry.{Entry}
 use Rattle.packet_format.specs.declared.entry.Fields.{Fields}
-use Rattle.packet_format.specs.declared.answer.Fetched.{Fetched}
-use Rattle.packet_format.specs.declared.answer.Fetched.TheVariants.{Found, Refused}
+use Rattle.hermes.specs.Answer.{no}
+use Rattle.packet_format.specs.Answer.{Fetched}
 use Rattle.packet_format.specs.Bytes.{num, window}
 use Rattle.packet_format.specs.Entry.{fields_of, entry_of, entries_of, good}
 
@@ -62,8 +62,8 @@ fetch_refusal rule p i = first_no (question20 p ∷ question27 rule p ∷ questi
 
 -- each case of an answer, by its number: 0 with the message and where its body begins, or the number of the question that said no
 abbrev pub fetched_as : ℕ → Fields → Fetched
-fetched_as zero f = Found (entry_of f) f.offset
-fetched_as (suc k) f = Refused (suc k)
+fetched_as zero f = Ok (entry_of f, f.offset)
+fetched_as (suc k) f = Err (no (suc k))
 
 -- message i of the packet p, in a group of this rule
 unfoldable pub fetched : Rule → List ℕ → ℕ → Fetched
@@ -71,10 +71,10 @@ fetched rule p i = fetched_as (fetch_refusal rule p i) (fields_of (drop (entry_p
 
 -- the number of an answer
 abbrev pub fetched_number : Fetched → ℕ
-fetched_number (Found e at) = 0
-fetched_number (Refused k) = k
+fetched_number (Ok (e, at)) = 0
+fetched_number (Err r) = r.0
 
 -- 01, "The body is handed on as the part of the packet that begins at its offset. A refused fetch hands on the empty part."
 abbrev pub body_of : List ℕ → Fetched → List ℕ
-body_of p (Found e at) = take e.len (drop at p)
-body_of p (Refused k) = []
+body_of p (Ok (e, at)) = take e.len (drop at p)
+body_of p (Err r) = []

@@ -1,12 +1,11 @@
 -- The rows about packets: document 01's own, "From the ringing table"; and the number that each of questions 20 to 25 and 27 answers, with both sides
 -- of every limit in it and the order in which they are asked; Wish 4's, of a packet accepted and its messages taken; Wish 6's, of both rules.
-use Rattle.std.specs.Prelude.{ℕ, zero, suc, ◌+◌, ◌/◌, ◌%◌, ◌≡◌, List, [], ◌∷◌, ◌++◌, replicate}
+use Rattle.std.specs.Prelude.{ℕ, zero, suc, ◌+◌, ◌/◌, ◌%◌, ◌≡◌, List, [], ◌∷◌, ◌++◌, replicate, Ok}
 use Rattle.hermes_record.specs.declared.timestamp.Rule.{Rule}
 use Rattle.hermes_record.specs.declared.timestamp.Rule.TheVariants.{Higher, Lower}
 use Rattle.hermes.specs.declared.message.Message.{Message}
 use Rattle.hermes.specs.declared.message.Message.TheVariants.{Inv, Ack, Val}
 use Rattle.packet_format.specs.declared.entry.Entry.{Entry}
-use Rattle.packet_format.specs.declared.answer.Fetched.TheVariants.{Found}
 use Rattle.packet_format.specs.Reading.{entry_place, fetched, fetched_number}
 use Rattle.packet_format.specs.Accepting.{accepted, taken, taken_number}
 use Rattle.packet_format.specs.Writing.{packet_bytes, packet_written, written_number}
@@ -25,7 +24,7 @@ pub data Row : Type 0 where
 
 -- what a row says
 abbrev pub Holds : Row → Type 0
-Holds (packs rule e body p) = (packet_bytes rule (e ∷ []) body ≡ p) × (fetched rule p 0 ≡ Found e (entry_place 1))
+Holds (packs rule e body p) = (packet_bytes rule (e ∷ []) body ≡ p) × (fetched rule p 0 ≡ Ok (e, entry_place 1))
 Holds (fetches rule p i k) = fetched_number (fetched rule p i) ≡ k
 Holds (accepts rule p k count) = ((accepted rule p).number ≡ k) × ((accepted rule p).count ≡ count)
 Holds (takes p number count i k) = taken_number (taken p (record { number = number; count = count }) i) ≡ k

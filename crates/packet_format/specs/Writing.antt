@@ -1,11 +1,11 @@
 -- Writing: the packet of messages, questions 24 and 25, the answer and the output (01, "Writing takes messages and their bodies end to end").
-use Rattle.std.specs.Prelude.{ℕ, zero, suc, ◌+◌, Bool, true, ◌&&◌, List, [], ◌∷◌, ◌++◌, leb, eqb, length, drop}
+use Rattle.std.specs.Prelude.{ℕ, zero, suc, ◌+◌, Bool, true, ◌&&◌, List, [], ◌∷◌, ◌++◌, leb, eqb, length, drop, Err, Ok}
 use Rattle.hermes_record.specs.declared.timestamp.Rule.{Rule}
 use Rattle.hermes_record.specs.Order.{rule_number}
 use Rattle.hermes.specs.Guards.{Question, ask, first_no}
 use Rattle.packet_format.specs.declared.entry.Entry.{Entry}
-use Rattle.packet_format.specs.declared.answer.Written.{Written}
-use Rattle.packet_format.specs.declared.answer.Written.TheVariants as answer
+use Rattle.hermes.specs.Answer.{no}
+use Rattle.packet_format.specs.Answer.{Written}
 use Rattle.packet_format.specs.Bytes.{be}
 use Rattle.packet_format.specs.Entry.{fields_for, entry_bytes, good}
 use Rattle.packet_format.specs.Reading.{entry_place}
@@ -48,18 +48,18 @@ write_refusal es bodies room = first_no (question24 es bodies ∷ question25 (le
 
 -- each case of an answer, by its number: 0 with the packet's total length, or the number of the question that said no
 abbrev pub written_as : ℕ → ℕ → Written
-written_as zero total = answer.Total total
-written_as (suc k) total = answer.Refused (suc k)
+written_as zero total = Ok total
+written_as (suc k) total = Err (no (suc k))
 
 unfoldable pub packet_written : List Entry → List ℕ → ℕ → Written
 packet_written es bodies room = written_as (write_refusal es bodies room) (total_of (length es) bodies)
 
 -- the number of an answer
 abbrev pub written_number : Written → ℕ
-written_number (answer.Total n) = 0
-written_number (answer.Refused k) = k
+written_number (Ok n) = 0
+written_number (Err r) = r.0
 
 -- the output after a write of a group of this rule: 01, "Output past the total is untouched"; a "no" leaves every lent byte as found
 unfoldable pub output_of : Rule → Written → List Entry → List ℕ → List ℕ → List ℕ
-output_of rule (answer.Total n) es bodies out = packet_bytes rule es bodies ++ drop n out
-output_of rule (answer.Refused k) es bodies out = out
+output_of rule (Ok n) es bodies out = packet_bytes rule es bodies ++ drop n out
+output_of rule (Err r) es bodies out = out

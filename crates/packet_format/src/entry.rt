@@ -1,7 +1,6 @@
 // The entries of a packet's contents table.
 ghost use Rattle.std.specs.Prelude.{◌≡◌};
-ghost use Rattle.hermes.specs.Kind.{message_of};
-ghost use Rattle.packet_format.specs.Entry.{entry_of, good};
+ghost use Rattle.packet_format.specs.Entry.{entry_of, fields_for, good};
 
 use hermes::{Header, Message, Record, Timestamp};
 
@@ -11,6 +10,30 @@ pub struct Entry {
     pub header: Header,
     pub message: Message,
     pub len: u8,
+}
+
+impl Entry {
+    // Its fields, where its body begins at `at`.
+    pub fn fields(self, at: usize) -> Fields
+        ensures { result ≡ fields_for self at }
+    {
+        let Entry {
+            header,
+            message,
+            len,
+        } = self;
+        let timestamp = message.timestamp();
+        Fields {
+            kind: message.kind(),
+            sender: header.sender,
+            epoch: header.epoch,
+            index: header.index,
+            version: timestamp.version,
+            tie: timestamp.tie,
+            offset: at,
+            len,
+        }
+    }
 }
 
 // An entry's fields as numbers, in the order of their bytes.
@@ -54,36 +77,24 @@ impl Fields {
     }
 }
 
-// The message of a known kind.
-fn message_of(kind: u8, timestamp: Timestamp) -> Message
-    ensures { result ≡ message_of kind timestamp }
-{
-    if kind == Message::INV {
-        return Message::Inv(timestamp);
-    }
-    if kind == Message::ACK {
-        return Message::Ack(timestamp);
-    }
-    Message::Val(timestamp)
-}
-
 // The entry that fields stand for.
-pub fn entry_of(f: Fields) -> Entry
-    ensures { result ≡ entry_of f }
-{
-    let header = Header {
-        sender: f.sender,
-        epoch: f.epoch,
-        index: f.index,
-    };
-    let timestamp = Timestamp {
-        version: f.version,
-        tie: f.tie,
-    };
-    let message = message_of(f.kind, timestamp);
-    Entry {
-        header: header,
-        message: message,
-        len: f.len,
+impl From<Fields> for Entry {
+    ghost from_gives = { λ f e. e ≡ entry_of f };
+
+    fn from(f: Fields) -> Entry {
+        let header = Header {
+            sender: f.sender,
+            epoch: f.epoch,
+            index: f.index,
+        };
+        let timestamp = Timestamp {
+            version: f.version,
+            tie: f.tie,
+        };
+        Entry {
+            header,
+            message: Message::of_kind(f.kind, timestamp),
+            len: f.len,
+        }
     }
 }

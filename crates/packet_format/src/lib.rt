@@ -4,10 +4,8 @@
 
 mod answer;
 mod entry;
-mod fields;
 mod layout;
 
 pub use answer::{Accepted, Fetched, Taken, Written};
-pub use entry::{Entry, Fields, entry_of};
-pub use fields::fields_for;
+pub use entry::{Entry, Fields};
 pub use layout::{COUNT_MAX, ENTRY_BYTES, HEADER_BYTES, TOTAL_MAX};
