@@ -1,18 +1,13 @@
 -- How identities, messages and answers cross as numbers.
-use Rattle.std.specs.Prelude.{ℕ, cond, eqb}
+use Rattle.std.specs.Prelude.{ℕ, cond, eqb, Err, None, Ok, Some}
 use Rattle.hermes_record.specs.declared.timestamp.Rule.{Rule}
 use Rattle.hermes_record.specs.declared.timestamp.Rule.TheVariants.{Higher, Lower}
 use Rattle.hermes_record.specs.Order.{rule_number}
 use Rattle.hermes.specs.declared.message.Message.{Message}
-use Rattle.hermes.specs.declared.message.Outgoing.{Outgoing}
-use Rattle.hermes.specs.declared.message.Outgoing.TheVariants.{None, Sent}
+use Rattle.hermes.specs.Answer.{Outgoing, Answer, Admission}
 use Rattle.hermes.specs.declared.message.Received.{Received}
 use Rattle.hermes.specs.declared.event.Replica.{Replica}
 use Rattle.hermes.specs.declared.event.Settings.{Settings}
-use Rattle.hermes.specs.declared.event.Answer.{Answer}
-use Rattle.hermes.specs.declared.event.Answer.TheVariants as answer
-use Rattle.hermes.specs.declared.event.Admission.{Admission}
-use Rattle.hermes.specs.declared.event.Admission.TheVariants as admission
 use Rattle.hermes.specs.Kind.{kind_of, timestamp_of, known, message_of}
 use Rattle.export_numbers.specs.declared.numbers.CetskobiSettings.{CetskobiSettings}
 use Rattle.export_numbers.specs.declared.numbers.CetskobiReplica.{CetskobiReplica}
@@ -57,17 +52,17 @@ message_out m = answering 0 (kind_of m) (timestamp_of m).tie (timestamp_of m).ve
 -- nothing leaves: kind 0. The header is not repeated: it has the replica's number and epoch and the record's number
 abbrev pub outgoing_out : Outgoing → CetskobiAnswer
 outgoing_out None = answering 0 0 0 0
-outgoing_out (Sent m h) = message_out m
+outgoing_out (Some (m, h)) = message_out m
 
 -- 01, "The answer is one of these numbers, or 0 with the message"
 abbrev pub answer_out : Answer → CetskobiAnswer
-answer_out (answer.Accepted o) = outgoing_out o
-answer_out (answer.Refused k) = answering k 0 0 0
+answer_out (Ok o) = outgoing_out o
+answer_out (Err e) = answering e.0 0 0 0
 
 -- an admission: 0 with the identity from then on, or the number of the question that said no with the identity as it was
 abbrev pub admission_out : Admission → CetskobiReplica → CetskobiAdmission
-admission_out (admission.Admitted me) old = record { number = 0; replica = identity_of me }
-admission_out (admission.Refused k) old = record { number = k; replica = old }
+admission_out (Ok me) old = record { number = 0; replica = identity_of me }
+admission_out (Err e) old = record { number = e.0; replica = old }
 
 -- ---- messages that came from outside
 

@@ -5,6 +5,5 @@ mod numbers;
 
 pub use numbers::{
     CetskobiAdmission, CetskobiAnswer, CetskobiAsked, CetskobiMessage, CetskobiReading,
-    CetskobiReplica, CetskobiSettings, admission_out, answer_out, received_in, replica_of,
-    settings_of, settings_out,
+    CetskobiReplica, CetskobiSettings,
 };

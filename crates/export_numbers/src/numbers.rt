@@ -1,8 +1,8 @@
 // How identities, messages and answers cross as numbers.
 ghost use Rattle.std.specs.Prelude.{◌≡◌};
-ghost use Rattle.export_numbers.specs.Crossing.{rule_of, settings_of, settings_out, replica_of, identity_of, answering, message_out, outgoing_out, answer_out, admission_out, message_in, received_in};
+ghost use Rattle.export_numbers.specs.Crossing.{settings_of, settings_out, replica_of, identity_of, answer_out, admission_out, received_in};
 
-use hermes::{Admission, Answer, Message, Outgoing, Received, Replica, Rule, Settings, Timestamp};
+use hermes::{Admission, Answer, Message, Received, Refused, Replica, Rule, Settings, Timestamp};
 
 // What is fixed at a group's start. The rule of ties is one of hermes's numbers; any other is taken for the old rule.
 #[repr(C)]
@@ -23,7 +23,7 @@ pub struct CetskobiReplica {
 
 // An answer: 0 or the number of the question that said no; and the message that leaves, of kind 0 none, 1 INV, 2 ACK, 3 VAL.
 #[repr(C)]
-#[derive(Clone, Copy)]
+#[derive(Clone, Copy, Default)]
 pub struct CetskobiAnswer {
     pub number: u8,
     pub kind: u8,
@@ -68,146 +68,115 @@ pub struct CetskobiAdmission {
     pub number: u8,
 }
 
-fn rule_of(byte: u8) -> Rule
-    ensures { result ≡ rule_of byte }
-{
-    if byte == Rule::LOWER {
-        return Rule::Lower;
-    }
-    Rule::Higher
-}
+// Settings that came from outside, and on their way out.
+impl From<CetskobiSettings> for Settings {
+    ghost from_gives = { λ given settings. settings ≡ settings_of given };
 
-pub fn settings_of(settings: CetskobiSettings) -> Settings
-    ensures { result ≡ settings_of settings }
-{
-    let rule = rule_of(settings.rule);
-    Settings { rule: rule }
-}
-
-pub fn settings_out(settings: Settings) -> CetskobiSettings
-    ensures { result ≡ settings_out settings }
-{
-    let rule = settings.rule;
-    CetskobiSettings {
-        rule: rule.number(),
-    }
-}
-
-pub fn replica_of(me: CetskobiReplica) -> Replica
-    ensures { result ≡ replica_of me }
-{
-    let given = me.settings;
-    let settings = settings_of(given);
-    Replica {
-        number: me.number,
-        epoch: me.epoch,
-        view: me.view,
-        settings: settings,
-    }
-}
-
-// An answer, by its numbers.
-fn answering(number: u8, kind: u8, tie: u8, version: u32) -> CetskobiAnswer
-    ensures { result ≡ answering number kind tie version }
-{
-    CetskobiAnswer {
-        number: number,
-        kind: kind,
-        tie: tie,
-        version: version,
-    }
-}
-
-fn message_out(m: Message) -> CetskobiAnswer
-    ensures { result ≡ message_out m }
-{
-    match m {
-        Message::Inv(t) => answering(0, Message::INV, t.tie, t.version),
-        Message::Ack(t) => answering(0, Message::ACK, t.tie, t.version),
-        Message::Val(t) => answering(0, Message::VAL, t.tie, t.version),
-    }
-}
-
-fn outgoing_out(o: Outgoing) -> CetskobiAnswer
-    ensures { result ≡ outgoing_out o }
-{
-    match o {
-        Outgoing::None => answering(0, 0, 0, 0),
-        Outgoing::Sent(m, _) => message_out(m),
-    }
-}
-
-pub fn answer_out(a: Answer) -> CetskobiAnswer
-    ensures { result ≡ answer_out a }
-{
-    match a {
-        Answer::Accepted(o) => outgoing_out(o),
-        Answer::Refused(k) => answering(k, 0, 0, 0),
-    }
-}
-
-fn identity_of(me: Replica) -> CetskobiReplica
-    ensures { result ≡ identity_of me }
-{
-    let fixed = me.settings;
-    let settings = settings_out(fixed);
-    CetskobiReplica {
-        number: me.number,
-        settings: settings,
-        view: me.view,
-        epoch: me.epoch,
-    }
-}
-
-pub fn admission_out(a: Admission, old: CetskobiReplica) -> CetskobiAdmission
-    ensures { result ≡ admission_out a old }
-{
-    match a {
-        Admission::Admitted(me) => {
-            let next = identity_of(me);
-            CetskobiAdmission {
-                number: 0,
-                replica: next,
-            }
+    fn from(given: CetskobiSettings) -> Settings {
+        Settings {
+            rule: Rule::try_from(given.rule).unwrap_or(Rule::Higher),
         }
-        Admission::Refused(k) => CetskobiAdmission {
-            number: k,
-            replica: old,
-        },
     }
 }
 
-// A message that came from outside. A kind that is none of the three becomes one that question 12 refuses.
-fn message_in(kind: u8, version: u32, tie: u8) -> Message
-    ensures { result ≡ message_in kind version tie }
-{
-    let t = Timestamp {
-        version: version,
-        tie: tie,
-    };
-    if kind == Message::INV {
-        return Message::Inv(t);
+impl From<Settings> for CetskobiSettings {
+    ghost from_gives = { λ settings given. given ≡ settings_out settings };
+
+    fn from(settings: Settings) -> CetskobiSettings {
+        CetskobiSettings {
+            rule: settings.rule.into(),
+        }
     }
-    if kind == Message::ACK {
-        return Message::Ack(t);
-    }
-    if kind == Message::VAL {
-        return Message::Val(t);
-    }
-    let beyond = Timestamp {
-        version: version,
-        tie: 255,
-    };
-    Message::Val(beyond)
 }
 
-pub fn received_in(m: CetskobiMessage) -> Received
-    ensures { result ≡ received_in m }
-{
-    let message = message_in(m.kind, m.version, m.tie);
-    Received {
-        sender: m.sender,
-        epoch: m.epoch,
-        message: message,
+// An identity that came from outside, and on its way out.
+impl From<CetskobiReplica> for Replica {
+    ghost from_gives = { λ given me. me ≡ replica_of given };
+
+    fn from(given: CetskobiReplica) -> Replica {
+        Replica {
+            number: given.number,
+            epoch: given.epoch,
+            view: given.view,
+            settings: given.settings.into(),
+        }
+    }
+}
+
+impl From<Replica> for CetskobiReplica {
+    ghost from_gives = { λ me given. given ≡ identity_of me };
+
+    fn from(me: Replica) -> CetskobiReplica {
+        CetskobiReplica {
+            number: me.number,
+            settings: me.settings.into(),
+            view: me.view,
+            epoch: me.epoch,
+        }
+    }
+}
+
+// An answer by its numbers: all 0 where nothing leaves. The header is not repeated: it has the replica's number and epoch and the record's number.
+impl From<Answer> for CetskobiAnswer {
+    ghost from_gives = { λ answer numbers. numbers ≡ answer_out answer };
+
+    fn from(answer: Answer) -> CetskobiAnswer {
+        match answer {
+            Ok(Some((message, _))) => CetskobiAnswer {
+                number: 0,
+                kind: message.kind(),
+                tie: message.timestamp().tie,
+                version: message.timestamp().version,
+            },
+            Ok(None) => CetskobiAnswer::default(),
+            Err(Refused(number)) => CetskobiAnswer {
+                number,
+                ..CetskobiAnswer::default()
+            },
+        }
+    }
+}
+
+impl CetskobiAdmission {
+    // What was answered to the replica with this identity: a refused one keeps it.
+    pub fn of(answer: Admission, old: CetskobiReplica) -> CetskobiAdmission
+        ensures { result ≡ admission_out answer old }
+    {
+        match answer {
+            Ok(me) => CetskobiAdmission {
+                number: 0,
+                replica: me.into(),
+            },
+            Err(Refused(number)) => CetskobiAdmission {
+                number,
+                replica: old,
+            },
+        }
+    }
+}
+
+// A message that came from outside. A kind that is none of the three becomes a validation that question 12 refuses.
+impl From<CetskobiMessage> for Received {
+    ghost from_gives = { λ given received. received ≡ received_in given };
+
+    fn from(given: CetskobiMessage) -> Received {
+        let timestamp = Timestamp {
+            version: given.version,
+            tie: given.tie,
+        };
+        let message = match given.kind {
+            Message::INV => Message::Inv(timestamp),
+            Message::ACK => Message::Ack(timestamp),
+            Message::VAL => Message::Val(timestamp),
+            _ => Message::Val(Timestamp {
+                tie: 255, // no replica's
+                ..timestamp
+            }),
+        };
+        Received {
+            sender: given.sender,
+            epoch: given.epoch,
+            message,
+        }
     }
 }
