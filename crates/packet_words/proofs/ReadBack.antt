@@ -11,8 +11,7 @@ use lib.Seq.{get_or-drop}
 use Rattle.hermes_record.proofs.Tests.{both}
 use Rattle.hermes_record.specs.declared.timestamp.Rule.{Rule}
 use Rattle.packet_format.specs.declared.entry.Entry.{Entry}
-use Rattle.packet_format.specs.declared.answer.Fetched.TheVariants.{Found}
-use Rattle.packet_format.specs.declared.answer.Written.TheVariants.{Total}
+use Rattle.std.specs.Prelude.{Ok}
 use Rattle.hermes.specs.Kind.{kind_of, message_of}
 use Rattle.hermes.proofs.Kind.{kind-back}
 use Rattle.packet_format.specs.Entry.{entry_of, fields_for, good, no_entry}
@@ -56,7 +55,7 @@ spelled words k =
       len = word words k 6;
     }
 
-module _ (words bodies out : List ℕ) (n : ℕ) (e : packed words bodies (length out) ≡ Total n) where
+module _ (words bodies out : List ℕ) (n : ℕ) (e : packed words bodies (length out) ≡ Ok n) where
   takes : Accepts (word_messages words) bodies (length out)
   takes = accepts (word_messages words) bodies (length out) (total-yes (word_messages words) bodies (length out) n e).0
 
@@ -94,7 +93,7 @@ module _ (words bodies out : List ℕ) (n : ℕ) (e : packed words bodies (lengt
   begins zero l = refl
   begins (suc k) l = summed-more (word_messages words) k (omega (arith, size)) ∙ (λ i. begins k (omega arith) i + (says k l i).len)
 
-  reads : (rule : Rule) → ReadsBack rule (take n (output_of rule (Total n) (word_messages words) bodies out)) (word_messages words) bodies
+  reads : (rule : Rule) → ReadsBack rule (take n (output_of rule (Ok n) (word_messages words) bodies out)) (word_messages words) bodies
   reads rule = written-reads-back rule (word_messages words) bodies out n e
 
 pub words-read-back : WordsReadBack
@@ -105,7 +104,7 @@ words-read-back rule words bodies out n e =
     let begins = begins words bodies out n e in
     record {
       seven = (seven words bodies out n e).1;
-      message = λ k l. r.message k (omega (arith, s)) ∙ (λ i. Found (says k l i) (entry_place (s i) + begins k (omega arith) i));
+      message = λ k l. r.message k (omega (arith, s)) ∙ (λ i. Ok (says k l i, entry_place (s i) + begins k (omega arith) i));
       kind = kinds words bodies out n e;
       body = λ k l. r.body k (omega (arith, s)) ∙ (λ i. take (says k l i).len (drop (begins k (omega arith) i) bodies));
       beyond = λ k l. r.beyond k (omega (arith, s));

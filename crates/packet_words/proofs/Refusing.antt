@@ -6,7 +6,8 @@ use mathlib.Core.List.{List}
 use native.Mathlib.Omega.{arith}
 use lib.ListN.{length}
 use Rattle.packet_format.specs.declared.entry.Entry.{Entry}
-use Rattle.packet_format.specs.declared.answer.Written.TheVariants.{Refused}
+use Rattle.hermes.specs.Answer.{no}
+use Rattle.std.specs.Prelude.{Err}
 use Rattle.packet_format.specs.Entry.{fields_for, good}
 use Rattle.packet_format.specs.Writing.{all_good, write_refusal, packet_written}
 use Rattle.packet_words.specs.Words.{unfit, entry_at, count_in, entries_from, word_messages, packed}
@@ -27,7 +28,7 @@ some-bad (suc n) at words (suc k) l h =
     ap (λ (b : Bool). good (fields_for (entry_at words at) 0) && b) (some-bad n (at + 7) words k (omega arith) (ap (entry_at words) e ∙ h)) ∙ and-false (good (fields_for (entry_at words at) 0))
 
 pub refuses : (words bodies : List ℕ) (room k : ℕ) → k < count_in (length words) → entry_at words (7 * k) ≡ unfit
-    → packed words bodies room ≡ Refused 24
+    → packed words bodies room ≡ Err (no 24)
 unfolding packet_written write_refusal word_messages
 refuses words bodies room k l h =
     let e : 0 + 7 * k ≡ 7 * k = omega arith in

@@ -1,13 +1,12 @@
 -- Demand 2 of packets, over the words that a caller passes and in a group of either rule of ties: "A packet written reads back as the same
 -- messages, and an accepted packet is the one the writer makes of its messages."
 -- Here every word is named by its place, and no definition of the writer's stands between.
-use Rattle.std.specs.Prelude.{ℕ, zero, suc, ◌+◌, ◌*◌, ◌/◌, ◌≤◌, ◌<◌, ◌≡◌, List, [], ◌∷◌, ◌++◌, ◌≢◌, length, take, drop, get_or}
+use Rattle.std.specs.Prelude.{ℕ, zero, suc, ◌+◌, ◌*◌, ◌/◌, ◌≤◌, ◌<◌, ◌≡◌, List, [], ◌∷◌, ◌++◌, ◌≢◌, length, take, drop, get_or, Err, Ok}
 use Rattle.hermes_record.specs.declared.timestamp.Rule.{Rule}
 use Rattle.hermes.specs.Store.{Bytes}
 use Rattle.hermes.specs.Kind.{kind_of, timestamp_of, message_of}
 use Rattle.packet_format.specs.declared.entry.Entry.{Entry}
-use Rattle.packet_format.specs.declared.answer.Fetched.TheVariants.{Found, Refused}
-use Rattle.packet_format.specs.declared.answer.Written.TheVariants.{Total}
+use Rattle.hermes.specs.Answer.{no}
 use Rattle.packet_format.specs.Reading.{entry_place, packet_messages, bodies_in, fetched, body_of}
 use Rattle.packet_format.specs.Accepting.{Refuses}
 use Rattle.packet_format.specs.Writing.{output_of}
@@ -42,20 +41,20 @@ body_from words (suc k) = body_from words k + word words k 6
 -- says, with its body; past it a 23.
 pub record ReadsAs (rule : Rule) (p words bodies : List ℕ) : Type 0 where
   pub seven : length words ≡ 7 * many_in words
-  pub message : (k : ℕ) → k < many_in words → fetched rule p k ≡ Found (said_by words k) (entry_place (many_in words) + body_from words k)
+  pub message : (k : ℕ) → k < many_in words → fetched rule p k ≡ Ok (said_by words k, entry_place (many_in words) + body_from words k)
   pub kind : (k : ℕ) → k < many_in words → kind_of (said_by words k).message ≡ word words k 0
   pub body : (k : ℕ) → k < many_in words → body_of p (fetched rule p k) ≡ take (word words k 6) (drop (body_from words k) bodies)
-  pub beyond : (k : ℕ) → many_in words ≤ k → fetched rule p k ≡ Refused 23
+  pub beyond : (k : ℕ) → many_in words ≤ k → fetched rule p k ≡ Err (no 23)
 
 -- Whatever the writer accepts, the first n bytes of its output read back as the words that it was handed.
 abbrev pub WordsReadBack : Type 0
-WordsReadBack = (rule : Rule) (words bodies out : List ℕ) (n : ℕ) → packed words bodies (length out) ≡ Total n
-    → ReadsAs rule (take n (output_of rule (Total n) (word_messages words) bodies out)) words bodies
+WordsReadBack = (rule : Rule) (words bodies out : List ℕ) (n : ℕ) → packed words bodies (length out) ≡ Ok n
+    → ReadsAs rule (take n (output_of rule (Ok n) (word_messages words) bodies out)) words bodies
 
 -- 02, Wish 6: and a group of the other rule refuses them with 27, and hands on the empty part.
 abbrev pub WordsOtherRule : Type 0
-WordsOtherRule = (rule other : Rule) (words bodies out : List ℕ) (n : ℕ) → rule ≢ other → packed words bodies (length out) ≡ Total n
-    → Refuses other (take n (output_of rule (Total n) (word_messages words) bodies out)) 27
+WordsOtherRule = (rule other : Rule) (words bodies out : List ℕ) (n : ℕ) → rule ≢ other → packed words bodies (length out) ≡ Ok n
+    → Refuses other (take n (output_of rule (Ok n) (word_messages words) bodies out)) 27
 
 -- ---- an accepted packet is packed again from its messages' words
 
@@ -74,10 +73,10 @@ words_of (e ∷ es) =
 
 -- The writer of a group of this rule, handed the words of the messages of the packet p and their bodies, accepts them and makes exactly p.
 pub record Repacked (rule : Rule) (p out : List ℕ) : Type 0 where
-  pub answer : packed (words_of (packet_messages p)) (bodies_in p) (length out) ≡ Total (length p)
-  pub output : output_of rule (Total (length p)) (word_messages (words_of (packet_messages p))) (bodies_in p) out ≡ p ++ drop (length p) out
+  pub answer : packed (words_of (packet_messages p)) (bodies_in p) (length out) ≡ Ok (length p)
+  pub output : output_of rule (Ok (length p)) (word_messages (words_of (packet_messages p))) (bodies_in p) out ≡ p ++ drop (length p) out
 
 -- A packet accepted in a group is the one that the group's writer makes of its messages' words, wherever the output has room for it.
 abbrev pub AcceptedIsPacked : Type 0
-AcceptedIsPacked = (rule : Rule) (p : List ℕ) (i : ℕ) (e : Entry) (at : ℕ) (out : List ℕ) → Bytes p → fetched rule p i ≡ Found e at → length p ≤ length out
+AcceptedIsPacked = (rule : Rule) (p : List ℕ) (i : ℕ) (e : Entry) (at : ℕ) (out : List ℕ) → Bytes p → fetched rule p i ≡ Ok (e, at) → length p ≤ length out
     → Repacked rule p out

@@ -4,7 +4,7 @@ use Rattle.hermes.specs.declared.message.Message.TheVariants.{Val}
 use Rattle.hermes.specs.Kind.{known}
 use Rattle.packet_format.specs.declared.entry.Entry.{Entry}
 use Rattle.packet_format.specs.declared.entry.Fields.{Fields}
-use Rattle.packet_format.specs.declared.answer.Written.{Written}
+use Rattle.packet_format.specs.Answer.{Written}
 use Rattle.packet_format.specs.Entry.{entry_of}
 use Rattle.packet_format.specs.Writing.{packet_written}
 

@@ -11,11 +11,10 @@ pub const WORDS: usize = 7;
 pub fn count_in(n: usize) -> usize
     ensures { result ≡ count_in n }
 {
-    if n % WORDS != 0 {
-        return 0;
+    let count = n / WORDS;
+    if n % WORDS == 0 && count <= COUNT_MAX {
+        count
+    } else {
+        0
     }
-    if COUNT_MAX < n / WORDS {
-        return 0;
-    }
-    n / WORDS
 }
