@@ -1,14 +1,14 @@
-// The questions of a message that comes in, in order: 1 to 5, 10 to 12, and that of its kind. Each kind has a function of its own: one of all
-// these questions with three callers is not inlined, and the record goes through memory.
+// The questions of a message that comes in, in order: 1 to 5, 10 to 12, and that of its kind. They are inlined: where the kind is known the
+// compiler then sees the question of that kind alone, and as a call they would take the record through memory.
 #![tactic(auto)]
 
-ghost use Rattle.std.specs.Prelude.{◌≡◌, [], ◌∷◌, ◌++◌};
-ghost use Rattle.hermes.specs.Event.{common};
-ghost use Rattle.hermes.specs.Guards.{question13, question14};
+ghost use Rattle.std.specs.Prelude.{◌≡◌};
+ghost use Rattle.hermes.specs.Event.{common, own, of_kind};
+ghost use Rattle.hermes.specs.declared.event.Event.TheVariants.{Deliver};
 ghost use Rattle.replica_asking.specs.Cascade.{asked};
 ghost use Rattle.replica_message.specs.Message.{of_message};
 
-use hermes::{Received, Record, Replica, Timestamp};
+use hermes::{Message, Received, Record, Replica};
 use replica_asking::Asked;
 
 // Questions 10 to 12, of every message.
@@ -16,19 +16,26 @@ use replica_asking::Asked;
 fn asks_message(me: Replica, r: Record, m: Received, n: usize) -> Asked
     ensures { result ≡ asked (of_message me m n) r }
 {
-    let a = replica_guards::question10(me, m, r);
-    let Asked::Passed(r1) = a else {
-        return a;
-    };
-    let b = replica_guards::question11(me, m, r1);
-    let Asked::Passed(r2) = b else {
-        return b;
-    };
-    replica_guards::question12(m, n, r2)
+    let r = replica_guards::question10(me, m, r)?;
+    let r = replica_guards::question11(me, m, r)?;
+    replica_guards::question12(m, n, r)
 }
 
-// The questions of an invalidation.
-pub fn asks_inv(
+// Question 13 of an acknowledgement, 14 of a validation.
+#[inline(always)]
+fn asks_kind(m: Received, r: Record) -> Asked
+    ensures { result ≡ asked (of_kind m.message m.sender r) r }
+{
+    match m.message {
+        Message::Inv(_) => Ok(r),
+        Message::Ack(t) => replica_guards::question13(t, m.sender, r),
+        Message::Val(t) => replica_guards::question14(t, r),
+    }
+}
+
+// The questions of a message m that brings n bytes of value.
+#[inline(always)]
+pub fn asks(
     me: Replica,
     count: usize,
     bytes: usize,
@@ -37,59 +44,9 @@ pub fn asks_inv(
     m: Received,
     n: usize,
 ) -> Asked
-    ensures { result ≡ asked (common me count bytes i r (of_message me m n)) r }
+    ensures { result ≡ asked (common me count bytes i r (own me r (Deliver m) n)) r }
 {
-    let a = replica_asking::every(me, count, bytes, i, r);
-    let Asked::Passed(r1) = a else {
-        return a;
-    };
-    asks_message(me, r1, m, n)
-}
-
-// The questions of an acknowledgement with this timestamp.
-pub fn asks_ack(
-    me: Replica,
-    count: usize,
-    bytes: usize,
-    i: usize,
-    r: Record,
-    m: Received,
-    t: Timestamp,
-    n: usize,
-) -> Asked
-    ensures { result ≡ asked (common me count bytes i r (of_message me m n ++ (question13 t m.sender r ∷ []))) r }
-{
-    let a = replica_asking::every(me, count, bytes, i, r);
-    let Asked::Passed(r1) = a else {
-        return a;
-    };
-    let b = asks_message(me, r1, m, n);
-    let Asked::Passed(r2) = b else {
-        return b;
-    };
-    replica_guards::question13(t, m.sender, r2)
-}
-
-// The questions of a validation with this timestamp.
-pub fn asks_val(
-    me: Replica,
-    count: usize,
-    bytes: usize,
-    i: usize,
-    r: Record,
-    m: Received,
-    t: Timestamp,
-    n: usize,
-) -> Asked
-    ensures { result ≡ asked (common me count bytes i r (of_message me m n ++ (question14 t r ∷ []))) r }
-{
-    let a = replica_asking::every(me, count, bytes, i, r);
-    let Asked::Passed(r1) = a else {
-        return a;
-    };
-    let b = asks_message(me, r1, m, n);
-    let Asked::Passed(r2) = b else {
-        return b;
-    };
-    replica_guards::question14(t, r2)
+    let r = replica_asking::every(me, count, bytes, i, r)?;
+    let r = asks_message(me, r, m, n)?;
+    asks_kind(m, r)
 }
