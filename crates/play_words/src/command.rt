@@ -23,50 +23,36 @@ pub enum Keyword {
     Write,
     Deliver,
     View,
-    Unknown,
 }
 
 // Are the two words the same?
+#[tactic(auto, using(crate::proofs::Words::same_is))]
 pub fn is_word(a: &[u8], b: &[u8]) -> bool
     ensures { result ≡ same a.now b.now }
 {
-    if a.len() != b.len() {
-        return false;
-    }
-    let mut k = 0;
-    while k < a.len() {
-        if a[k] != b[k] {
-            return false;
-        }
-        k += 1;
-    }
-    true
+    a == b
 }
 
 // The command that a first word spells.
-pub fn lookup(word: &[u8]) -> Keyword
+#[tactic(auto, unfolding(crate::specs::Words::keyword_of))]
+pub fn lookup(word: &[u8]) -> Option<Keyword>
     ensures { result ≡ keyword_of word.now }
 {
     if is_word(word, b"read") {
-        return Keyword::Bare(Command::Read);
+        Some(Keyword::Bare(Command::Read))
+    } else if is_word(word, b"validate") {
+        Some(Keyword::Bare(Command::Validate))
+    } else if is_word(word, b"replay") {
+        Some(Keyword::Bare(Command::Replay))
+    } else if is_word(word, b"resend") {
+        Some(Keyword::Bare(Command::Resend))
+    } else if is_word(word, b"write") {
+        Some(Keyword::Write)
+    } else if is_word(word, b"deliver") {
+        Some(Keyword::Deliver)
+    } else if is_word(word, b"view") {
+        Some(Keyword::View)
+    } else {
+        None
     }
-    if is_word(word, b"validate") {
-        return Keyword::Bare(Command::Validate);
-    }
-    if is_word(word, b"replay") {
-        return Keyword::Bare(Command::Replay);
-    }
-    if is_word(word, b"resend") {
-        return Keyword::Bare(Command::Resend);
-    }
-    if is_word(word, b"write") {
-        return Keyword::Write;
-    }
-    if is_word(word, b"deliver") {
-        return Keyword::Deliver;
-    }
-    if is_word(word, b"view") {
-        return Keyword::View;
-    }
-    Keyword::Unknown
 }
