@@ -28,12 +28,12 @@ then (q ∷ qs) more r s e = go q.yes (then qs more r s) e
     go false rest h = absurd (cc)
 
 -- after a no, no more are asked
-pub stop : (qs more : List Question) (r : Record) (k : ℕ) → asked qs r ≡ Err (no k) → asked (qs ++ more) r ≡ Err (no k)
-stop [] more r k e = absurd (cc)
-stop (q ∷ qs) more r k e = go q.yes (stop qs more r k) e
+pub stop : (qs more : List Question) (r : Record) (e : Refused) → asked qs r ≡ Err e → asked (qs ++ more) r ≡ Err e
+stop [] more r e h = absurd (cc)
+stop (q ∷ qs) more r e h = go q.yes (stop qs more r e) h
   where
-    go : (b : Bool) → (asked qs r ≡ Err (no k) → asked (qs ++ more) r ≡ Err (no k)) → next b (asked qs r) q.number ≡ Err (no k)
-        → next b (asked (qs ++ more) r) q.number ≡ Err (no k)
+    go : (b : Bool) → (asked qs r ≡ Err e → asked (qs ++ more) r ≡ Err e) → next b (asked qs r) q.number ≡ Err e
+        → next b (asked (qs ++ more) r) q.number ≡ Err e
     go true rest h = rest h
     go false rest h = h
 
@@ -55,11 +55,11 @@ passed-same (q ∷ qs) r s e = go q.yes (passed-same qs r s) e
     go true rest h = rest h
     go false rest h = absurd (cc)
 
-pub refused-first : (qs : List Question) (r : Record) (k : ℕ) → positive qs ≡ true → asked qs r ≡ Err (no k) → (first_no qs ≡ k) × (0 < k)
-refused-first [] r k p e = absurd (cc)
-refused-first (q ∷ qs) r k p e = go q.yes (refused-first qs r k (both (ltb 0 q.number) (positive qs) p).1) e
+pub refused-first : (qs : List Question) (r : Record) (e : Refused) → positive qs ≡ true → asked qs r ≡ Err e → (first_no qs ≡ e.0) × (0 < e.0)
+refused-first [] r e p h = absurd (cc)
+refused-first (q ∷ qs) r e p h = go q.yes (refused-first qs r e (both (ltb 0 q.number) (positive qs) p).1) h
   where
-    go : (b : Bool) → (asked qs r ≡ Err (no k) → (first_no qs ≡ k) × (0 < k)) → next b (asked qs r) q.number ≡ Err (no k)
-        → (cond b (first_no qs) q.number ≡ k) × (0 < k)
+    go : (b : Bool) → (asked qs r ≡ Err e → (first_no qs ≡ e.0) × (0 < e.0)) → next b (asked qs r) q.number ≡ Err e
+        → (cond b (first_no qs) q.number ≡ e.0) × (0 < e.0)
     go true rest h = rest h
-    go false rest h = let n : no q.number ≡ no k = cc in let n : q.number ≡ k = ap (λ (x : Refused). x.0) n in (n, rw n at (ltb-true 0 q.number (both (ltb 0 q.number) (positive qs) p).0))
+    go false rest h = let same : no q.number ≡ e = cc in let n : q.number ≡ e.0 = ap (λ (x : Refused). x.0) same in (n, rw n at (ltb-true 0 q.number (both (ltb 0 q.number) (positive qs) p).0))
