@@ -6,7 +6,7 @@ ghost use Rattle.packet_format.specs.Accepting.{accepted, taken, fetched_of};
 use crate::entry::fields_of;
 use crate::reader::{header_good, part};
 use crate::walk::table_good;
-use hermes::Rule;
+use hermes::{Refused, Rule};
 use packet_format::{Accepted, ENTRY_BYTES, HEADER_BYTES, Taken};
 
 // The facts of a packet in a group of this rule: questions 20, 27, 21 and 22, once for all of its messages.
@@ -19,7 +19,7 @@ pub fn accept(rule: Rule, packet: &[u8]) -> Accepted
             count: 0,
         };
     }
-    if packet[0] != rule.number() {
+    if packet[0] != u8::from(rule) {
         return Accepted {
             number: 27,
             count: 0,
@@ -50,20 +50,20 @@ pub fn take(packet: &[u8], facts: Accepted, i: usize) -> Taken
 {
     if facts.count as usize <= i {
         if facts.number == 0 {
-            return Taken::Refused(23);
+            return Err(Refused(23));
         }
-        return Taken::Refused(facts.number);
+        return Err(Refused(facts.number));
     }
     let n = packet.len();
     let pos = HEADER_BYTES + ENTRY_BYTES * i;
     if n < pos + ENTRY_BYTES {
-        return Taken::Refused(21);
+        return Err(Refused(21));
     }
     let f = fields_of(&packet[pos..]);
     if n < f.offset + f.len as usize {
-        return Taken::Refused(22);
+        return Err(Refused(22));
     }
-    Taken::Entry(f)
+    Ok(f)
 }
 
 // The body that goes with an answer to a taking from this packet.
@@ -71,7 +71,7 @@ pub fn body_taken(packet: &[u8], taken: Taken) -> &[u8]
     ensures { result.now ≡ body_of packet.now (fetched_of taken) }
 {
     match taken {
-        Taken::Entry(f) => part(packet, f.offset, f.len as usize),
-        Taken::Refused(_) => &packet[..0],
+        Ok(f) => part(packet, f.offset, f.len as usize),
+        Err(_) => &packet[..0],
     }
 }

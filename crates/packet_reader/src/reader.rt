@@ -5,8 +5,8 @@ ghost use Rattle.packet_format.specs.Reading.{question20, fetched, body_of};
 use crate::entry::fields_of;
 use crate::numbers::num2;
 use crate::walk::{fits, table_good, walk};
-use hermes::Rule;
-use packet_format::{COUNT_MAX, ENTRY_BYTES, Fetched, HEADER_BYTES, TOTAL_MAX, entry_of};
+use hermes::{Refused, Rule};
+use packet_format::{COUNT_MAX, ENTRY_BYTES, Entry, Fetched, HEADER_BYTES, TOTAL_MAX};
 
 // Question 20.
 pub(crate) fn header_good(packet: &[u8]) -> bool
@@ -19,7 +19,7 @@ pub(crate) fn header_good(packet: &[u8]) -> bool
     let first = packet[0];
     let count = packet[1] as usize;
     let total = num2(packet[2], packet[3]);
-    ((first == Rule::HIGHER) | (first == Rule::LOWER))
+    Rule::try_from(first).is_ok()
         & (1 <= count)
         & (count <= COUNT_MAX)
         & (total == n)
@@ -32,36 +32,35 @@ pub fn fetch(rule: Rule, packet: &[u8], i: usize) -> Fetched
     ensures { result ≡ fetched rule packet.now i }
 {
     if !header_good(packet) {
-        return Fetched::Refused(20);
+        return Err(Refused(20));
     }
-    if packet[0] != rule.number() {
-        return Fetched::Refused(27);
+    if packet[0] != u8::from(rule) {
+        return Err(Refused(27));
     }
     let count = packet[1] as usize;
     let first = HEADER_BYTES + ENTRY_BYTES * count;
     if packet.len() < first {
-        return Fetched::Refused(21);
+        return Err(Refused(21));
     }
     if count <= i {
         if !table_good(packet, count) {
-            return Fetched::Refused(22);
+            return Err(Refused(22));
         }
-        return Fetched::Refused(23);
+        return Err(Refused(23));
     }
     let before = walk(packet, 0, i, first);
     if before.next < i {
-        return Fetched::Refused(22);
+        return Err(Refused(22));
     }
     let f = fields_of(&packet[HEADER_BYTES + ENTRY_BYTES * i..]);
     if !fits(f, before.at) {
-        return Fetched::Refused(22);
+        return Err(Refused(22));
     }
     let behind = walk(packet, i + 1, count, before.at + f.len as usize);
     if (behind.next < count) | (behind.at != packet.len()) {
-        return Fetched::Refused(22);
+        return Err(Refused(22));
     }
-    let entry = entry_of(f);
-    Fetched::Found(entry, f.offset)
+    Ok((Entry::from(f), f.offset))
 }
 
 // The body that goes with an answer to a fetch from this packet.
@@ -69,8 +68,8 @@ pub fn body(packet: &[u8], fetched: Fetched) -> &[u8]
     ensures { result.now ≡ body_of packet.now fetched }
 {
     match fetched {
-        Fetched::Found(entry, at) => part(packet, at, entry.len as usize),
-        Fetched::Refused(_) => &packet[..0],
+        Ok((entry, at)) => part(packet, at, entry.len as usize),
+        Err(_) => &packet[..0],
     }
 }
 
