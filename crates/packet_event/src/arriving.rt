@@ -2,12 +2,12 @@
 ghost use Rattle.std.specs.Prelude.{◌≡◌};
 ghost use Rattle.packet_format.specs.Reading.{fetched};
 ghost use Rattle.packet_event.specs.Arrival.{received_of};
-ghost use Rattle.packet_event.specs.Arriving.{arriving_of, answer_in};
+ghost use Rattle.packet_event.specs.Arriving.{arriving_of};
 
-use hermes::{Answer, Event, Received, Record, Replica};
+use hermes::{Event, Received, Refused, Replica};
 use packet_format::{Entry, Fetched};
 
-// What a fetch comes to: an event on the record of this number.
+// What a packet's message comes to: an event on the record of this number. Its body goes with the fetch.
 #[derive(Clone, Copy)]
 pub struct Arriving {
     pub fetched: Fetched,
@@ -19,45 +19,22 @@ pub struct Arriving {
 fn received(entry: Entry) -> Received
     ensures { result ≡ received_of entry }
 {
-    let message = entry.message;
     Received {
         sender: entry.header.sender,
         epoch: entry.header.epoch,
-        message: message,
+        message: entry.message,
     }
 }
 
-// The event of message i, read by the rule of replica me's group: its delivery. A refused packet's is refused too.
-pub fn event_in(me: Replica, bytes: &[u8], i: usize) -> Arriving
+// The event of message i, read by the rule of replica me's group: its delivery. Of a refused packet there is none.
+pub fn event_in(me: Replica, bytes: &[u8], i: usize) -> Result<Arriving, Refused>
     ensures { result ≡ arriving_of (fetched me.settings.rule bytes.now i) }
 {
-    let settings = me.settings;
-    let rule = settings.rule;
-    let f = packet_reader::fetch(rule, bytes, i);
-    match f {
-        Fetched::Found(entry, _) => {
-            let m = received(entry);
-            Arriving {
-                fetched: f,
-                index: entry.header.index,
-                event: Event::Deliver(m),
-            }
-        }
-        Fetched::Refused(_) => Arriving {
-            fetched: f,
-            // no table that question 2 admits has a record of this number
-            index: Record::COUNT_MAX,
-            event: Event::Read,
-        },
-    }
-}
-
-// The event's answer, or the packet's own number where it is refused.
-pub fn answer_in(fetched: Fetched, answer: Answer) -> Answer
-    ensures { result ≡ answer_in fetched answer }
-{
-    match fetched {
-        Fetched::Found(_, _) => answer,
-        Fetched::Refused(k) => Answer::Refused(k),
-    }
+    let fetched = packet_reader::fetch(me.settings.rule, bytes, i);
+    let (entry, _) = fetched?;
+    Ok(Arriving {
+        fetched,
+        index: entry.header.index,
+        event: Event::Deliver(received(entry)),
+    })
 }
