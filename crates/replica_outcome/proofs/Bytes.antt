@@ -1,75 +1,35 @@
 -- Laws of a record's bytes in the store, as the code fills them.
-use Prim.Native.Nat.{ℕ, zero, suc, ◌+◌, ◌-◌, ◌*◌, ◌≤◌}
-use mathlib.Core.Path.{◌≡◌, refl, sym, ap, ◌∙◌}
-use mathlib.Core.Bool.{true}
-use mathlib.Core.List.{List, ◌++◌, append_assoc}
-use native.Mathlib.Omega.{arith}
-use lib.Dec.{ltb, leb, eqb}
-use lib.ListN.{length, get_or, take, drop, replicate, length-replicate}
-use lib.Seq.{paste, take_all, take_at, drop_at, drop-drop, length-take-le}
-use borrow.Author.Tests.{leb-true, ltb-true, eqb-true, le-leb, lt-ltb, eq-eqb}
+use Rattle.std.proofs.Common.{ℕ, zero, suc, ◌+◌, ◌-◌, ◌*◌, ◌≤◌, ◌≡◌, true, List, ◌++◌, length, take, drop, replicate, refl, ap, ◌∙◌, arith, append_assoc, length-take-le}
+use Rattle.std.proofs.lemmas.List.{take_at, drop_at, drop-drop, drop-append-le, drop-replicate, length-replicate}
+use borrow.Rule.Slice.PartMut.{put_mid}
+use borrow.Author.Tests.{le-leb, lt-ltb, eq-eqb}
 use Rattle.hermes.specs.Store.{padded, place}
 use Rattle.hermes_record.specs.declared.record.Record.{Record}
 use Rattle.hermes.specs.declared.event.Replica.{Replica}
 use Rattle.hermes.proofs.Guards.{Common}
-use Rattle.hermes_record.proofs.Tests.{both}
 use Rattle.hermes.specs.Event.{Step, moved_by, stored_by}
 use Rattle.hermes.specs.Event as event
 use Rattle.replica_outcome.specs.Placing.{room, stored_for}
 
--- ---- zeros
+-- ---- zeros in all bytes of a slot, and a value over them: the value is in its place
 
-unfoldable pub zeros : List ℕ
-zeros = replicate 192 0
-
-get_d-zeros : (n k : ℕ) → get_or {A = ℕ} (replicate n 0) k 0 ≡ 0
-get_d-zeros zero k = refl
-get_d-zeros (suc n) zero = refl
-get_d-zeros (suc n) (suc k) = get_d-zeros n k
-
-pub zero-here : (k : ℕ) → get_or zeros k 0 ≡ 0
-unfolding zeros
-zero-here k = get_d-zeros 192 k
-
-pub length-zeros : length zeros ≡ 192
-unfolding zeros
-length-zeros = length-replicate {A = ℕ} 192 0
-
-drop-zeros : (n m k : ℕ) (t : List ℕ) → k ≡ n + m → drop n (replicate k 0 ++ t) ≡ replicate m 0 ++ t
-drop-zeros zero m k t e = let f : k ≡ m = omega arith in rw f
-drop-zeros (suc n) m zero t e = absurd (omega arith)
-drop-zeros (suc n) m (suc k) t e = drop-zeros n m k t (omega arith)
-
--- ---- zeros in all 192 bytes, and the value over them: the value is in its place
-
-pub fill-place : (i : ℕ) (v s : List ℕ) → 192 * i + 192 ≤ length s → length v ≤ 192 → paste (paste s (192 * i) zeros 192) (192 * i) v (length v) ≡ place i v s
-unfolding place padded zeros
-fill-place i v s fits short =
-    let at = 192 * i in
-    let tail = drop (at + 192) s in
+fill-slot : (at m : ℕ) (v s : List ℕ) → at + m ≤ length s → length v ≤ m
+    → put_mid at (length v) (put_mid at m s (replicate m 0)) v ≡ take at s ++ ((v ++ replicate (m - length v) 0) ++ drop (at + m) s)
+fill-slot at m v s fits short =
+    let tail = drop m (drop at s) in
     let head : length (take at s) ≡ at = length-take-le at s (omega arith) in
-    let whole : paste s at (replicate 192 0) 192 ≡ take at s ++ (replicate 192 0 ++ tail) =
-    append_assoc (take at s) (take 192 (replicate 192 0)) tail in
-    let before : take at (take at s ++ (replicate 192 0 ++ tail)) ≡ take at s = take_at (take at s) (replicate 192 0 ++ tail) at head in
-    let after : drop (at + length v) (take at s ++ (replicate 192 0 ++ tail)) ≡ replicate (192 - length v) 0 ++ tail =
-    sym (drop-drop (length v) at (take at s ++ (replicate 192 0 ++ tail)))
-    ∙ ap (drop (length v)) (drop_at (take at s) (replicate 192 0 ++ tail) at head)
-    ∙ drop-zeros (length v) (192 - length v) 192 tail (omega arith) in
-    ap (λ (l : List ℕ). paste l at v (length v)) whole
-    ∙ rw (before, after, take_all (length v) v (omega arith))
-    (append_assoc (take at s) v (replicate (192 - length v) 0 ++ tail)
-    ∙ ap (λ (l : List ℕ). take at s ++ l) (sym (append_assoc v (replicate (192 - length v) 0) tail)))
+    let long : length v ≤ length (replicate m 0) = rw (length-replicate {A = ℕ} m 0) short in
+    let rest : drop (length v) (drop at (take at s ++ (replicate m 0 ++ tail))) ≡ replicate (m - length v) 0 ++ tail =
+    ap (drop (length v)) (drop_at (take at s) (replicate m 0 ++ tail) at head)
+    ∙ drop-append-le (length v) (replicate m 0) tail long ∙ ap (λ (l : List ℕ). l ++ tail) (drop-replicate (length v) m 0) in
+    rw (take_at (take at s) (replicate m 0 ++ tail) at head, rest, drop-drop m at s, append_assoc v (replicate (m - length v) 0) (drop (at + m) s)) refl
+
+pub fill_place : (i k n : ℕ) (v s z y : List ℕ) → 192 * i + 192 ≤ length s → length v ≤ 192 → k ≡ 192 → n ≡ length v → z ≡ replicate k 0 → y ≡ v
+    → put_mid (192 * i) n (put_mid (192 * i) k s z) y ≡ place i v s
+unfolding place padded
+fill_place i k n v s z y fits short ek en ez ey = rw (en, ez, ey, ek) (fill-slot (192 * i) 192 v s fits short)
 
 -- ---- room
-
-pub roomy : (count bytes i n : ℕ) → room count bytes i n ≡ true → (192 * i + 192 ≤ bytes) × (n ≤ 192)
-roomy count bytes i n e =
-    let p = both _ (leb n 192) e in
-    let q = both _ (ltb i count) p.0 in
-    let s = both (leb count 4096) (eqb bytes (192 * count)) q.0 in
-    let w = eqb-true bytes (192 * count) s.1 in
-    let l = ltb-true i count q.1 in
-    (omega arith, leb-true n 192 p.1)
 
 -- an event that questions 1 to 5 let pass has room for its value
 pub room-passed : {me : Replica} {count bytes i : ℕ} {r : Record} → Common me count bytes i r → (n : ℕ) → n ≤ 192 → room count bytes i n ≡ true

@@ -1,5 +1,6 @@
 -- What an event comes to, by what its questions answered.
 use Prim.Native.Nat.{ℕ, zero, suc, ◌<◌}
+use Rattle.std.specs.Prelude.{Ok, Err}
 use mathlib.Core.Path.{◌≡◌, refl, sym, ap, ◌∙◌}
 use mathlib.Core.List.{List, []}
 use native.Mathlib.Omega.{arith}
@@ -13,55 +14,54 @@ use Rattle.hermes.specs.declared.event.Event.TheVariants.{Read, Ask, Write, Comm
 use Rattle.hermes.specs.Guards.{Question}
 use Rattle.hermes.specs.Event.{Step, kept, part_of, stamp_handed, common, own, refusal, moved_by, stored_by, storing, decide, moved, effect, read_step, replay_step, validate_step, resend_step}
 use Rattle.hermes.proofs.Guards.{positive-own}
-use Rattle.replica_asking.specs.declared.Asked.{Asked}
-use Rattle.replica_asking.specs.declared.Asked.TheVariants.{Passed, Refused}
-use Rattle.replica_asking.specs.Cascade.{asked, stopped_by}
+use Rattle.hermes.specs.declared.event.Refused.{Refused}
+use Rattle.replica_asking.specs.Cascade.{Asked, asked, stopped_by}
 use Rattle.replica_asking.proofs.Cascade.{passed_none, passed-same, refused-first}
 
 module _ (me : Replica) (count bytes i : ℕ) (r : Record) (e : Event) (n : ℕ) where
   abbrev questions : List Question
   questions = common me count bytes i r (own me r e n)
 
-  pub accepted : (s : Record) → asked questions r ≡ Passed s → refusal me count bytes i r e n ≡ 0
+  pub accepted : (s : Record) → asked questions r ≡ Ok s → refusal me count bytes i r e n ≡ 0
   unfolding refusal
   accepted s h = passed_none questions r s h
 
-  pub same-record : (s : Record) → asked questions r ≡ Passed s → r ≡ s
+  pub same-record : (s : Record) → asked questions r ≡ Ok s → r ≡ s
   same-record s h = passed-same questions r s h
 
-  pub refused : (k : ℕ) → asked questions r ≡ Refused k → (refusal me count bytes i r e n ≡ k) × (0 < k)
+  pub refused : (k : Refused) → asked questions r ≡ Err k → (refusal me count bytes i r e n ≡ k.0) × (0 < k.0)
   unfolding refusal
   refused k h = refused-first questions r k (positive-own me r e n) h
 
   -- a refused event: its number, the record as it was, the store as it was
-  pub refused-moved : (k : ℕ) (s : Step) → asked questions r ≡ Refused k → moved_by (refusal me count bytes i r e n) r s ≡ stopped_by (Refused k) r
-  refused-moved k s h = let (f, p) = refused k h in rw f (go k p)
+  pub refused-moved : (k : Refused) (s : Step) → asked questions r ≡ Err k → moved_by (refusal me count bytes i r e n) r s ≡ stopped_by (Err k) r
+  refused-moved k s h = let (f, p) = refused k h in rw f (go k.0 p)
     where
-      go : (k : ℕ) → 0 < k → moved_by k r s ≡ stopped_by (Refused k) r
+      go : (n : ℕ) → 0 < n → moved_by n r s ≡ stopped_by (Err (record { 0 = n })) r
       go zero l = absurd (omega arith)
-      go (suc k) l = refl
+      go (suc n) l = refl
 
-  pub refused-store : (k : ℕ) (store : List ℕ) (s : Step) → asked questions r ≡ Refused k → stored_by (refusal me count bytes i r e n) i store s ≡ store
-  refused-store k store s h = let (f, p) = refused k h in rw f (go k p)
+  pub refused-store : (k : Refused) (store : List ℕ) (s : Step) → asked questions r ≡ Err k → stored_by (refusal me count bytes i r e n) i store s ≡ store
+  refused-store k store s h = let (f, p) = refused k h in rw f (go k.0 p)
     where
-      go : (k : ℕ) → 0 < k → stored_by k i store s ≡ store
+      go : (n : ℕ) → 0 < n → stored_by n i store s ≡ store
       go zero l = absurd (omega arith)
-      go (suc k) l = refl
+      go (suc n) l = refl
 
   -- the same, of an answer a that the questions gave
-  pub stops : (a : Asked) (k : ℕ) (s : Step) → a ≡ asked questions r → a ≡ Refused k → stopped_by a r ≡ moved_by (refusal me count bytes i r e n) r s
+  pub stops : (a : Asked) (k : Refused) (s : Step) → a ≡ asked questions r → a ≡ Err k → stopped_by a r ≡ moved_by (refusal me count bytes i r e n) r s
   stops a k s h g = ap (λ (x : Asked). stopped_by x r) g ∙ sym (refused-moved k s (sym h ∙ g))
 
-  pub stops-store : (a : Asked) (k : ℕ) (store : List ℕ) (s : Step) → a ≡ asked questions r → a ≡ Refused k
+  pub stops-store : (a : Asked) (k : Refused) (store : List ℕ) (s : Step) → a ≡ asked questions r → a ≡ Err k
       → store ≡ stored_by (refusal me count bytes i r e n) i store s
   stops-store a k store s h g = sym (refused-store k store s (sym h ∙ g))
 
   -- an accepted event does its step on the record that was passed on
-  pub goes : (a : Asked) (x : Record) (s : Record → Step) → a ≡ asked questions r → a ≡ Passed x
+  pub goes : (a : Asked) (x : Record) (s : Record → Step) → a ≡ asked questions r → a ≡ Ok x
       → moved_by 0 x (s x) ≡ moved_by (refusal me count bytes i r e n) r (s r)
   goes a x s h g = rw (accepted x (sym h ∙ g), same-record x (sym h ∙ g))
 
-  pub goes-store : (a : Asked) (x : Record) (store : List ℕ) (s : Record → Step) → a ≡ asked questions r → a ≡ Passed x
+  pub goes-store : (a : Asked) (x : Record) (store : List ℕ) (s : Record → Step) → a ≡ asked questions r → a ≡ Ok x
       → storing i (s x).stored store ≡ stored_by (refusal me count bytes i r e n) i store (s r)
   goes-store a x store s h g = rw (accepted x (sym h ∙ g), same-record x (sym h ∙ g))
 

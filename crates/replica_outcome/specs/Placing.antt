@@ -1,7 +1,6 @@
 -- A value put in its place where there is room for it.
-use Rattle.std.specs.Prelude.{ℕ, ◌*◌, Bool, cond, ◌&&◌, List, ltb, leb, eqb, length}
-use Rattle.hermes.specs.declared.event.Answer.{Answer}
-use Rattle.hermes.specs.declared.event.Answer.TheVariants.{Accepted, Refused}
+use Rattle.std.specs.Prelude.{ℕ, ◌*◌, Bool, cond, ◌&&◌, List, ltb, leb, eqb, length, Err, Ok}
+use Rattle.hermes.specs.Answer.{Answer}
 use Rattle.hermes.specs.Store.{place}
 
 -- is there room for a value of n bytes in record i of count, in a store of so many bytes? (questions 2, 4, and 8 or 12)
@@ -14,5 +13,5 @@ placed count i v store = cond (room count (length store) i (length v)) (place i 
 
 -- 01, Write "value stored", Deliver INV "stamp and value are taken": the store after an event that stores its value, by its answer
 abbrev pub stored_for : Answer → ℕ → ℕ → List ℕ → List ℕ → List ℕ
-stored_for (Accepted o) count i v store = placed count i v store
-stored_for (Refused k) count i v store = store
+stored_for (Ok o) count i v store = placed count i v store
+stored_for (Err k) count i v store = store

@@ -9,29 +9,21 @@ use hermes::{Answer, Record};
 fn has_room(count: usize, bytes: usize, i: usize, n: usize) -> bool
     ensures { result ≡ room count bytes i n }
 {
-    if count <= Record::COUNT_MAX {
-        (bytes == Record::VALUE_MAX * count) & (i < count) & (n <= Record::VALUE_MAX)
-    } else {
-        false
-    }
+    count <= Record::COUNT_MAX
+        && bytes == Record::VALUE_MAX * count
+        && i < count
+        && n <= Record::VALUE_MAX
 }
 
 // Zeros in all of the 192 bytes of record i, then the value over them: the compiler does the first without a loop or a call.
+#[tactic(auto, using(crate::proofs::Bytes::fill_place))]
 fn put(store: &mut [u8], i: usize, value: &[u8])
     requires { (192 * i + 192 ≤ length store.old) × (length value.now ≤ 192) }
     ensures { store.new ≡ place i value.now store.old }
 {
     let at = Record::VALUE_MAX * i;
-    let mut z: usize = 0;
-    while z < Record::VALUE_MAX {
-        store[at + z] = 0;
-        z += 1;
-    }
-    let mut k: usize = 0;
-    while k < value.len() {
-        store[at + k] = value[k];
-        k += 1;
-    }
+    store[at..at + Record::VALUE_MAX].fill(0);
+    store[at..at + value.len()].copy_from_slice(value);
 }
 
 // The value goes into the 192 bytes of record i of count, and zeros after it. Without room for it the store stays as it is.
@@ -47,8 +39,7 @@ fn place(store: &mut [u8], count: usize, i: usize, value: &[u8])
 pub fn stored(store: &mut [u8], count: usize, i: usize, a: Answer, value: &[u8])
     ensures { store.new ≡ stored_for a count i value.now store.old }
 {
-    match a {
-        Answer::Accepted(_) => place(store, count, i, value),
-        Answer::Refused(_) => {}
+    if a.is_ok() {
+        place(store, count, i, value);
     }
 }
