@@ -11,29 +11,21 @@ use hermes::{Event, Header, Message, Outgoing, Record, Replica};
 pub fn send(me: Replica, i: usize, message: Message) -> Outgoing
     ensures { result ≡ send me i message }
 {
-    Outgoing::Sent(
-        message,
-        Header {
-            sender: me.number,
-            epoch: me.epoch,
-            index: i,
-        },
-    )
+    let header = Header {
+        sender: me.number,
+        epoch: me.epoch,
+        index: i,
+    };
+    Some((message, header))
 }
 
 // The first n bytes of record i, as a part of the store, or as many of them as it has.
 pub fn part(store: &[u8], i: usize, n: usize) -> &[u8]
     ensures { result.now ≡ value_at i n store.now }
 {
-    let size = store.len();
-    if size / Record::VALUE_MAX < i {
-        return &store[size..];
-    }
-    let at = Record::VALUE_MAX * i;
-    if size - at < n {
-        return &store[at..];
-    }
-    &store[at..at + n]
+    let at = Record::VALUE_MAX.saturating_mul(i).min(store.len());
+    let rest = &store[at..];
+    &rest[..n.min(rest.len())]
 }
 
 // The bytes that an invalidation takes along, as a part of the store; the empty part otherwise. r is the record as the event left it.
@@ -41,12 +33,8 @@ pub fn body(out: Outgoing, r: Record, store: &[u8]) -> &[u8]
     ensures { result.now ≡ leaving_body out r store.now }
 {
     match out {
-        Outgoing::Sent(message, header) => match message {
-            Message::Inv(_) => part(store, header.index, r.len as usize),
-            Message::Ack(_) => &store[..0],
-            Message::Val(_) => &store[..0],
-        },
-        Outgoing::None => &store[..0],
+        Some((Message::Inv(_), header)) => part(store, header.index, r.len as usize),
+        Some((Message::Ack(_) | Message::Val(_), _)) | None => &store[..0],
     }
 }
 
@@ -55,14 +43,8 @@ fn sender_of(e: Event) -> u16
     ensures { result ≡ sender_of e }
 {
     match e {
-        Event::Read => 0,
-        Event::Ask => 0,
-        Event::Write => 0,
-        Event::Commit(_) => 0,
-        Event::Replay => 0,
         Event::Deliver(m) => replica_members::with(0, m.sender),
-        Event::Validate => 0,
-        Event::Resend => 0,
+        _ => 0,
     }
 }
 
@@ -71,11 +53,10 @@ pub fn recipients(me: Replica, e: Event, out: Outgoing) -> u16
     ensures { result ≡ recipients me e out }
 {
     match out {
-        Outgoing::Sent(message, _) => match message {
-            Message::Inv(_) => replica_members::without(me.view, me.number),
-            Message::Ack(_) => sender_of(e),
-            Message::Val(_) => replica_members::without(me.view, me.number),
-        },
-        Outgoing::None => 0,
+        Some((Message::Inv(_) | Message::Val(_), _)) => {
+            replica_members::without(me.view, me.number)
+        }
+        Some((Message::Ack(_), _)) => sender_of(e),
+        None => 0,
     }
 }
