@@ -25,7 +25,7 @@ use Rattle.hermes.specs.Agreement.{Started, Entries, Shows, Alike, IsAccepted, a
 use Rattle.hermes.specs.Reads.{Sound}
 use Rattle.hermes.specs.Asking.{EveryAskGives, RefusedBy, Still, HandsOut, reads, asks, Apart, Opened, AskingAny, Asking}
 use Rattle.hermes_record.proofs.Order.{ties-order, equal-same, greater-later, later-apart, not_after-trans, not_after-antisym}
-use Rattle.hermes_record.proofs.Tests.{and_both}
+use Rattle.std.proofs.lemmas.Bool.{and_from}
 use Rattle.hermes.proofs.Store.{value-slot}
 use Rattle.hermes.proofs.Guards.{sound-passed, commit-own, other-number}
 use Rattle.hermes.proofs.Words.{is_state, state-is}
@@ -115,7 +115,7 @@ not-in-vain wins n i t v h e = go (apply wins n i (Commit t) v) (applied wins n 
             inr (λ z. omega arith),
             (
               inr (λ z. omega arith),
-              (inl (and_both _ _ (state-is (record_of i n).state state.Valid h) (equal-same t (record_of i n).timestamp e)), (inr (λ z. omega arith), (inr (λ z. omega arith), tt))),
+              (inl (and_from _ _ (state-is (record_of i n).state state.Valid h) (equal-same t (record_of i n).timestamp e)), (inr (λ z. omega arith), (inr (λ z. omega arith), tt))),
             ),
           ),
         ),

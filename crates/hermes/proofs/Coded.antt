@@ -20,7 +20,7 @@ use Rattle.hermes.specs.declared.event.Replica.{Replica}
 use Rattle.hermes_record.specs.Order.{rule_number}
 use Rattle.hermes_record.specs.Record.{code}
 use Rattle.hermes.specs.Node.{Node}
-use Rattle.hermes_record.proofs.Tests.{both}
+use Rattle.std.proofs.lemmas.Bool.{and_parts}
 use Rattle.hermes.proofs.Words.{coded, coded-code}
 
 pub record Coded (A : Type 0) : Type 0 where
@@ -39,7 +39,7 @@ unfolding same_list
 list-sound [] [] e = refl
 list-sound [] (y ∷ ys) e = absurd (false≢true e)
 list-sound (x ∷ xs) [] e = absurd (false≢true e)
-list-sound (x ∷ xs) (y ∷ ys) e = let (p, q) = both (eqb x y) (same_list xs ys) e in ap₂ ◌∷◌ (eqb-true x y p) (list-sound xs ys q)
+list-sound (x ∷ xs) (y ∷ ys) e = let (p, q) = and_parts (eqb x y) (same_list xs ys) e in ap₂ ◌∷◌ (eqb-true x y p) (list-sound xs ys q)
 
 unfoldable pub same : {A : Type 0} → Coded A → A → A → Bool
 same c a b = same_list (c.numbers a) (c.numbers b)
@@ -126,7 +126,7 @@ unfolding same_table
 table-sound [] [] e = refl
 table-sound [] (y ∷ ys) e = absurd (false≢true e)
 table-sound (x ∷ xs) [] e = absurd (false≢true e)
-table-sound (x ∷ xs) (y ∷ ys) e = let (p, q) = both (same record_code x y) (same_table xs ys) e in ap₂ ◌∷◌ (same-sound record_code x y p) (table-sound xs ys q)
+table-sound (x ∷ xs) (y ∷ ys) e = let (p, q) = and_parts (same record_code x y) (same_table xs ys) e in ap₂ ◌∷◌ (same-sound record_code x y p) (table-sound xs ys q)
 
 unfoldable pub same_node : Node → Node → Bool
 same_node n m = same replica_code n.me m.me && (same_table n.table m.table && same_list n.store m.store)
@@ -134,8 +134,8 @@ same_node n m = same replica_code n.me m.me && (same_table n.table m.table && sa
 pub node-sound : (n m : Node) → same_node n m ≡ true → n ≡ m
 unfolding same_node
 node-sound n m e =
-    let (p, q) = both (same replica_code n.me m.me) _ e in
-    let (s, t) = both (same_table n.table m.table) _ q in
+    let (p, q) = and_parts (same replica_code n.me m.me) _ e in
+    let (s, t) = and_parts (same_table n.table m.table) _ q in
     let p' : n.me ≡ m.me = same-sound replica_code n.me m.me p in
     let s' : n.table ≡ m.table = table-sound n.table m.table s in
     let t' : n.store ≡ m.store = list-sound n.store m.store t in

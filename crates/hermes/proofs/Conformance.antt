@@ -2,7 +2,7 @@
 -- step, read as the source's variables, is the action's effect.
 use Prim.Native.Nat.{ℕ, zero, suc, ◌≤◌, ◌<◌}
 use mathlib.Core.Path.{◌≡◌, refl, sym, ap, subst₃, ◌∙◌}
-use mathlib.Core.Bool.{Bool, true, false, not, ◌&&◌, ◌||◌, false≢true}
+use mathlib.Core.Bool.{Bool, true, false, not, ◌&&◌, ◌||◌, false≢true, or-true}
 use mathlib.Core.Logic.{inl, inr, ◌≢◌, ◌↔◌}
 use mathlib.Core.List.{List, [], ◌∷◌}
 use native.Mathlib.Omega.{arith}
@@ -33,7 +33,7 @@ use Rattle.hermes.specs.Locality.{body}
 use Rattle.hermes.specs.Source as source
 use Rattle.hermes.specs.Source.{Vars, Sending, In, HInit, HReadGuard, HWriteGuard, HCommitGuard, HReplayWriteWidenedGuard, HRcvInvGuard, HRcvInv, HRcvAckGuard, HRcvAckThenSendVals, HRcvValGuard, HSendValsGuard, NodeFailureGuard, ResendGuard, Resent, send_inv}
 use Rattle.hermes.specs.Conformance.{vars_of, five_and, delivered, message, Follows, ViewFollows, StartFollows, Demand2By, Demand2}
-use Rattle.hermes_record.proofs.Tests.{both, and_both, is_false, or-true}
+use Rattle.std.proofs.lemmas.Bool.{and_parts, and_from, false_from_ne_true}
 use Rattle.hermes.proofs.Members.{has-zero, within-members, members-within, every-other, others-every, adds-sender}
 use Rattle.hermes_record.proofs.Order.{later-greater, greater-later}
 use Rattle.hermes.proofs.Store.{value-slot, take-padded}
@@ -136,11 +136,11 @@ coordinator s (inr (inr e)) = absurd e
 module _ (me : Replica) (r : Record) (b : List ℕ) where
   may-send : (question15 me r).yes ≡ true → HSendValsGuard me (seen r b)
   may-send h =
-      let (p, q) = both (one_of r.state (state.Write ∷ state.Replay ∷ [])) (others_in me.number me.view r.acks) h in
+      let (p, q) = and_parts (one_of r.state (state.Write ∷ state.Replay ∷ [])) (others_in me.number me.view r.acks) h in
       (one_in r.state (state.Write ∷ state.Replay ∷ []) p, others-every me.number me.view r.acks q)
 
   sends-may : HSendValsGuard me (seen r b) → (question15 me r).yes ≡ true
-  sends-may g = and_both _ _ (in_one r.state (state.Write ∷ state.Replay ∷ []) g.0) (every-other me.number me.view r.acks g.1)
+  sends-may g = and_from _ _ (in_one r.state (state.Write ∷ state.Replay ∷ []) g.0) (every-other me.number me.view r.acks g.1)
 
 -- question 16 is the guard of HReplayWrite, widened
 module _ (me : Replica) (r : Record) (b : List ℕ) where
@@ -156,8 +156,8 @@ module _ (me : Replica) (r : Record) (b : List ℕ) where
       go (inr (inr e)) = absurd e
 
   replays-may : HReplayWriteWidenedGuard me (seen r b) → (question16 me r).yes ≡ true
-  replays-may (inl (e, dead)) = and_both _ _ (in_one r.state (state.Invalid ∷ state.InvalidWrite ∷ []) (inl e)) (ap not (is_false (has me.view r.writer) dead))
-  replays-may (inr (e, dead)) = and_both _ _ (in_one r.state (state.Invalid ∷ state.InvalidWrite ∷ []) (inr (inl e))) (ap not (is_false (has me.view r.writer) dead))
+  replays-may (inl (e, dead)) = and_from _ _ (in_one r.state (state.Invalid ∷ state.InvalidWrite ∷ []) (inl e)) (ap not (false_from_ne_true (has me.view r.writer) dead))
+  replays-may (inr (e, dead)) = and_from _ _ (in_one r.state (state.Invalid ∷ state.InvalidWrite ∷ []) (inr (inl e))) (ap not (false_from_ne_true (has me.view r.writer) dead))
 
 -- a write's step, below the greatest version
 write-does : (me : Replica) (i : ℕ) (r : Record) (b v : List ℕ) → (question9 r).yes ≡ true
@@ -198,7 +198,7 @@ module _ (wins : Orders) (n : Node) (i : ℕ) (v : List ℕ) where
       (λ y. let o = commit-own n.me (record_of i n) t (length v) (its_own n i (Commit t) v y) in
       (five wins n i (Commit t) v (question8 (length v) ∷ []) y ((its_own n i (Commit t) v y).1.0, tt), (is_state (record_of i n).state state.Valid o.valid, equal-ts o.current, o.below)))
       (λ g. back wins n i (Commit t) v (question8 (length v) ∷ []) g.0
-      (and_both _ _ (state-is (record_of i n).state state.Valid g.1.0) (ts-same t (record_of i n).timestamp g.1.1), (g.0.1.1.1.1.1.0, (lt-ltb (record_of i n).timestamp.version 4294967295 g.1.2, tt))))
+      (and_from _ _ (state-is (record_of i n).state state.Valid g.1.0) (ts-same t (record_of i n).timestamp g.1.1), (g.0.1.1.1.1.1.0, (lt-ltb (record_of i n).timestamp.version 4294967295 g.1.2, tt))))
       (λ y. write-does n.me i (record_of i n) (slot i n.store) v (its_own n i (Commit t) v y).1.1.0)
 
   follows-replay : Follows wins n i Replay v (five_and n i []) (HReplayWriteWidenedGuard n.me) (source.HReplayWrite n.me i)
@@ -302,7 +302,7 @@ module _ (wins : Orders) (n : Node) (i sender epoch : ℕ) (t : Timestamp) (v : 
           both-eleven g.0.1.1.1.1.1.0 g.1.1,
           (
             g.0.1.1.1.1.1.1.0,
-            (and_both (waits && same) fresh (and_both waits same (in_one (record_of i n).state (state.Write ∷ state.InvalidWrite ∷ state.Replay ∷ []) g.1.4) (ts-same t (record_of i n).written g.1.3)) (ap not g.1.2), tt),
+            (and_from (waits && same) fresh (and_from waits same (in_one (record_of i n).state (state.Write ∷ state.InvalidWrite ∷ state.Replay ∷ []) g.1.4) (ts-same t (record_of i n).written g.1.3)) (ap not g.1.2), tt),
           ),
         ),
       ))
@@ -334,7 +334,7 @@ module _ (wins : Orders) (n : Node) (i sender epoch : ℕ) (t : Timestamp) (v : 
           g.0.1.1.1.1.1.0,
           (
             g.0.1.1.1.1.1.1.0,
-            (and_both (not valid) same (ap not (is_false valid (λ h. g.1.1 (is_state (record_of i n).state state.Valid h)))) (ts-same t (record_of i n).timestamp g.1.2), tt),
+            (and_from (not valid) same (ap not (false_from_ne_true valid (λ h. g.1.1 (is_state (record_of i n).state state.Valid h)))) (ts-same t (record_of i n).timestamp g.1.2), tt),
           ),
         ),
       ))
@@ -409,7 +409,7 @@ view-follows n epoch alive = record {
 
     from : AllYes (question1 n.me ∷ question3 n.me ∷ []) × NodeFailureGuard n.me epoch alive
         → number_of (answer_of (admission_number (admission_of (first_no questions) next)) None) ≡ 0
-    from (y, g) = rw (none-says-no questions (y.0, (y.1.0, (lt-ltb n.me.epoch epoch g.later, (and_both _ _ (members-within alive n.me.view g.fewer) (two_size alive g.one g.two g.apart g.one_stays g.two_stays), tt)))))
+    from (y, g) = rw (none-says-no questions (y.0, (y.1.0, (lt-ltb n.me.epoch epoch g.later, (and_from _ _ (members-within alive n.me.view g.fewer) (two_size alive g.one g.two g.apart g.one_stays g.two_stays), tt)))))
 
 -- ---- the theorems
 

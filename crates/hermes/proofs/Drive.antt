@@ -25,7 +25,7 @@ use Rattle.hermes.specs.Event.{Step, own, inv_step, ack_step, completes, send}
 use Rattle.hermes.specs.Node.{record_of}
 use Rattle.hermes.specs.Run.{deliver, Entry, by, Group, advance}
 use Rattle.hermes.specs.Recipe.{each, under_way, is_valid, other, due}
-use Rattle.hermes_record.proofs.Tests.{both, and_both, is_false}
+use Rattle.std.proofs.lemmas.Bool.{and_parts, and_from, false_from_ne_true}
 use Rattle.hermes.proofs.Members.{Has, has-small, others-members, members-others, with-members, members-with}
 use Rattle.hermes_record.proofs.Order.{equal-same, not_after-antisym, not_after-total, later-apart}
 use Rattle.hermes.proofs.Progress.{Task, order, self, Post, incoming, step_by, Alive, Did, did, delivers, Plays, none, one, next, for-each}
@@ -33,13 +33,13 @@ use Rattle.hermes.proofs.Progress.{Task, order, self, Post, incoming, step_by, A
 -- ---- the others of the view
 
 pub other-yes : (set d u : ℕ) → other set d u ≡ true → Has set u × (u ≢ d)
-other-yes set d u h = let (p, q) = both (has set u) (not (eqb u d)) h in (p, eqb-false u d (not-true _ q))
+other-yes set d u h = let (p, q) = and_parts (has set u) (not (eqb u d)) h in (p, eqb-false u d (not-true _ q))
 
 pub yes-other : (set d u : ℕ) → Has set u → u ≢ d → other set d u ≡ true
 yes-other set d u h n = rw (h, ne_eqb u d n)
 
 pub due-yes : (set d acks u : ℕ) → due set d acks u ≡ true → (other set d u ≡ true) × (has acks u ≡ false)
-due-yes set d acks u h = let (p, q) = both (other set d u) (not (has acks u)) h in (p, not-true _ q)
+due-yes set d acks u h = let (p, q) = and_parts (other set d u) (not (has acks u)) h in (p, not-true _ q)
 
 -- every replica of the view is d, is counted or is due
 which : (set d acks u : ℕ) → Has set u → (u ≡ d) ⊎ (Has acks u ⊎ (due set d acks u ≡ true))
@@ -340,7 +340,7 @@ module _ (T : Task) (inside : T.i < T.count) (ord : TieOrder (order T)) (d : ℕ
             driver true c = inr (record {
               valid = rw (D.here, c);
               val = rw number at (D.left (Val M) (rw (c, p.stamps d hd)) low);
-              nobody = λ u t z. last u t z (others-members d set (with r.acks k) (both (under_way r) (others_in d set (with r.acks k)) c).1 u (other-yes set d u (due-yes set d acks u z).0).0);
+              nobody = λ u t z. last u t z (others-members d set (with r.acks k) (and_parts (under_way r) (others_in d set (with r.acks k)) c).1 u (other-yes set d u (due-yes set d acks u z).0).0);
             })
               where
                 last : (u : ℕ) → suc k ≤ u → due set d acks u ≡ true → (u ≡ d) ⊎ Has (with r.acks k) u → ⊥
@@ -350,9 +350,9 @@ module _ (T : Task) (inside : T.i < T.count) (ord : TieOrder (order T)) (d : ℕ
               rw (D.here, c) (record {
                 working = w.working;
                 own = w.own;
-                uncounted = λ u t z. is_false _ (λ h. counted u t z (with-members r.acks k u h));
+                uncounted = λ u t z. false_from_ne_true _ (λ h. counted u t z (with-members r.acks k u h));
                 awaited = λ u t. wait u (w.awaited u t) (ℕ_discrete u k);
-                missing = is_false _ (λ h. false≢true (sym c ∙ and_both (under_way r) (others_in d set (with r.acks k)) w.working h));
+                missing = false_from_ne_true _ (λ h. false≢true (sym c ∙ and_from (under_way r) (others_in d set (with r.acks k)) w.working h));
               }),
               D.silent (rw c) ∙ number,
             )

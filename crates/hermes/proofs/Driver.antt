@@ -3,7 +3,7 @@
 -- sent, so that it is itself a driver of the first two kinds.
 use Prim.Native.Nat.{ℕ, zero, suc, ◌+◌, ◌*◌, ◌≤◌, ◌<◌}
 use mathlib.Core.Path.{◌≡◌, refl, sym, ap, subst, ◌∙◌}
-use mathlib.Core.Bool.{Bool, true, false, cond, not, ◌&&◌, ◌||◌, false≢true}
+use mathlib.Core.Bool.{Bool, true, false, cond, not, ◌&&◌, ◌||◌, false≢true, or-true}
 use mathlib.Core.Logic.{◌⊎◌, inl, inr, ◌≢◌}
 use mathlib.Core.List.{List, [], ◌∷◌}
 use native.Mathlib.Omega.{arith}
@@ -27,7 +27,8 @@ use Rattle.hermes.specs.Run as run
 use Rattle.hermes.specs.Run.{Action, Entry, by, Group, advance}
 use Rattle.hermes.specs.Settling.{Helps}
 use Rattle.hermes.specs.Recipe.{Choice, nobody, laptop, or_else, first, each, under_way, is_valid, is_invalid, other, due, leads, all_show, goes_on, says_again, takes_over, driver, late, vals, round, finish, drive, driven, recipe}
-use Rattle.hermes_record.proofs.Tests.{both, and_both, either, is_false, implied, or-true}
+use Rattle.hermes_record.proofs.Tests.{implied}
+use Rattle.std.proofs.lemmas.Bool.{and_parts, and_from, or_cases, false_from_ne_true}
 use Rattle.hermes.proofs.Members.{Has, has-small, has-zero, all-at, all_of, others-members}
 use Rattle.hermes_record.proofs.Order.{not_after-refl, not_after-trans, not_after-antisym, not_after-total, not-later}
 use Rattle.hermes.proofs.Words.{is_state, state-is, Two, count-le, count-without, size-two}
@@ -102,7 +103,7 @@ module _ (wins : ℕ → ℕ → Bool) (set i : ℕ) (g : Group) (d : ℕ) (hd :
   due-size acks = count-le 16 (due set d acks) (other set d) (λ u h. (due-yes set d acks u h).0)
 
   late-size : count_below 16 (late wins set i g d) ≤ count_below 16 (other set d)
-  late-size = count-le 16 (late wins set i g d) (other set d) (λ u h. (both (other set d u) _ h).0)
+  late-size = count-le 16 (late wins set i g d) (other set d) (λ u h. (and_parts (other set d u) _ h).0)
 
   vals-length : (k : ℕ) → length (vals wins set i g d k) ≤ count_below 16 (other set d)
   vals-length k = rw (each-length 16 (late wins set i g d) (λ u. by u (run.deliver k))) late-size
@@ -118,7 +119,7 @@ module _ (wins : ℕ → ℕ → Bool) (set i : ℕ) (g : Group) (d : ℕ) (hd :
 
   -- somebody else is in a set of two, and nobody has yet answered
   not-alone : leb 2 (size set) ≡ true → others_in d set 0 ≡ false
-  not-alone two = is_false (others_in d set 0) (λ h. none_of (size-two set two) h)
+  not-alone two = false_from_ne_true (others_in d set 0) (λ h. none_of (size-two set two) h)
     where
       only : others_in d set 0 ≡ true → (u : ℕ) → Has set u → u ≡ d
       only h u k = go (others-members d set 0 h u k)
@@ -198,16 +199,16 @@ module _ (T : Task) (inside : T.i < T.count) (ord : TieOrder (order T)) (g : Gro
     -- who leads holds M
     leads-yes : (u : ℕ) → leads (order T) set i g u ≡ true → Has set u × ((r u).timestamp ≡ M)
     unfolding leads
-    leads-yes u h = let (p, q) = both (has set u) _ h in (
+    leads-yes u h = let (p, q) = and_parts (has set u) _ h in (
       p,
       at_most u p (subst (λ (t : Timestamp). NotAfter (order T) t (r u).timestamp) held (not_after-total (order T) ord (r holder).timestamp (r u).timestamp
-          (is_false _ (λ k. false≢true (sym (not-true _ (all-at 16 (not_ahead u) q holder (has-small set holder hh))) ∙ and_both (has set holder) _ hh k))))),
+          (false_from_ne_true _ (λ k. false≢true (sym (not-true _ (all-at 16 (not_ahead u) q holder (has-small set holder hh))) ∙ and_from (has set holder) _ hh k))))),
     )
 
     yes-leads : (u : ℕ) → Has set u → (r u).timestamp ≡ M → leads (order T) set i g u ≡ true
     unfolding leads
-    yes-leads u h e = and_both (has set u) _ h (all_of 16 (not_ahead u) (λ v l. rw (is_false (has set v && later (order T) (r v).timestamp (r u).timestamp)
-        (λ k. let (p, q) = both (has set v) _ k in not-later (order T) ord (r v).timestamp (r u).timestamp (rw e (most v p)) q))))
+    yes-leads u h e = and_from (has set u) _ h (all_of 16 (not_ahead u) (λ v l. rw (false_from_ne_true (has set v && later (order T) (r v).timestamp (r u).timestamp)
+        (λ k. let (p, q) = and_parts (has set v) _ k in not-later (order T) ord (r v).timestamp (r u).timestamp (rw e (most v p)) q))))
 
     -- these entries leave all showing M, and are at most 3k − 2
     pub record Achieves (entries : List Entry) : Type 0 where
@@ -220,12 +221,12 @@ module _ (T : Task) (inside : T.i < T.count) (ord : TieOrder (order T)) (g : Gro
       late_of = late (order T) set i g d
 
       lates : (u : ℕ) → late_of u ≡ true → Has set u × (u ≢ d)
-      lates u h = other-yes set d u (both (other set d u) _ h).0
+      lates u h = other-yes set d u (and_parts (other set d u) _ h).0
 
       shown : Shown T d M late_of g
       shown = record {
-        no = λ u h e. is_false (is_valid (r u)) (λ v. false≢true (sym (not-true _ (both (other set d u) _ h).1) ∙ and_both (leads (order T) set i g u) (is_valid (r u)) (yes-leads u (lates u h).0 e) v));
-        yes = λ u h n z. let (p, q) = both (leads (order T) set i g u) (is_valid (r u)) (shows u h n z (leads (order T) set i g u && is_valid (r u)) refl) in (is_state (r u).state state.Valid q, (leads-yes u p).1);
+        no = λ u h e. false_from_ne_true (is_valid (r u)) (λ v. false≢true (sym (not-true _ (and_parts (other set d u) _ h).1) ∙ and_from (leads (order T) set i g u) (is_valid (r u)) (yes-leads u (lates u h).0 e) v));
+        yes = λ u h n z. let (p, q) = and_parts (leads (order T) set i g u) (is_valid (r u)) (shows u h n z (leads (order T) set i g u && is_valid (r u)) refl) in (is_state (r u).state state.Valid q, (leads-yes u p).1);
       }
         where
           shows : (u : ℕ) → Has set u → u ≢ d → late_of u ≡ false → (b : Bool) → (leads (order T) set i g u && is_valid (r u)) ≡ b → b ≡ true
@@ -315,7 +316,7 @@ module _ (T : Task) (inside : T.i < T.count) (ord : TieOrder (order T)) (g : Gro
 
           go : (b : Bool) → others_in d set (r d).acks ≡ b → Achieves (finish (order T) set i g d b)
           go true q = by-telling (run.validate i) (step_by T d (r d) Validate []) refl
-              (did T inside g o.alive d hd (run.validate i) Validate [] refl (and_both (under_way (r d)) (others_in d set (r d).acks) c q, tt))
+              (did T inside g o.alive d hd (run.validate i) Validate [] refl (and_from (under_way (r d)) (others_in d set (r d).acks) c q, tt))
               stamp refl (ap (λ (t : Timestamp). send (self T d) i (Val t)) stamp) (λ u h. all u h (others-members d set (r d).acks q u h))
           go false q = by-asking (run.resend i) (step_by T d (r d) Resend []) refl
               (did T inside g o.alive d hd (run.resend i) Resend [] refl (rw c, tt))
@@ -337,32 +338,32 @@ module _ (T : Task) (inside : T.i < T.count) (ord : TieOrder (order T)) (g : Gro
           stamp stamp refl (ap (λ (t : Timestamp). send (self T d) i (Inv t)) stamp) (λ u h k. absurd (false≢true (sym (has-zero u) ∙ k))) (not-alone (order T) set i g d hd two))
         where
           two : leb 2 (size set) ≡ true
-          two = subst (λ (x : ℕ). leb 2 (size x) ≡ true) (o.alive.live d hd).view (both (leb (g.at d).me.number 15) (leb 2 (size (g.at d).me.view)) (o.alive.live d hd).sound.first).1
+          two = subst (λ (x : ℕ). leb 2 (size x) ≡ true) (o.alive.live d hd).view (and_parts (leb (g.at d).me.number 15) (leb 2 (size (g.at d).me.view)) (o.alive.live d hd).sound.first).1
 
     -- whichever drives
     pub by-driver : (d : ℕ) → (goes_on (order T) set i g d || (says_again (order T) set i g d || takes_over (order T) set i g d)) ≡ true → Achieves (drive (order T) set i g d (r d).state)
-    by-driver d h = go (either (goes_on (order T) set i g d) _ h)
+    by-driver d h = go (or_cases (goes_on (order T) set i g d) _ h)
       where
         last : (says_again (order T) set i g d ≡ true) ⊎ (takes_over (order T) set i g d ≡ true) → Achieves (drive (order T) set i g d (r d).state)
-        last (inl z) = let (p, q) = both (leads (order T) set i g d) _ z in let (k, t) = leads-yes d p in let (v, w) = both (is_valid (r d)) (eqb (r d).writer d) q in writer d k t v (eqb-true _ _ w)
-        last (inr z) = let (p, q) = both (leads (order T) set i g d) _ z in let (k, t) = leads-yes d p in let (v, w) = both (is_invalid (r d)) (not (has set (r d).writer)) q in waiting d k t v (not-true _ w)
+        last (inl z) = let (p, q) = and_parts (leads (order T) set i g d) _ z in let (k, t) = leads-yes d p in let (v, w) = and_parts (is_valid (r d)) (eqb (r d).writer d) q in writer d k t v (eqb-true _ _ w)
+        last (inr z) = let (p, q) = and_parts (leads (order T) set i g d) _ z in let (k, t) = leads-yes d p in let (v, w) = and_parts (is_invalid (r d)) (not (has set (r d).writer)) q in waiting d k t v (not-true _ w)
 
         go : (goes_on (order T) set i g d ≡ true) ⊎ ((says_again (order T) set i g d || takes_over (order T) set i g d) ≡ true) → Achieves (drive (order T) set i g d (r d).state)
-        go (inl z) = let (p, q) = both (leads (order T) set i g d) (under_way (r d)) z in let (k, t) = leads-yes d p in working d k t q
-        go (inr z) = last (either (says_again (order T) set i g d) _ z)
+        go (inl z) = let (p, q) = and_parts (leads (order T) set i g d) (under_way (r d)) z in let (k, t) = leads-yes d p in working d k t q
+        go (inr z) = last (or_cases (says_again (order T) set i g d) _ z)
 
     -- ---- there is a driver, or all is done
     -- nobody who leads has a save or replay under way, or is valid and its own last writer: so the last writer of who leads is not in the view
     gone : ((u : ℕ) → u < 16 → goes_on (order T) set i g u ≡ false) → ((u : ℕ) → u < 16 → says_again (order T) set i g u ≡ false) → (d : ℕ) → Has set d → (r d).timestamp ≡ M → has set (r d).writer ≡ false
-    gone a b d hd t = is_false (has set (r d).writer) (λ h. never h (o.writers d (r d).writer hd h refl))
+    gone a b d hd t = false_from_ne_true (has set (r d).writer) (λ h. never h (o.writers d (r d).writer hd h refl))
       where
         w : ℕ
         w = (r d).writer
 
         never : Has set w → Behind (order T) w (r w) (r d).timestamp → ⊥
         never h (inl z) = not-later (order T) ord (r w).timestamp M (most w h) (subst (λ (x : Timestamp). later (order T) (r w).timestamp x ≡ true) t z)
-        never h (inr (p, q, inl v)) = false≢true (sym (b w (has-small set w h)) ∙ and_both (leads (order T) set i g w) _ (yes-leads w h (p ∙ t)) (and_both (is_valid (r w)) (eqb (r w).writer w) v (eq-eqb (r w).writer w q)))
-        never h (inr (p, q, inr v)) = false≢true (sym (a w (has-small set w h)) ∙ and_both (leads (order T) set i g w) (under_way (r w)) (yes-leads w h (p ∙ t)) v)
+        never h (inr (p, q, inl v)) = false≢true (sym (b w (has-small set w h)) ∙ and_from (leads (order T) set i g w) _ (yes-leads w h (p ∙ t)) (and_from (is_valid (r w)) (eqb (r w).writer w) v (eq-eqb (r w).writer w q)))
+        never h (inr (p, q, inr v)) = false≢true (sym (a w (has-small set w h)) ∙ and_from (leads (order T) set i g w) (under_way (r w)) (yes-leads w h (p ∙ t)) v)
 
     -- who shows it valid at the outset holds M where all do
     all_hold : ((u : ℕ) → Has set u → (r u).state ≡ state.Valid) → Achieves []
@@ -381,8 +382,8 @@ module _ (T : Task) (inside : T.i < T.count) (ord : TieOrder (order T)) (g : Gro
         rest a b c u h = shows u h (all u h)
           where
             shows : (v : ℕ) → Has set v → (r v).timestamp ≡ M → (r v).state ≡ state.Valid
-            shows v k t = valid-else (r v) (is_false (under_way (r v)) (λ z. false≢true (sym (a v (has-small set v k)) ∙ and_both (leads (order T) set i g v) (under_way (r v)) (yes-leads v k t) z)))
-                (is_false (is_invalid (r v)) (λ z. false≢true (sym (c v (has-small set v k)) ∙ and_both (leads (order T) set i g v) _ (yes-leads v k t) (rw (z, gone a b v k t)))))
+            shows v k t = valid-else (r v) (false_from_ne_true (under_way (r v)) (λ z. false≢true (sym (a v (has-small set v k)) ∙ and_from (leads (order T) set i g v) (under_way (r v)) (yes-leads v k t) z)))
+                (false_from_ne_true (is_invalid (r v)) (λ z. false≢true (sym (c v (has-small set v k)) ∙ and_from (leads (order T) set i g v) _ (yes-leads v k t) (rw (z, gone a b v k t)))))
 
             all : (v : ℕ) → Has set v → (r v).timestamp ≡ M
             all v k = at_most v k (subst (λ (t : Timestamp). NotAfter (order T) t (r v).timestamp) held (o.settled holder v hh k (state-is _ state.Valid (shows holder hh held))))

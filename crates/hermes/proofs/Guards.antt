@@ -22,7 +22,7 @@ use Rattle.hermes_record.specs.Record.{one_of}
 use Rattle.hermes.specs.Guards.{Question, AllYes, first_no, question5, shapely}
 use Rattle.hermes.specs.Event.{common, of_kind, own, refusal}
 use Rattle.hermes.specs.Node.{view_questions}
-use Rattle.hermes_record.proofs.Tests.{both, either}
+use Rattle.std.proofs.lemmas.Bool.{and_parts, or_cases}
 use Rattle.hermes_record.proofs.Order.{same-equal}
 
 -- ---- lists of questions
@@ -34,11 +34,11 @@ positive (q ∷ qs) = ltb 0 q.number && positive qs
 
 pub all_yes : (qs : List Question) → positive qs ≡ true → first_no qs ≡ 0 → AllYes qs
 all_yes [] p e = tt
-all_yes (q ∷ qs) p e = go q.yes refl e (all_yes qs (both (ltb 0 q.number) (positive qs) p).1)
+all_yes (q ∷ qs) p e = go q.yes refl e (all_yes qs (and_parts (ltb 0 q.number) (positive qs) p).1)
   where
     go : (b : Bool) → q.yes ≡ b → cond b (first_no qs) q.number ≡ 0 → (first_no qs ≡ 0 → AllYes qs) → (q.yes ≡ true) × AllYes qs
     go true y z rest = (y, rest z)
-    go false y z rest = absurd (omega (arith, ltb-true 0 q.number (both (ltb 0 q.number) (positive qs) p).0))
+    go false y z rest = absurd (omega (arith, ltb-true 0 q.number (and_parts (ltb 0 q.number) (positive qs) p).0))
 
 pub none-says-no : (qs : List Question) → AllYes qs → first_no qs ≡ 0
 none-says-no [] y = refl
@@ -95,10 +95,10 @@ pub record Common (me : Replica) (count bytes i : ℕ) (r : Record) : Type 0 whe
 
 pub sound-passed : (me : Replica) (r : Record) → (question5 me r).yes ≡ true → Sound me r
 sound-passed me r e =
-    let p = both _ (not (has r.acks me.number)) e in
-    let q = both _ (leb r.writer 15) p.0 in
-    let s = both _ (leb r.written.tie 15) q.0 in
-    let t = both _ (leb r.timestamp.tie 15) s.0 in
+    let p = and_parts _ (not (has r.acks me.number)) e in
+    let q = and_parts _ (leb r.writer 15) p.0 in
+    let s = and_parts _ (leb r.written.tie 15) q.0 in
+    let t = and_parts _ (leb r.timestamp.tie 15) s.0 in
     record {
       short = leb-true _ _ t.0;
       tie = leb-true _ _ t.1;
@@ -109,9 +109,9 @@ sound-passed me r e =
 
 pub common-passed : (me : Replica) (count bytes i : ℕ) (r : Record) (rest : List Question) → AllYes (common me count bytes i r rest) → Common me count bytes i r
 common-passed me count bytes i r rest (q1, (q2, (q3, (q4, (q5, y))))) =
-    let a = both _ (leb 2 (size me.view)) q1 in
-    let b = both _ (eqb bytes (192 * count)) q2 in
-    let c = both _ (leb count 4096) b.0 in
+    let a = and_parts _ (leb 2 (size me.view)) q1 in
+    let b = and_parts _ (eqb bytes (192 * count)) q2 in
+    let c = and_parts _ (leb count 4096) b.0 in
     record {
       number = leb-true _ _ a.0;
       two = leb-true _ _ a.1;
@@ -171,22 +171,22 @@ module _ (me : Replica) (r : Record) where
 
   pub commit-own : (t : Timestamp) (n : ℕ) → AllYes (own me r (Commit t) n) → CommitOwn t r n
   commit-own t n y =
-      let (p, q) = both (one_of r.state (state.Valid ∷ [])) (same_timestamp t r.timestamp) y.0 in
+      let (p, q) = and_parts (one_of r.state (state.Valid ∷ [])) (same_timestamp t r.timestamp) y.0 in
       record { valid = p; current = same-equal t r.timestamp q; fits = leb-true _ _ y.1.0; below = ltb-true _ _ y.1.1.0 }
 
   pub kind-own : (m : Message) (sender : ℕ) → AllYes (of_kind m sender r) → KindOwn m sender r
   kind-own (Inv t) sender y = tt
   kind-own (Ack t) sender y =
-      let (a, c) = both (one_of r.state (state.Write ∷ state.InvalidWrite ∷ state.Replay ∷ []) && same_timestamp t r.written) (not (has r.acks sender)) y.0 in
-      let (p, q) = both (one_of r.state (state.Write ∷ state.InvalidWrite ∷ state.Replay ∷ [])) (same_timestamp t r.written) a in
+      let (a, c) = and_parts (one_of r.state (state.Write ∷ state.InvalidWrite ∷ state.Replay ∷ []) && same_timestamp t r.written) (not (has r.acks sender)) y.0 in
+      let (p, q) = and_parts (one_of r.state (state.Write ∷ state.InvalidWrite ∷ state.Replay ∷ [])) (same_timestamp t r.written) a in
       (p, same-equal t r.written q, not-true _ c)
   kind-own (Val t) sender y =
-      let (p, q) = both (not (one_of r.state (state.Valid ∷ []))) (same_timestamp t r.timestamp) y.0 in
+      let (p, q) = and_parts (not (one_of r.state (state.Valid ∷ []))) (same_timestamp t r.timestamp) y.0 in
       (not-true _ p, same-equal t r.timestamp q)
 
   pub deliver-own : (m : Received) (n : ℕ) → AllYes (own me r (Deliver m) n) → DeliverOwn me r m n
   deliver-own m n y =
-      let q11 = both (has me.view m.sender) _ y.1.0 in
+      let q11 = and_parts (has me.view m.sender) _ y.1.0 in
       record {
         epoch = eqb-true _ _ y.0;
         known = q11.0;
@@ -197,27 +197,27 @@ module _ (me : Replica) (r : Record) where
 
   pub validate-own : (n : ℕ) → AllYes (own me r Validate n) → ValidateOwn me r
   validate-own n y =
-      let (p, q) = both (one_of r.state (state.Write ∷ state.Replay ∷ [])) (others_in me.number me.view r.acks) y.0 in
+      let (p, q) = and_parts (one_of r.state (state.Write ∷ state.Replay ∷ [])) (others_in me.number me.view r.acks) y.0 in
       record { pending = p; acknowledged = q }
 
   pub replay-own : (n : ℕ) → AllYes (own me r Replay n) → ReplayOwn me r
   replay-own n y =
-      let (p, q) = both (one_of r.state (state.Invalid ∷ state.InvalidWrite ∷ [])) (not (has me.view r.writer)) y.0 in
+      let (p, q) = and_parts (one_of r.state (state.Invalid ∷ state.InvalidWrite ∷ [])) (not (has me.view r.writer)) y.0 in
       record { invalidated = p; gone = not-true _ q }
 
   pub resend-own : (n : ℕ) → AllYes (own me r Resend n) → ResendOwn me r
-  resend-own n y = go (either (one_of r.state (state.Write ∷ state.Replay ∷ [])) (one_of r.state (state.Valid ∷ []) && eqb r.writer me.number) y.0)
+  resend-own n y = go (or_cases (one_of r.state (state.Write ∷ state.Replay ∷ [])) (one_of r.state (state.Valid ∷ []) && eqb r.writer me.number) y.0)
     where
       go : (one_of r.state (state.Write ∷ state.Replay ∷ []) ≡ true) ⊎ ((one_of r.state (state.Valid ∷ []) && eqb r.writer me.number) ≡ true) → ResendOwn me r
       go (inl h) = inl h
-      go (inr h) = let (p, q) = both (one_of r.state (state.Valid ∷ [])) (eqb r.writer me.number) h in inr (p, eqb-true _ _ q)
+      go (inr h) = let (p, q) = and_parts (one_of r.state (state.Valid ∷ [])) (eqb r.writer me.number) h in inr (p, eqb-true _ _ q)
 
 -- of a view, question 18, and question 19; each by itself, since agreement needs 19 alone
 pub view-later : (me : Replica) (epoch view : ℕ) → AllYes (view_questions me epoch view) → me.epoch < epoch
 view-later me epoch view y = ltb-true me.epoch epoch y.1.1.0
 
 pub view-inside : (me : Replica) (epoch view : ℕ) → AllYes (view_questions me epoch view) → (within view me.view ≡ true) × (leb 2 (size view) ≡ true)
-view-inside me epoch view y = both (within view me.view) (leb 2 (size view)) y.1.1.1.0
+view-inside me epoch view y = and_parts (within view me.view) (leb 2 (size view)) y.1.1.1.0
 
 module _ (me : Replica) (count bytes i : ℕ) (r : Record) where
   -- every answer is yes: no question says no
@@ -239,7 +239,7 @@ module _ (me : Replica) (count bytes i : ℕ) (r : Record) where
 
 -- question 12 of an invalidation
 pub inv-fits : (m : Message) (t : Timestamp) (n : ℕ) → m ≡ Inv t → shapely m n ≡ true → n ≤ 192
-inv-fits m t n e h = leb-true n 192 (both (leb t.tie 15) (leb n 192) (rw e at h)).1
+inv-fits m t n e h = leb-true n 192 (and_parts (leb t.tie 15) (leb n 192) (rw e at h)).1
 
 -- the 192 bytes of a record below the count lie in the store
 pub slot-fits : {me : Replica} {count bytes i : ℕ} {r : Record} → Common me count bytes i r → 192 * i + 192 ≤ bytes

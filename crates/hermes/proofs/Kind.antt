@@ -9,7 +9,7 @@ use Rattle.hermes_record.specs.declared.timestamp.Timestamp.{Timestamp}
 use Rattle.hermes.specs.declared.message.Message.{Message}
 use Rattle.hermes.specs.declared.message.Message.TheVariants.{Inv, Ack, Val}
 use Rattle.hermes.specs.Kind.{inv, ack, val, kind_of, timestamp_of, known, message_of}
-use Rattle.hermes_record.proofs.Tests.{both}
+use Rattle.std.proofs.lemmas.Bool.{and_parts}
 
 pub message-back : (m : Message) → message_of (kind_of m) (timestamp_of m) ≡ m
 message-back (Inv t) = refl
@@ -25,7 +25,7 @@ stamp-back k t = go (eqb k inv) (eqb k ack)
     go false false = refl
 
 pub kind-back : (k : ℕ) (t : Timestamp) → known k ≡ true → kind_of (message_of k t) ≡ k
-kind-back k t h = go (eqb k inv) refl (eqb k ack) refl (both (leb inv k) (leb k val) h)
+kind-back k t h = go (eqb k inv) refl (eqb k ack) refl (and_parts (leb inv k) (leb k val) h)
   where
     go : (x : Bool) → eqb k inv ≡ x → (y : Bool) → eqb k ack ≡ y → (leb inv k ≡ true) × (leb k val ≡ true)
         → kind_of (cond x (Inv t) (cond y (Ack t) (Val t))) ≡ k

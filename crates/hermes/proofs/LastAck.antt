@@ -27,7 +27,7 @@ use Rattle.hermes.specs.Node.{Outcome, record_of, apply}
 use Rattle.hermes.specs.Run.{Entry, Group}
 use Rattle.hermes.specs.Agreement.{Started, after}
 use Rattle.hermes.specs.LastAck.{Waits, EveryOther, Completes, AckDone, LastAckSettles, AllReplied, IsView, NoView, NobodyWaits}
-use Rattle.hermes_record.proofs.Tests.{both, and_both}
+use Rattle.std.proofs.lemmas.Bool.{and_parts, and_from}
 use Rattle.hermes.proofs.Members.{has-small, has-zero, has-with, with-members, members-with, every-other, others-every}
 use Rattle.hermes.proofs.Guards.{deliver-own}
 use Rattle.hermes.proofs.Words.{Two, size-two}
@@ -50,7 +50,7 @@ waits state.Replay e = inr refl
 module _ (me : Replica) (r : Record) where
   -- an ACK completes the view: as the statement has it, and as the step asks it
   pub does-complete : (sender : ℕ) → one_of r.state (state.Write ∷ state.Replay ∷ []) ≡ true → Completes me r sender → completes me r sender ≡ true
-  does-complete sender p c = and_both _ _ p (every-other me.number me.view (with r.acks sender) (λ m k d. counted m (has-small me.view m k) (c m k d)))
+  does-complete sender p c = and_from _ _ p (every-other me.number me.view (with r.acks sender) (λ m k d. counted m (has-small me.view m k) (c m k d)))
     where
       counted : (m : ℕ) → m < 16 → (m ≡ sender) ⊎ (has r.acks m ≡ true) → has (with r.acks sender) m ≡ true
       counted m l (inl e) = members-with r.acks sender m (rw (← e) l) (inr e)
@@ -58,7 +58,7 @@ module _ (me : Replica) (r : Record) where
 
   pub completes-it : (sender : ℕ) → completes me r sender ≡ true → Waits r × Completes me r sender
   completes-it sender e =
-      let (p, q) = both (one_of r.state (state.Write ∷ state.Replay ∷ [])) _ e in
+      let (p, q) = and_parts (one_of r.state (state.Write ∷ state.Replay ∷ [])) _ e in
       (waits r.state p, λ m k d. ⊎_swap (with-members r.acks sender m (others-every me.number me.view (with r.acks sender) q m k d)))
 
 -- ---- one ACK
@@ -105,7 +105,7 @@ idle me r e h = false≢true (sym e ∙ pending r h.0)
 
 -- in a view of two somebody is not counted yet when nobody is
 begun-waits : (me : Replica) (r : Record) → (question1 me).yes ≡ true → r.acks ≡ 0 → Replied me r → ⊥
-begun-waits me r y z h = go (size-two me.view (both (leb me.number 15) (leb 2 (size me.view)) y).1)
+begun-waits me r y z h = go (size-two me.view (and_parts (leb me.number 15) (leb 2 (size me.view)) y).1)
   where
     uncounted : (m : ℕ) → has me.view m ≡ true → m ≢ me.number → ⊥
     uncounted m k d = false≢true (sym (has-zero m) ∙ rw z at (h.1 m k d))
@@ -131,7 +131,7 @@ keeps wins me r b y (writes n more e) before = rw e (begun-waits me (written_by 
 keeps wins me r b y (replays d e) before = rw e (begun-waits me (replayed r me.number) y refl)
 keeps wins me r b y (invalidates t sender n l d e) before = rw e (idle me (invalidated r t sender n) (taken-idle r.state))
 keeps wins me r b y (counts sender c e) before =
-    rw e (λ h. false≢true (sym c ∙ and_both _ _ (pending (acknowledged r sender) h.0) (every-other me.number me.view (with r.acks sender) h.1)))
+    rw e (λ h. false≢true (sym c ∙ and_from _ _ (pending (acknowledged r sender) h.0) (every-other me.number me.view (with r.acks sender) h.1)))
 keeps wins me r b y (settles sender e) before = rw e (idle me (validated (acknowledged r sender)) refl)
 keeps wins me r b y (validates e) before = rw e (idle me (validated r) refl)
 

@@ -1,7 +1,7 @@
 -- Sets of replica numbers, as facts about their members. The idea: a set below 2 ^ 16 is its sixteen bits, and each operation is known bit by bit.
 use Prim.Native.Nat.{ℕ, zero, suc, ◌+◌, ◌-◌, ◌/◌, ◌%◌, ◌^◌, ◌≤◌, ◌<◌, min, max}
 use mathlib.Core.Path.{◌≡◌, refl, sym, ap, ap₂, ◌∙◌}
-use mathlib.Core.Bool.{Bool, true, false, not, ◌&&◌, ◌||◌}
+use mathlib.Core.Bool.{Bool, true, false, not, ◌&&◌, ◌||◌, or-false, or-true, and-false, and-true}
 use mathlib.Core.Logic.{◌⊎◌, inl, inr, ◌≢◌, ◌↔◌}
 use native.Mathlib.Omega.{arith}
 use native.Mathlib.Decide.{ℕ_discrete, dec_lt}
@@ -11,7 +11,8 @@ use lib.Bits.{bit_and, bit_or, and_shr, and_step, or_shr, or_step}
 use lib.Pow.{pow-lt, pow-add, shl-shr, shr-shr}
 use borrow.Author.Tests.{ltb-true, eqb-true, eq-eqb, ne_eqb, lt-ltb, le-ltb}
 use Rattle.hermes_record.specs.Members.{has, all_below, within, others_in, with, without}
-use Rattle.hermes_record.proofs.Tests.{both, either, implied, implies, is_false, or-false, or-true, and-false, and-true}
+use Rattle.hermes_record.proofs.Tests.{implied, implies}
+use Rattle.std.proofs.lemmas.Bool.{and_parts, or_cases, false_from_ne_true}
 
 -- m is in the set s
 abbrev pub Has : ℕ → ℕ → Type 0
@@ -83,7 +84,7 @@ same_bits (suc k) a b ha hb h = join (same_bits k (a / 2) (b / 2) (omega (arith,
 
 pub has-small : (s m : ℕ) → Has s m → m < 16
 unfolding has
-has-small s m h = ltb-true m 16 (both _ _ h).0
+has-small s m h = ltb-true m 16 (and_parts _ _ h).0
 
 has-bit : (s m : ℕ) → m < 16 → has s m ≡ eqb (bit s m) 1
 unfolding has bit
@@ -100,7 +101,7 @@ pub bit-member : (s m : ℕ) → m < 16 → bit s m ≡ 1 → Has s m
 bit-member s m l e = has-bit s m l ∙ eq-eqb (bit s m) 1 e
 
 pub has-zero : (m : ℕ) → has 0 m ≡ false
-has-zero m = is_false (has 0 m) (λ h. omega (arith, member-bit 0 m h, nought))
+has-zero m = false_from_ne_true (has 0 m) (λ h. omega (arith, member-bit 0 m h, nought))
   where
     nought : bit 0 m ≡ 0
     nought = unfold bit in omega (arith, zero-div (2 ^ m))
@@ -109,10 +110,10 @@ has-zero m = is_false (has 0 m) (λ h. omega (arith, member-bit 0 m h, nought))
 
 pub all-at : (k : ℕ) (p : ℕ → Bool) → all_below k p ≡ true → (m : ℕ) → m < k → p m ≡ true
 all-at zero p h m l = absurd (omega arith)
-all-at (suc k) p h m l = go (λ (t : m < k). all-at k p (both (p k) (all_below k p) h).1 m t) (ℕ_discrete m k)
+all-at (suc k) p h m l = go (λ (t : m < k). all-at k p (and_parts (p k) (all_below k p) h).1 m t) (ℕ_discrete m k)
   where
     go : (m < k → p m ≡ true) → Dec (m ≡ k) → p m ≡ true
-    go below (yes e) = rw e (both (p k) (all_below k p) h).0
+    go below (yes e) = rw e (and_parts (p k) (all_below k p) h).0
     go below (no d) = below (omega arith)
 
 pub all_of : (k : ℕ) (p : ℕ → Bool) → ((m : ℕ) → m < k → p m ≡ true) → all_below k p ≡ true
@@ -134,7 +135,7 @@ members-within a b h = all_of 16 (λ (x : ℕ). not (has a x) || has b x) (λ m 
 pub others-members : (n view s : ℕ) → others_in n view s ≡ true → (m : ℕ) → Has view m → (m ≡ n) ⊎ Has s m
 unfolding others_in
 others-members n view s h m k =
-    go (either (eqb m n) (has s m) (implied (has view m) (eqb m n || has s m) (all-at 16 (λ (x : ℕ). not (has view x) || (eqb x n || has s x)) h m (has-small view m k)) k))
+    go (or_cases (eqb m n) (has s m) (implied (has view m) (eqb m n || has s m) (all-at 16 (λ (x : ℕ). not (has view x) || (eqb x n || has s x)) h m (has-small view m k)) k))
   where
     go : (eqb m n ≡ true) ⊎ Has s m → (m ≡ n) ⊎ Has s m
     go (inl e) = inl (eqb-true m n e)
@@ -192,11 +193,11 @@ has-with s n m = go (dec_lt n 16) (dec_lt m 16) (ℕ_discrete m n)
         same = rw (add a) (omega (arith, or-bit s (2 ^ n) m, pow-bit-other n m d))
 
 pub with-members : (s n m : ℕ) → Has (with s n) m → Has s m ⊎ (m ≡ n)
-with-members s n m h = go (either (has s m) (eqb m n && ltb n 16) (sym (has-with s n m) ∙ h))
+with-members s n m h = go (or_cases (has s m) (eqb m n && ltb n 16) (sym (has-with s n m) ∙ h))
   where
     go : Has s m ⊎ ((eqb m n && ltb n 16) ≡ true) → Has s m ⊎ (m ≡ n)
     go (inl k) = inl k
-    go (inr e) = inr (eqb-true m n (both (eqb m n) (ltb n 16) e).0)
+    go (inr e) = inr (eqb-true m n (and_parts (eqb m n) (ltb n 16) e).0)
 
 pub members-with : (s n m : ℕ) → n < 16 → Has s m ⊎ (m ≡ n) → Has (with s n) m
 members-with s n m l (inl k) = rw (has-with s n m, k)

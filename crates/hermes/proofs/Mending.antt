@@ -2,7 +2,7 @@
 -- what it shows, and the saver is in the view.
 use Prim.Native.Nat.{ℕ, ◌+◌, ◌≤◌, ◌<◌}
 use mathlib.Core.Path.{◌≡◌, refl, sym, ap, subst, ◌∙◌}
-use mathlib.Core.Bool.{Bool, true, false, cond, false≢true}
+use mathlib.Core.Bool.{Bool, true, false, cond, false≢true, or-false}
 use mathlib.Core.Logic.{◌⊎◌, inl, inr, ◌≢◌}
 use mathlib.Core.List.{[], ◌∷◌}
 use native.Mathlib.Omega.{arith}
@@ -27,7 +27,7 @@ use Rattle.hermes.specs.Run.{Action, Entry, by, Group, Logged, Found, find, foun
 use Rattle.hermes.specs.Agreement.{IsAccepted}
 use Rattle.hermes.specs.Settling.{About, Helps}
 use Rattle.hermes.specs.Recipe.{under_way, is_valid, other}
-use Rattle.hermes_record.proofs.Tests.{both, is_false, or-false}
+use Rattle.std.proofs.lemmas.Bool.{and_parts, false_from_ne_true}
 use Rattle.hermes_record.proofs.Order.{equal-same, same-equal, later-apart}
 use Rattle.hermes.proofs.Members.{Has, has-with, with-members}
 use Rattle.hermes.proofs.Words.{count_same, count-near}
@@ -43,14 +43,14 @@ module _ (T : Task) (inside : T.i < T.count) (ord : TieOrder (order T)) (d : ℕ
   apart = later-apart (order T) ord M t0 newer
 
   pub different : same_timestamp t0 M ≡ false
-  different = is_false _ (λ h. apart (same-equal t0 M h))
+  different = false_from_ne_true _ (λ h. apart (same-equal t0 M h))
 
   -- who is not the one added
   has-others : (s n m : ℕ) → m ≢ n → has (with s n) m ≡ has s m
   has-others s n m h = rw (has-with s n m, ne_eqb m n h, or-false (has s m))
 
   self-no-other : other set d d ≡ false
-  self-no-other = is_false _ (λ h. (other-yes set d d h).1 refl)
+  self-no-other = false_from_ne_true _ (λ h. (other-yes set d d h).1 refl)
 
   module _ (sent : Bool) (g : Group) (p : Stage T d M t0 sent g) where
     abbrev r : ℕ → Record
@@ -232,7 +232,7 @@ module _ (T : Task) (inside : T.i < T.count) (ord : TieOrder (order T)) (d : ℕ
             own false = p.own
 
             saving : (b : Bool) → completes (self T d) (r d) sender ≡ b → Saving T d M t0 (ack_step b (self T d) i (r d) sender).after
-            saving true q = done refl (both (under_way (r d)) (others_in d set (with (r d).acks sender)) q).1
+            saving true q = done refl (and_parts (under_way (r d)) (others_in d set (with (r d).acks sender)) q).1
             saving false q = still p.saving
               where
                 still : Saving T d M t0 (r d) → Saving T d M t0 (ack_step false (self T d) i (r d) sender).after

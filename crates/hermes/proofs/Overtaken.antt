@@ -30,7 +30,7 @@ use Rattle.hermes.specs.Run.{Group, result, advance}
 use Rattle.hermes.specs.Agreement.{after}
 use Rattle.hermes.specs.Reads.{Sound}
 use Rattle.hermes.specs.Overtaken.{replay_of, GivenUp, Turn, shown, finishes, resends, takes_over, awaits, NobodyHangs}
-use Rattle.hermes_record.proofs.Tests.{and_both}
+use Rattle.std.proofs.lemmas.Bool.{and_from}
 use Rattle.hermes.proofs.Members.{every-other}
 use Rattle.hermes_record.proofs.Order.{greater-later, later_trans, later-apart}
 use Rattle.hermes.proofs.Guards.{KindOwn, deliver-own}
@@ -179,7 +179,7 @@ nobody-hangs wins member count issued settings g s entries c i k l m v = go (rec
 
     working : (one_of (record_of i n).state (state.Write ∷ state.Replay ∷ []) ≡ true) → resent n.me i (record_of i n).state (record_of i n).timestamp ≡ send n.me i (Inv (record_of i n).timestamp)
         → (b : Bool) → others_in n.me.number n.me.view (record_of i n).acks ≡ b → Turn wins n i
-    working e f true a = let (p, q) = answered wins n i Validate [] (five Validate (and_both _ _ e a, tt)) in finishes p q
+    working e f true a = let (p, q) = answered wins n i Validate [] (five Validate (and_from _ _ e a, tt)) in finishes p q
     working e f false a =
         let (p, q) = answered wins n i Resend [] (five Resend (rw e, tt)) in
         resends (λ h. false≢true (sym a ∙ every-other n.me.number n.me.view (record_of i n).acks h.1)) p (q ∙ f)

@@ -25,7 +25,7 @@ use Rattle.hermes.specs.Guards.{AllYes}
 use Rattle.hermes.specs.Event.{inv_step, ack_step, completes, deliver_step, resent, step, own, sent_by, recipients}
 use Rattle.hermes.specs.Node.{Outcome, record_of, apply}
 use Rattle.hermes.specs.Recipients.{Exactly, Other, ForItsSender, GoesTo, leaves, WhoGets, OthersOnly}
-use Rattle.hermes_record.proofs.Tests.{both, and_both}
+use Rattle.std.proofs.lemmas.Bool.{and_parts, and_from}
 use Rattle.hermes.proofs.Members.{Has, has-small, has-zero, has-without, with-members, members-with}
 use Rattle.hermes.proofs.Guards.{DeliverOwn, deliver-own}
 use Rattle.hermes.proofs.Apply.{Applied, refused, accepted, applied, its_own}
@@ -37,8 +37,8 @@ nobody m = (λ h. false≢true (sym (has-zero m) ∙ h), λ n. absurd n)
 
 others : (me : Replica) → Exactly (without me.view me.number) (Other me)
 others me m = (
-  λ h. let (p, q) = both (has me.view m) (not (eqb m me.number)) (sym (has-without me.view me.number m) ∙ h) in (p, eqb-false m me.number (not-true _ q)),
-  λ o. has-without me.view me.number m ∙ and_both (has me.view m) (not (eqb m me.number)) o.0 (rw (ne_eqb m me.number o.1)),
+  λ h. let (p, q) = and_parts (has me.view m) (not (eqb m me.number)) (sym (has-without me.view me.number m) ∙ h) in (p, eqb-false m me.number (not-true _ q)),
+  λ o. has-without me.view me.number m ∙ and_from (has me.view m) (not (eqb m me.number)) o.0 (rw (ne_eqb m me.number o.1)),
 )
 
 only : (k : ℕ) → k < 16 → Exactly (with 0 k) (λ m. m ≡ k)

@@ -36,7 +36,7 @@ use Rattle.hermes.specs.Run as run
 use Rattle.hermes.specs.Run.{Logged, Action, Result, Found, find, received, delivery, perform, node_after, logged, log_after}
 use Rattle.hermes.specs.Frame.{bytes_after, Changed}
 use Rattle.hermes.specs.Agreement.{AsIssued}
-use Rattle.hermes_record.proofs.Tests.{both}
+use Rattle.std.proofs.lemmas.Bool.{and_parts}
 use Rattle.hermes.proofs.Log.{found_in}
 use Rattle.hermes.proofs.Members.{Has, within-members, others-members, has-zero, with-members}
 use Rattle.hermes_record.proofs.Order.{not_after-refl, not_after-total}
@@ -208,7 +208,7 @@ module _ (wins : Orders) (settings : Settings) (ord : TieOrder (under wins setti
   ack-good : (j sender epoch : ℕ) → Known j log (ack sender epoch (record_of j n).written)
       → (c : Bool) → completes n.me (record_of j n) sender ≡ c → Good wins settings issued log j n (ack_step c n.me j (record_of j n) sender)
   ack-good j sender epoch k true c =
-      let (p, q) = both (one_of (record_of j n).state (state.Write ∷ state.Replay ∷ [])) _ c in
+      let (p, q) = and_parts (one_of (record_of j n).state (state.Write ∷ state.Replay ∷ [])) _ c in
       record {
         moves = rcv_last sender epoch (with (record_of j n).acks sender) k (with-members (record_of j n).acks sender) p (others-members n.me.number n.me.view (with (record_of j n).acks sender) q) refl;
         says = (refl, (refl, refl));

@@ -15,7 +15,7 @@ use Rattle.hermes.specs.Node.{Node, Outcome, record_of, apply, asked, admit, sta
 use Rattle.hermes.specs.Worked.{Claim, answers, leaves, stamps, last_writer, ties_by, last_write, acknowledged_by, holding, sends, hands_out, silent, unchanged, store_of, Says, SaysAll, Row, row, asks, asks_start, asks_view, Holds, before, outcome}
 use Rattle.hermes.specs.Limits.{limits}
 use Rattle.hermes.specs.Rows.{unstarted, ringing, rows}
-use Rattle.hermes_record.proofs.Tests.{both}
+use Rattle.std.proofs.lemmas.Bool.{and_parts}
 use Rattle.hermes.proofs.Coded.{same, same-sound, same_list, list-sound, state_code, timestamp_code, record_code, record_numbers, rule_code, replica_code, message_numbers, outgoing_numbers, outgoing_code, same_table, same_node, node-sound}
 use Rattle.hermes.proofs.Table.{passing, every}
 
@@ -43,11 +43,11 @@ says (ties_by rule) n o e = same-sound rule_code _ rule e
 says (last_write v t) n o e = same-sound timestamp_code _ _ e
 says (acknowledged_by set) n o e = eqb-true _ set e
 says (holding v) n o e =
-    let (p, q) = both (eqb (record_of 0 o.node).len (length v)) _ e in
+    let (p, q) = and_parts (eqb (record_of 0 o.node).len (length v)) _ e in
     (eqb-true _ (length v) p, list-sound o.node.store (store_of v) q)
 says (sends m) n o e = same-sound outgoing_code _ _ e
 says (hands_out text v t) n o e =
-    let (p, q) = both (same_list (asked o.node 0).part text) _ e in
+    let (p, q) = and_parts (same_list (asked o.node 0).part text) _ e in
     λ z. record { part = list-sound (asked o.node 0).part text p z; timestamp = same-sound timestamp_code (asked o.node 0).timestamp (record { version = v; tie = t }) q z }
 says silent n o e = same-sound outgoing_code _ None e
 says unchanged n o e = node-sound o.node n e
@@ -59,7 +59,7 @@ test_all (c ∷ cs) n o = test c n o && test_all cs n o
 says_all : (cs : List Claim) (n : Node) (o : Outcome) → test_all cs n o ≡ true → SaysAll cs n o
 unfolding test_all
 says_all [] n o e = tt
-says_all (c ∷ cs) n o e = let (p, q) = both (test c n o) (test_all cs n o) e in (says c n o p, says_all cs n o q)
+says_all (c ∷ cs) n o e = let (p, q) = and_parts (test c n o) (test_all cs n o) e in (says c n o p, says_all cs n o q)
 
 test_row : Node → Row → Bool
 test_row n (row earlier deed claims) = test_all claims (before n earlier) (outcome (before n earlier) deed)

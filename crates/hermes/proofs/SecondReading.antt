@@ -35,7 +35,7 @@ use Rattle.hermes.specs.SecondReading.{InView, WinsTie, Greater, by_version, by_
 use Rattle.hermes.specs.SecondReading.{Mail, Happening, read, write, replay, delivery, validation, resend, change, ask, commit, perform}
 use Rattle.hermes.specs.SecondReading.{Entry, outcome, Leaves, Left, Honest, Replaced, here, there, History, empty, next}
 use Rattle.hermes.specs.SecondReading.{FreshStart, Different, Premises, ShowsValid, Agree, Agreement, InWriteOrReplay, LastAck, Validates, Kept, SecondDemand3}
-use Rattle.hermes_record.proofs.Tests.{both, either}
+use Rattle.std.proofs.lemmas.Bool.{and_parts, or_cases}
 use Rattle.hermes.proofs.Log.{find-front, find-last}
 use Rattle.hermes.proofs.Members.{bit, bit-member, member-bit, has-small}
 use Rattle.hermes.proofs.LastAck.{does-complete}
@@ -62,11 +62,11 @@ wins-tie Lower a b e = ltb-true a b e
 same-or-later : (rule : Rule) (s t : Timestamp) → NotAfter (ties rule) s t → SameOrLater rule s t
 unfolding later
 same-or-later rule s t (equal e) = same (sym e)
-same-or-later rule s t (rises e) = greater (go (either _ _ e))
+same-or-later rule s t (rises e) = greater (go (or_cases _ _ e))
   where
     go : (ltb s.version t.version ≡ true) ⊎ ((eqb t.version s.version && ties rule t.tie s.tie) ≡ true) → Greater rule t s
     go (inl v) = by_version (ltb-true s.version t.version v)
-    go (inr v) = let (p, q) = both _ _ v in by_tie (eqb-true t.version s.version p) (wins-tie rule t.tie s.tie q)
+    go (inr v) = let (p, q) = and_parts _ _ v in by_tie (eqb-true t.version s.version p) (wins-tie rule t.tie s.tie q)
 
 -- a record's 192 bytes, one by one
 agree : (i : ℕ) (a b : Node) → Alike i a b → Agree i a b

@@ -25,7 +25,7 @@ use Rattle.hermes.specs.Run as run
 use Rattle.hermes.specs.Run.{Action, Entry, Group, Logged, Found, find, received, delivery, perform, node_after, result, advance, run}
 use Rattle.hermes.specs.Agreement.{FreshStart, Sees, Shows, after}
 use Rattle.hermes.specs.Reads.{Sound, ReadGives, StaySound, ReadsTell}
-use Rattle.hermes_record.proofs.Tests.{both}
+use Rattle.std.proofs.lemmas.Bool.{and_parts}
 use Rattle.hermes.proofs.Members.{has-zero}
 use Rattle.hermes.proofs.Guards.{view-inside, all_yes}
 use Rattle.hermes.proofs.Steps.{sound-yes}
@@ -69,7 +69,7 @@ module _ (wins : Orders) (count : ℕ) (settings : Settings) (k : ℕ) where
         number = ok.number;
         fixed = ok.fixed;
         records = ok.records;
-        first = rw (both (leb n.me.number 15) (leb 2 (size n.me.view)) ok.first).0 (view-inside n.me epoch next (all_yes (view_questions n.me epoch next) refl z)).1;
+        first = rw (and_parts (leb n.me.number 15) (leb 2 (size n.me.view)) ok.first).0 (view-inside n.me epoch next (all_yes (view_questions n.me epoch next) refl z)).1;
         second = ok.second;
         fifth = ok.fifth;
       }

@@ -17,14 +17,14 @@ use Rattle.hermes_record.specs.Record.{fresh_record}
 use Rattle.hermes.specs.Source.{Lowest}
 use Rattle.hermes.specs.Guards.{AllYes, question2}
 use Rattle.hermes.specs.Node.{newcomer, start_questions, start_refusal, begin, start}
-use Rattle.hermes_record.proofs.Tests.{both}
+use Rattle.std.proofs.lemmas.Bool.{and_parts}
 use Rattle.hermes.proofs.Members.{Has, has-small}
 use Rattle.hermes.proofs.Store.{zeros}
 use Rattle.hermes.proofs.Guards.{all_yes}
 
 -- question 2: the store's bytes
 pub sized : (count bytes : ℕ) → (question2 count bytes).yes ≡ true → bytes ≡ 192 * count
-sized count bytes h = eqb-true bytes (192 * count) (both (leb 1 count && leb count 4096) (eqb bytes (192 * count)) h).1
+sized count bytes h = eqb-true bytes (192 * count) (and_parts (leb 1 count && leb count 4096) (eqb bytes (192 * count)) h).1
 
 pub record Begun (k view : ℕ) (settings : Settings) (table : List Record) (store : List ℕ) (me : Replica) : Type 0 where
   pub identity : me ≡ newcomer k view settings

@@ -26,7 +26,7 @@ use Rattle.hermes.specs.Settings.{under}
 use Rattle.hermes_record.specs.Record.{next_version}
 use Rattle.hermes.specs.Guards.{AllYes, question5, shapely}
 use Rattle.hermes.specs.Event.{Stored, kept, placed, Step, write_step, inv_step, ack_step, completes, deliver_step, resent, step, own}
-use Rattle.hermes_record.proofs.Tests.{both, is_false}
+use Rattle.std.proofs.lemmas.Bool.{and_parts, false_from_ne_true}
 use Rattle.hermes.proofs.Guards.{Sound}
 use Rattle.hermes.proofs.Members.{Has, has-small, has-zero, with-members}
 
@@ -55,7 +55,7 @@ module _ (wins : Orders) (me : Replica) (i : ℕ) (r : Record) (small : me.numbe
   deliver-sound : (sender : ℕ) (m : Message) (v : List ℕ) → has me.view sender ≡ true → eqb sender me.number ≡ false → shapely m (length v) ≡ true
       → SoundStep me (deliver_step wins me i r sender m v)
   deliver-sound sender (Inv t) v h d b =
-      let (p, q) = both (leb t.tie 15) (leb (length v) 192) b in
+      let (p, q) = and_parts (leb t.tie 15) (leb (length v) 192) b in
       inv-sound t sender v (leb-true _ _ p) (omega (arith, has-small me.view sender h)) (leb-true _ _ q) (later (under wins me.settings) t r.timestamp)
   deliver-sound sender (Ack t) v h d b = go (completes me r sender)
     where
@@ -64,7 +64,7 @@ module _ (wins : Orders) (me : Replica) (i : ℕ) (r : Record) (small : me.numbe
       other (inr e) = eqb-false sender me.number d (sym e)
 
       counted : has (with r.acks sender) me.number ≡ false
-      counted = is_false _ (λ k. other (with-members r.acks sender me.number k))
+      counted = false_from_ne_true _ (λ k. other (with-members r.acks sender me.number k))
 
       go : (c : Bool) → SoundStep me (ack_step c me i r sender)
       go true = record { after = record { short = ok.short; tie = ok.tie; own-tie = ok.own-tie; writer = ok.writer; uncounted = counted }; fits = tt }
@@ -82,7 +82,7 @@ module _ (wins : Orders) (me : Replica) (i : ℕ) (r : Record) (small : me.numbe
   step-sound (Commit t) v y = write-sound v (leb-true (length v) 192 y.1.0)
   step-sound Replay v y = record { after = record { short = ok.short; tie = search ok; own-tie = search ok; writer = small; uncounted = search has-zero }; fits = tt }
   step-sound (Deliver m) v y =
-      let (p, q) = both (has me.view m.sender) (not (eqb m.sender me.number)) y.1.0 in
+      let (p, q) = and_parts (has me.view m.sender) (not (eqb m.sender me.number)) y.1.0 in
       deliver-sound m.sender m.message v p (not-true _ q) y.1.1.0
   step-sound Validate v y = record { after = record { short = ok.short; tie = ok.tie; own-tie = ok.own-tie; writer = ok.writer; uncounted = ok.uncounted }; fits = tt }
   step-sound Resend v y = record { after = ok; fits = tt }

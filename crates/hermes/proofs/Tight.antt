@@ -1,7 +1,7 @@
 -- The bound 3k − 2 cannot be bettered: so much is missing after a save that nobody has heard of, and nothing where all show it.
 use Prim.Native.Nat.{ℕ, suc, ◌+◌, ◌*◌, ◌≤◌, ◌<◌}
 use mathlib.Core.Path.{◌≡◌, refl, sym, ap, subst, ◌∙◌}
-use mathlib.Core.Bool.{Bool, true, false, not, ◌&&◌, false≢true}
+use mathlib.Core.Bool.{Bool, true, false, not, ◌&&◌, false≢true, and-true}
 use mathlib.Core.Logic.{inl}
 use mathlib.Core.List.{List, [], ◌∷◌}
 use native.Mathlib.Omega.{arith}
@@ -29,7 +29,7 @@ use Rattle.hermes.specs.Agreement.{Started, Shows, IsAccepted, after}
 use Rattle.hermes.specs.Settling.{next_number, Gathered, AllHelp}
 use Rattle.hermes.specs.Recipe.{is_valid, other}
 use Rattle.hermes.specs.Tight.{saved, Tight, Exact}
-use Rattle.hermes_record.proofs.Tests.{both, and_both, is_false, and-true}
+use Rattle.std.proofs.lemmas.Bool.{and_parts, and_from, false_from_ne_true}
 use Rattle.hermes_record.proofs.Order.{equal-same, greater-later}
 use Rattle.hermes.proofs.Members.{Has, has-zero, others-every}
 use Rattle.hermes.proofs.Words.{state-is, Two, size-two, count_same, count_none}
@@ -92,14 +92,14 @@ module _ (T : Task) (inside : T.i < T.count) (ord : TieOrder (order T)) (d : ℕ
           go (heard z a b c) = z
 
       aware : (u : ℕ) → unaware T d M t0 g u ≡ false
-      aware u = is_false _ (λ h. let (o, n) = both (other set d u) _ h in false≢true (sym (not-true _ n) ∙ equal-same _ M (p.counted u (acks u o))))
+      aware u = false_from_ne_true _ (λ h. let (o, n) = and_parts (other set d u) _ h in false≢true (sym (not-true _ n) ∙ equal-same _ M (p.counted u (acks u o))))
 
       shows : (u : ℕ) → unshown T d M t0 g u ≡ false
-      shows u = is_false _ (λ h. let (o, n) = both (other set d u) _ h in
-          false≢true (sym (not-true _ n) ∙ and_both _ _ (equal-same _ M (p.counted u (acks u o))) (state-is _ state.Valid (v u (other-yes set d u o).0))))
+      shows u = false_from_ne_true _ (λ h. let (o, n) = and_parts (other set d u) _ h in
+          false≢true (sym (not-true _ n) ∙ and_from _ _ (equal-same _ M (p.counted u (acks u o))) (state-is _ state.Valid (v u (other-yes set d u o).0))))
 
       replied : (u : ℕ) → uncounted T d M t0 g u ≡ false
-      replied u = is_false _ (λ h. let (o, n) = both (other set d u) _ h in false≢true (sym (not-true _ n) ∙ acks u o))
+      replied u = false_from_ne_true _ (λ h. let (o, n) = and_parts (other set d u) _ h in false≢true (sym (not-true _ n) ∙ acks u o))
 
 -- ---- the start, and the theorem
 
@@ -199,7 +199,7 @@ module _ (wins : Orders) (settings : Settings) (ord : TieOrder (under wins setti
       n = reaches task inside ord d hd M t0 newer false g1 stage entries h
 
       two : Two 16 (has set)
-      two = size-two set (subst (λ (x : ℕ). leb 2 (size x) ≡ true) (alive.live d hd).view (both (leb (g.at d).me.number 15) _ (alive.live d hd).sound.first).1)
+      two = size-two set (subst (λ (x : ℕ). leb 2 (size x) ≡ true) (alive.live d hd).view (and_parts (leb (g.at d).me.number 15) _ (alive.live d hd).sound.first).1)
 
       sum : {e a b k : ℕ} (o : ℕ) → Falls e a b → a ≡ 1 + (o + (o + o)) → b ≡ 0 → o + 1 ≡ k → 3 * k ≤ e + 2
       sum o x p q y = omega (arith, x.most, p, q, y)

@@ -1,7 +1,7 @@
 -- The tests of the questions and the words of the source say the same: states, timestamps, and "at least two laptops".
 use Prim.Native.Nat.{ℕ, zero, suc, ◌+◌, ◌≤◌, ◌<◌}
 use mathlib.Core.Path.{◌≡◌, refl, sym, ap, ◌∙◌}
-use mathlib.Core.Bool.{Bool, true, false, cond, not, ◌&&◌, false≢true}
+use mathlib.Core.Bool.{Bool, true, false, cond, not, ◌&&◌, false≢true, or-true, and-true, and-false}
 use mathlib.Core.Logic.{◌⊎◌, inl, inr, ◌≢◌}
 use mathlib.Core.List.{List, [], ◌∷◌}
 use native.Mathlib.Omega.{arith}
@@ -15,7 +15,7 @@ use Rattle.hermes_record.specs.Members.{has, count_below, size}
 use Rattle.hermes_record.specs.Order.{same_timestamp}
 use Rattle.hermes_record.specs.Record.{code, one_of}
 use Rattle.hermes.specs.Source.{In, EqualTs}
-use Rattle.hermes_record.proofs.Tests.{either, or-true, and-true, and-false}
+use Rattle.std.proofs.lemmas.Bool.{or_cases}
 use Rattle.hermes.proofs.Members.{Has, has-small}
 use Rattle.hermes_record.proofs.Order.{timestamp-path, equal-same}
 
@@ -38,7 +38,7 @@ coded-code Replay = refl
 
 pub one_in : (s : State) (ts : List State) → one_of s ts ≡ true → In s ts
 one_in s [] h = absurd (false≢true h)
-one_in s (t ∷ ts) h = go (either (eqb (code s) (code t)) (one_of s ts) h) (one_in s ts)
+one_in s (t ∷ ts) h = go (or_cases (eqb (code s) (code t)) (one_of s ts) h) (one_in s ts)
   where
     go : (eqb (code s) (code t) ≡ true) ⊎ (one_of s ts ≡ true) → (one_of s ts ≡ true → In s ts) → (s ≡ t) ⊎ In s ts
     go (inl e) rest = inl (coded-code s ∙ ap coded (eqb-true (code s) (code t) e) ∙ sym (coded-code t))

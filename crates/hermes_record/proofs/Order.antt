@@ -10,14 +10,14 @@ use borrow.Author.Tests.{ltb-true, ltb-false, eqb-true, eqb-false, lt-ltb, le-lt
 use Rattle.hermes_record.specs.declared.timestamp.Timestamp.{Timestamp}
 use Rattle.hermes_record.specs.declared.timestamp.Rule.TheVariants.{Higher, Lower}
 use Rattle.hermes_record.specs.Order.{TieOrder, TieOrders, higher, lower, ties, later, same_timestamp, NotAfter, equal, rises, OrderedAny, OrderedBoth}
-use Rattle.hermes_record.proofs.Tests.{both, and_both, or_right, either, is_false}
+use Rattle.std.proofs.lemmas.Bool.{and_parts, and_from, or_cases, or_right, false_from_ne_true}
 
 pub timestamp-path : {s t : Timestamp} → s.version ≡ t.version → s.tie ≡ t.tie → s ≡ t
 timestamp-path p q = λ i. record { version = p i; tie = q i }
 
 pub same-equal : (s t : Timestamp) → same_timestamp s t ≡ true → s ≡ t
 unfolding same_timestamp
-same-equal s t h = let (p, q) = both (eqb s.version t.version) (eqb s.tie t.tie) h in timestamp-path (eqb-true _ _ p) (eqb-true _ _ q)
+same-equal s t h = let (p, q) = and_parts (eqb s.version t.version) (eqb s.tie t.tie) h in timestamp-path (eqb-true _ _ p) (eqb-true _ _ q)
 
 pub equal-same : (s t : Timestamp) → s ≡ t → same_timestamp s t ≡ true
 unfolding same_timestamp
@@ -46,16 +46,16 @@ ties-order Lower = lower-order
 -- `later`, read as facts, and back
 pub later-greater : (wins : ℕ → ℕ → Bool) (s t : Timestamp) → later wins s t ≡ true → (t.version < s.version) ⊎ ((s.version ≡ t.version) × (wins s.tie t.tie ≡ true))
 unfolding later
-later-greater wins s t h = go (either _ _ h)
+later-greater wins s t h = go (or_cases _ _ h)
   where
     go : (ltb t.version s.version ≡ true) ⊎ ((eqb s.version t.version && wins s.tie t.tie) ≡ true) → (t.version < s.version) ⊎ ((s.version ≡ t.version) × (wins s.tie t.tie ≡ true))
     go (inl e) = inl (ltb-true _ _ e)
-    go (inr e) = let (p, q) = both _ _ e in inr (eqb-true _ _ p, q)
+    go (inr e) = let (p, q) = and_parts _ _ e in inr (eqb-true _ _ p, q)
 
 pub greater-later : (wins : ℕ → ℕ → Bool) (s t : Timestamp) → (t.version < s.version) ⊎ ((s.version ≡ t.version) × (wins s.tie t.tie ≡ true)) → later wins s t ≡ true
 unfolding later
 greater-later wins s t (inl l) = rw (lt-ltb t.version s.version l)
-greater-later wins s t (inr (p, q)) = or_right (ltb t.version s.version) _ (and_both (eqb s.version t.version) (wins s.tie t.tie) (eq-eqb s.version t.version p) q)
+greater-later wins s t (inr (p, q)) = or_right (ltb t.version s.version) _ (and_from (eqb s.version t.version) (wins s.tie t.tie) (eq-eqb s.version t.version p) q)
 
 -- `NotAfter`, read as facts
 data Before (wins : ℕ → ℕ → Bool) (s t : Timestamp) : Type 0 where
@@ -147,18 +147,18 @@ module _ (wins : ℕ → ℕ → Bool) (ord : TieOrder wins) where
       never h = false≢true (sym g ∙ greater-later wins s t h)
 
       level : ltb s.version t.version ≡ false → s.version ≡ t.version
-      level p = omega (arith, ltb-false t.version s.version (is_false _ (λ e. never (inl (ltb-true _ _ e)))), ltb-false s.version t.version p)
+      level p = omega (arith, ltb-false t.version s.version (false_from_ne_true _ (λ e. never (inl (ltb-true _ _ e)))), ltb-false s.version t.version p)
 
       go : (x : Bool) → ltb s.version t.version ≡ x → (y : Bool) → eqb s.tie t.tie ≡ y → NotAfter wins s t
       go true p y q = test wins (older (ltb-true _ _ p))
       go false p true q = equal (timestamp-path (level p) (eqb-true _ _ q))
-      go false p false q = test wins (tied (level p) (ord.total s.tie t.tie (eqb-false _ _ q) (is_false _ (λ w. never (inr (level p, w))))))
+      go false p false q = test wins (tied (level p) (ord.total s.tie t.tie (eqb-false _ _ q) (false_from_ne_true _ (λ w. never (inr (level p, w))))))
 
 -- ---- the claims
 
 pub ordered-by : OrderedAny
 ordered-by wins ord = record {
-  irreflexive = λ s. is_false _ (λ h. later-apart wins ord s s h refl);
+  irreflexive = λ s. false_from_ne_true _ (λ h. later-apart wins ord s s h refl);
   transitive = later_trans wins ord;
   total = λ s t d g. go s t d (not_after-total wins ord s t g);
   versions = λ s t h. greater-later wins s t (inl h);
