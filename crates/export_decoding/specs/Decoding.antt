@@ -1,6 +1,6 @@
 -- A record as sixteen bytes: 0 state, 1 tie-breaker, 2 last writer, 3 last-write tie-breaker, 4 to 7 version, 8 to 11 last-write version,
 -- 12 and 13 acknowledgements, 14 value length. Byte 15 is nobody's.
-use Rattle.std.specs.Prelude.{ℕ, ◌+◌, ◌*◌, Bool, true, false, ltb, eqb}
+use Rattle.std.specs.Prelude.{ℕ, ◌+◌, ◌*◌, Bool, true, false, cond, Option, Some, None, List, ltb, eqb, get_or}
 use Rattle.hermes_record.specs.declared.record.Record.{Record}
 use Rattle.hermes_record.specs.declared.record.State.{State}
 use Rattle.hermes_record.specs.declared.record.State.TheVariants.{Valid, Invalid, InvalidWrite, Write, Replay}
@@ -47,3 +47,18 @@ decode state tie writer writtenTie version writtenVersion acks len =
       acks = acks;
       len = len;
     })
+
+-- ---- the bytes
+
+-- the record of the bytes from a place on
+abbrev pub decode_at : List ℕ → ℕ → Record
+decode_at bytes at =
+    decode (get_or bytes at 0) (get_or bytes (at + 1) 0) (get_or bytes (at + 2) 0) (get_or bytes (at + 3) 0)
+    (four (get_or bytes (at + 4) 0) (get_or bytes (at + 5) 0) (get_or bytes (at + 6) 0) (get_or bytes (at + 7) 0))
+    (four (get_or bytes (at + 8) 0) (get_or bytes (at + 9) 0) (get_or bytes (at + 10) 0) (get_or bytes (at + 11) 0))
+    (two (get_or bytes (at + 12) 0) (get_or bytes (at + 13) 0))
+    (get_or bytes (at + 14) 0)
+
+-- the record of sixteen bytes, unless they have no state
+abbrev pub found_in : List ℕ → Option Record
+found_in bytes = cond (ltb 4 (get_or bytes 0 0)) None (Some (decode_at bytes 0))

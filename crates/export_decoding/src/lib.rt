@@ -1,28 +1,13 @@
-// One record out of its bytes: their numbers, and what they stand for.
+// One record out of its sixteen bytes.
 #![tactic(auto)]
 
 ghost use Rattle.std.specs.Prelude.{◌≡◌};
-ghost use Rattle.export_decoding.specs.Decoding.{two, four, state_of, unsound, decode};
+ghost use Rattle.export_decoding.specs.Decoding.{unsound, decode_at, found_in};
 
 use hermes::{Record, State, Timestamp};
 
-fn state_of(k: u8) -> State
-    ensures { result ≡ state_of k }
-{
-    if k == 0 {
-        return State::Valid;
-    }
-    if k == 1 {
-        return State::Invalid;
-    }
-    if k == 2 {
-        return State::InvalidWrite;
-    }
-    if k == 3 {
-        return State::Write;
-    }
-    State::Replay
-}
+// The bytes of a record.
+pub const SIZE: usize = 16;
 
 // What bytes with no state stand for: question 5 refuses its length.
 pub fn none() -> Record
@@ -39,52 +24,49 @@ pub fn none() -> Record
     }
 }
 
-// The number of two bytes, the least significant first.
-pub fn two(a: u8, b: u8) -> u16
-    ensures { result ≡ two a b }
-{
-    (a as u16) + (b as u16) * 256
-}
-
-// The number of four bytes.
-pub fn four(a: u8, b: u8, c: u8, d: u8) -> u32
-    ensures { result ≡ four a b c d }
-{
-    (a as u32) + (b as u32) * 256 + (c as u32) * 65536 + (d as u32) * 16777216
-}
-
-// The numbers of a record.
+// The record of these bytes, unless they have no state.
 #[tactic(auto, unfolding(crate::specs::Decoding::decode))]
-pub fn decoded(
-    state: u8,
-    tie: u8,
-    writer: u8,
-    writtentie: u8,
-    version: u32,
-    written: u32,
-    acks: u16,
-    len: u8,
-) -> Record
-    ensures { result ≡ decode state tie writer writtentie version written acks len }
+pub fn found_in(bytes: &[u8; SIZE]) -> Option<Record>
+    ensures { result ≡ found_in bytes.now }
 {
-    if 4 < state {
-        return none();
-    }
-    let s = state_of(state);
-    let now = Timestamp {
-        version: version,
-        tie: tie,
-    };
-    let last = Timestamp {
-        version: written,
-        tie: writtentie,
-    };
-    Record {
-        state: s,
-        timestamp: now,
-        writer: writer,
-        written: last,
-        acks: acks,
-        len: len,
-    }
+    let [
+        state,
+        tie,
+        writer,
+        written_tie,
+        v0,
+        v1,
+        v2,
+        v3,
+        w0,
+        w1,
+        w2,
+        w3,
+        a0,
+        a1,
+        len,
+        _,
+    ] = *bytes;
+    Some(Record {
+        state: State::try_from(state).ok()?,
+        timestamp: Timestamp {
+            version: u32::from_le_bytes([v0, v1, v2, v3]),
+            tie,
+        },
+        writer,
+        written: Timestamp {
+            version: u32::from_le_bytes([w0, w1, w2, w3]),
+            tie: written_tie,
+        },
+        acks: u16::from_le_bytes([a0, a1]),
+        len,
+    })
+}
+
+// The record of these bytes; where they have no state, none.
+#[tactic(auto, unfolding(crate::specs::Decoding::decode))]
+pub fn decoded(bytes: &[u8; SIZE]) -> Record
+    ensures { result ≡ decode_at bytes.now 0 }
+{
+    found_in(bytes).unwrap_or(none())
 }

@@ -3,4 +3,5 @@
 
 mod reading;
 
-pub use reading::{Found, SIZE, count, found_at, record_at};
+pub use export_decoding::SIZE;
+pub use reading::{count, found_at, record_at};
