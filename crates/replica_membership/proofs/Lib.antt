@@ -1,2 +1,1 @@
-mod Admitted
-mod Viewing
+pub mod Viewing

@@ -2,23 +2,11 @@
 #![tactic(auto)]
 
 ghost use Rattle.std.specs.Prelude.{◌≡◌, cond, leb};
-ghost use Rattle.hermes.specs.declared.event.Admission.TheVariants.{Refused};
 ghost use Rattle.hermes_record.specs.Members.{size};
+ghost use Rattle.hermes.specs.Answer.{no};
 ghost use Rattle.hermes.specs.Node.{admit, first_record, view};
-ghost use Rattle.replica_membership.specs.Admitted.{admission_by};
 
-use hermes::{Admission, Record, Replica, Settings};
-use replica_asking::Asked;
-
-// An admission, by what its questions answered.
-fn admission(a: Asked, me: Replica) -> Admission
-    ensures { result ≡ admission_by a me }
-{
-    match a {
-        Asked::Refused(k) => Admission::Refused(k),
-        Asked::Passed(_) => Admission::Admitted(me),
-    }
-}
+use hermes::{Admission, Record, Refused, Replica, Settings};
 
 // The record that a fresh start fills the table with.
 pub fn fresh_record(view: u16) -> Record
@@ -32,57 +20,48 @@ pub fn admit(number: u8, view: u16, settings: Settings, count: usize, bytes: usi
     ensures { result ≡ admit number view settings count bytes }
 {
     let me = Replica {
-        number: number,
+        number,
         epoch: 0,
-        view: view,
-        settings: settings,
+        view,
+        settings,
     };
-    admission(
-        replica_asking::at_start(me, count, bytes, fresh_record(view)),
-        me,
-    )
+    replica_asking::at_start(me, count, bytes, fresh_record(view))?;
+    Ok(me)
 }
 
-// A no of this question, which comes after question 1; that one says no first where the view is of fewer than two.
-fn refused(me: Replica, number: u8) -> Admission
-    ensures { result ≡ Refused (cond (leb 2 (size me.view)) number 1) }
+// The no of this question, which comes after question 1; that one says no first where the view is of fewer than two.
+fn refused(me: Replica, number: u8) -> Refused
+    ensures { result ≡ no (cond (leb 2 (size me.view)) number 1) }
 {
-    let two = replica_members::plural(me.view);
-    if two {
-        Admission::Refused(number)
+    if replica_members::plural(me.view) {
+        Refused(number)
     } else {
-        Admission::Refused(1)
+        Refused(1)
     }
 }
 
 // A change to this epoch and view; number and settings stay: questions 1, 3, 18 and 19. The tests stand in another order. Who is in the view has a number below 16, and
 // what a set of two lies within is of two itself: so nothing is left to ask of question 1 once the others say yes, and only after a no is its
 // number looked for.
+#[tactic(auto, using(crate::proofs::Viewing::members), unfolding(hermes::specs::Node::view))]
 pub fn view(me: Replica, epoch: u32, set: u16) -> Admission
     ensures { result ≡ view me epoch set }
 {
-    let own = replica_members::has(me.view, me.number);
-    if own {
-        if me.epoch < epoch {
-            let inside = replica_members::within(set, me.view);
-            if inside {
-                let two = replica_members::plural(set);
-                if two {
-                    let fixed = me.settings;
-                    return Admission::Admitted(Replica {
-                        number: me.number,
-                        epoch: epoch,
-                        view: set,
-                        settings: fixed,
-                    });
-                }
-            }
-            return refused(me, 19);
+    if !replica_members::has(me.view, me.number) {
+        if Record::NUMBER_MAX < me.number {
+            return Err(Refused(1));
         }
-        return refused(me, 18);
+        return Err(refused(me, 3));
     }
-    if me.number <= Record::NUMBER_MAX {
-        return refused(me, 3);
+    if epoch <= me.epoch {
+        return Err(refused(me, 18));
     }
-    Admission::Refused(1)
+    if !(replica_members::within(set, me.view) && replica_members::plural(set)) {
+        return Err(refused(me, 19));
+    }
+    Ok(Replica {
+        epoch,
+        view: set,
+        ..me
+    })
 }
