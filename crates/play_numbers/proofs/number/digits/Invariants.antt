@@ -4,4 +4,4 @@ use Rattle.play_numbers.specs.Number.{more}
 use Rattle.play_numbers.proofs.number.digits.Given as goal
 
 abbrev pub invariant-loop-b : goal.invariant-loop-b
-invariant-loop-b l = record { small : l.value < 2 ^ 32; rest : more l.limit 0 l.word ≡ more l.limit l.value (drop l.b-index l.word) }
+invariant-loop-b l = record { small : l.value < l.limit; rest : more l.limit 0 l.word ≡ more l.limit l.value (drop l.b-index l.word) }

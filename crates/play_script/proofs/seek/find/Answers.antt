@@ -1,16 +1,15 @@
-use Rattle.std.proofs.Common.{arith}
-use Rattle.play_script.proofs.Places.{place-here, place-on, place-none}
+-- `play_script::seek::find` meets its contract.
+use Rattle.std.proofs.Common.{◌≡◌, ◌-◌, arith, take, drop}
+use Rattle.std.specs.Option.{unwrap_or}
+use Rattle.std.proofs.lemmas.Grind.{common_steps}
+use Rattle.play_script.specs.Seek.{index_of}
+use Rattle.play_script.proofs.Places.{place-or, part_is}
 use Rattle.play_script.proofs.seek.find.Goals as goal
-
-pub returns-then-s-k-clause-value : goal.returns-then-s-k-clause-value
-returns-then-s-k-clause-value c =
-    omega (arith, c.loop-k.invariant, place-here c.args.b c.args.to c.args.s.now c.loop-k.k (omega (arith, c.min-end.ensures, c.loop-k-test.true)) (omega (arith, c.min-end.ensures, c.loop-k-test.true)) c.if-s-k.true)
-
-pub loop-k-preserved : goal.loop-k-preserved
-loop-k-preserved c =
-    omega (arith, c.loop-k.invariant, place-on c.args.b c.args.to c.args.s.now c.loop-k.k (omega (arith, c.min-end.ensures, c.loop-k-test.true)) (omega (arith, c.min-end.ensures, c.loop-k-test.true)) c.if-s-k.false)
 
 pub returns-clause-value : goal.returns-clause-value
 returns-clause-value c =
-    let none = place-none c.args.b c.args.to c.args.s.now in
-    grind (arith, c.loop-k.invariant, c.max.ensures, c.min-end.ensures, none c.args.from, none c.loop-k.k (omega (arith, c.min-end.ensures, c.loop-k-test.false)))
+    let room = c.min-end.result - c.args.from in
+    let part = take room (drop c.args.from c.args.s.now) in
+    let place : unwrap_or c.place.result room ≡ index_of c.args.b part = place-or c.args.b part _ c.place.ensures room (grind (arith, common_steps)) in
+    let whole = part_is c.args.b c.args.to c.args.from c.args.s.now room (omega (arith, c.min-end.ensures)) in
+    rw (whole, c.unwrap_or.ensures, place)
