@@ -19,7 +19,7 @@ use Rattle.hermes.specs.declared.event.Settings.{Settings}
 use Rattle.hermes.specs.declared.event.Event.{Event}
 use Rattle.hermes.specs.declared.event.Event.TheVariants.{Read, Ask, Write, Commit, Replay, Deliver, Validate, Resend}
 use Rattle.hermes_record.specs.Order.{TieOrder, ties, later, same_timestamp, NotAfter, equal, rises}
-use Rattle.hermes_record.proofs.Tests.{both}
+use Rattle.std.proofs.lemmas.Bool.{and_parts}
 use Rattle.hermes_record.proofs.Order.{ties-order, same-equal, greater-later, later-apart, not_after-trans, not_after-antisym}
 use Rattle.hermes.specs.Guards.{AllYes, question9}
 use Rattle.hermes.specs.Kind as kind
@@ -223,9 +223,9 @@ module _ (l : Laptop) (i : ℕ) (a : CetskobiAnswer) (b : List ℕ) (t : along_o
       let room : Bool = ltb i (length l.store / 192) in
       let same : Bool = same_timestamp (stamp_of a) r.timestamp in
       let (h, v) = telling (holds (node l).table l.store i (stamp_of a)) (value_at i r.len l.store) b (rw inv at t) in
-      let (c, d) = both (ltb i (length (node l).table)) (same && (leb r.len 192 && room)) h in
-      let (e, g) = both same (leb r.len 192 && room) d in
-      let short = (both (leb r.len 192) room g).0 in
+      let (c, d) = and_parts (ltb i (length (node l).table)) (same && (leb r.len 192 && room)) h in
+      let (e, g) = and_parts same (leb r.len 192 && room) d in
+      let short = (and_parts (leb r.len 192) room g).0 in
       record { stamp = same-equal (stamp_of a) r.timestamp e; value = sym v; bytes = sym v ∙ value-slot i r.len l.store (leb-true r.len 192 short) }
 
   -- what is no INV takes nothing along

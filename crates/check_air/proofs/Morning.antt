@@ -11,7 +11,7 @@ use Rattle.hermes_record.specs.Members.{has, size, lowest, within, others_in, wi
 use Rattle.hermes_record.specs.declared.timestamp.Rule.TheVariants.{Higher, Lower}
 use Rattle.hermes_record.specs.Order.{ties, later, same_timestamp}
 use Rattle.hermes.specs.Settings.{under, new_settings}
-use Rattle.hermes_record.proofs.Tests as tests
+use Rattle.std.proofs.lemmas.Bool.{and_parts}
 use Rattle.hermes.specs.Store.{padded, place}
 use Rattle.hermes.specs.Event.{refusal, effect, ask_stamp, ask_hands}
 use Rattle.hermes.specs.Node.{start, apply, view, viewed, record_of}
@@ -203,7 +203,7 @@ follow : (h : Hut) (ts : List Plan) → members ts ≡ true → AllFair h ts →
 unfolding members
 follow h [] m f = tt
 follow h (t ∷ rest) m (fair, f) =
-    let (a, b) = tests.both (three t.who) (members rest) m in (a, fair, every-call-answers t.call (h.at t.who), follow (next h (turn h t)) rest b f)
+    let (a, b) = and_parts (three t.who) (members rest) m in (a, fair, every-call-answers t.call (h.at t.who), follow (next h (turn h t)) rest b f)
 
 fair : AllFair hut plans
 unfolding has size lowest within others_in with later same_timestamp padded place refusal effect start apply view viewed good entry_bytes walk fetch_refusal fetched accept_refusal accepted take_refusal taken summed contents packet_bytes all_good write_refusal packet_written output_of entry_in word_messages receipt decode table_of

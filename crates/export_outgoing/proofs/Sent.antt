@@ -34,7 +34,7 @@ use Rattle.export_numbers.specs.Crossing.{answer_out}
 use Rattle.hermes.specs.declared.message.Outgoing.{Outgoing}
 use Rattle.hermes_record.specs.Order.{same_timestamp}
 use Rattle.hermes.specs.Node.{Outcome}
-use Rattle.hermes_record.proofs.Tests.{both}
+use Rattle.std.proofs.lemmas.Bool.{and_parts}
 use Rattle.hermes_record.proofs.Order.{equal-same}
 use Rattle.hermes.proofs.Recipients.{who-gets}
 use Rattle.hermes.proofs.Guards.{slot-fits}
@@ -87,8 +87,8 @@ module _ (bytes store : List ℕ) (i : ℕ) (left : CetskobiAnswer) (inv : left.
     pub text-here : (same : Bool) → same ≡ same_timestamp (stamp_of left) r.timestamp → (same && (leb r.len 192 && ltb i (length store / 192))) ≡ true
         → AlongAt store i (along_of bytes store i left) r.len
     text-here same e h =
-        let (a, b) = both same (leb r.len 192 && ltb i (length store / 192)) h in
-        let (c, d) = both (leb r.len 192) (ltb i (length store / 192)) b in
+        let (a, b) = and_parts same (leb r.len 192 && ltb i (length store / 192)) h in
+        let (c, d) = and_parts (leb r.len 192) (ltb i (length store / 192)) b in
         let p : PartAt store i (value_at i r.len store) r.len = whole_part store i r.len (omega (arith, leb-true r.len 192 c, ltb-true i (length store / 192) d)) in
         rw (inv, test same e ∙ h, ← er) p
 

@@ -1,11 +1,9 @@
 -- Equality as a test: by numbers that stand for a thing and from which it can be had back.
 use Prim.Native.Nat.{ℕ, zero, suc}
-use mathlib.Core.Path.{◌≡◌, refl, sym, ap, ap₂, ◌∙◌}
-use mathlib.Core.Bool.{Bool, true, false, ◌&&◌, false≢true}
+use mathlib.Core.Path.{◌≡◌, refl, sym, ap, ◌∙◌}
+use mathlib.Core.Bool.{Bool, true, ◌&&◌}
 use mathlib.Core.List.{List, [], ◌∷◌}
-use lib.Dec.{eqb}
 use lib.ListN.{get_or}
-use borrow.Author.Tests.{eqb-true}
 use Rattle.hermes_record.specs.declared.timestamp.Timestamp.{Timestamp}
 use Rattle.hermes_record.specs.declared.timestamp.Rule.{Rule}
 use Rattle.hermes_record.specs.declared.timestamp.Rule.TheVariants.{Higher, Lower}
@@ -16,6 +14,9 @@ use Rattle.hermes.specs.Kind.{kind_of, timestamp_of, message_of}
 use Rattle.hermes.proofs.Kind.{message-back}
 use Rattle.hermes.specs.Answer.{Outgoing}
 use Rattle.std.specs.Prelude.{None, Some}
+use Rattle.std.specs.Bool.{Decides}
+use Rattle.std.specs.Str.{bytes_eq}
+use Rattle.std.specs.Cmp.Lexicographic.{pointwise, pointwise_decides, bytes_decides}
 use Rattle.hermes.specs.declared.event.Replica.{Replica}
 use Rattle.hermes_record.specs.Order.{rule_number}
 use Rattle.hermes_record.specs.Record.{code}
@@ -28,25 +29,15 @@ pub record Coded (A : Type 0) : Type 0 where
   pub back : List ℕ → A
   pub had : (a : A) → back (numbers a) ≡ a
 
-unfoldable pub same_list : List ℕ → List ℕ → Bool
-same_list [] [] = true
-same_list [] (y ∷ ys) = false
-same_list (x ∷ xs) [] = false
-same_list (x ∷ xs) (y ∷ ys) = eqb x y && same_list xs ys
-
-pub list-sound : (xs ys : List ℕ) → same_list xs ys ≡ true → xs ≡ ys
-unfolding same_list
-list-sound [] [] e = refl
-list-sound [] (y ∷ ys) e = absurd (false≢true e)
-list-sound (x ∷ xs) [] e = absurd (false≢true e)
-list-sound (x ∷ xs) (y ∷ ys) e = let (p, q) = and_parts (eqb x y) (same_list xs ys) e in ap₂ ◌∷◌ (eqb-true x y p) (list-sound xs ys q)
-
 unfoldable pub same : {A : Type 0} → Coded A → A → A → Bool
-same c a b = same_list (c.numbers a) (c.numbers b)
+same c a b = bytes_eq (c.numbers a) (c.numbers b)
+
+same-decides : {A : Type 0} (c : Coded A) (a b : A) → Decides (same c a b) (a ≡ b)
+unfolding same
+same-decides c a b = (λ e. sym (c.had a) ∙ ap c.back ((bytes_decides (c.numbers a) (c.numbers b)).0 e) ∙ c.had b, λ e. (bytes_decides (c.numbers a) (c.numbers b)).1 (ap c.numbers e))
 
 pub same-sound : {A : Type 0} (c : Coded A) (a b : A) → same c a b ≡ true → a ≡ b
-unfolding same
-same-sound c a b e = sym (c.had a) ∙ ap c.back (list-sound (c.numbers a) (c.numbers b) e) ∙ c.had b
+same-sound c a b = (same-decides c a b).0
 
 unfoldable pub state_code : Coded State
 state_code = record { numbers = λ s. code s ∷ []; back = λ l. coded (get_or l 0 0); had = λ s. sym (coded-code s) }
@@ -115,28 +106,15 @@ outgoing-had (Some (m, h)) = ap (λ (x : Message). Some (x, h)) (message-back m)
 unfoldable pub outgoing_code : Coded Outgoing
 outgoing_code = record { numbers = outgoing_numbers; back = outgoing_back; had = outgoing-had }
 
-unfoldable pub same_table : List Record → List Record → Bool
-same_table [] [] = true
-same_table [] (y ∷ ys) = false
-same_table (x ∷ xs) [] = false
-same_table (x ∷ xs) (y ∷ ys) = same record_code x y && same_table xs ys
-
-table-sound : (xs ys : List Record) → same_table xs ys ≡ true → xs ≡ ys
-unfolding same_table
-table-sound [] [] e = refl
-table-sound [] (y ∷ ys) e = absurd (false≢true e)
-table-sound (x ∷ xs) [] e = absurd (false≢true e)
-table-sound (x ∷ xs) (y ∷ ys) e = let (p, q) = and_parts (same record_code x y) (same_table xs ys) e in ap₂ ◌∷◌ (same-sound record_code x y p) (table-sound xs ys q)
-
 unfoldable pub same_node : Node → Node → Bool
-same_node n m = same replica_code n.me m.me && (same_table n.table m.table && same_list n.store m.store)
+same_node n m = same replica_code n.me m.me && (pointwise (same record_code) n.table m.table && bytes_eq n.store m.store)
 
 pub node-sound : (n m : Node) → same_node n m ≡ true → n ≡ m
 unfolding same_node
 node-sound n m e =
     let (p, q) = and_parts (same replica_code n.me m.me) _ e in
-    let (s, t) = and_parts (same_table n.table m.table) _ q in
+    let (s, t) = and_parts (pointwise (same record_code) n.table m.table) _ q in
     let p' : n.me ≡ m.me = same-sound replica_code n.me m.me p in
-    let s' : n.table ≡ m.table = table-sound n.table m.table s in
-    let t' : n.store ≡ m.store = list-sound n.store m.store t in
+    let s' : n.table ≡ m.table = (pointwise_decides (same-decides record_code) n.table m.table).0 s in
+    let t' : n.store ≡ m.store = (bytes_decides n.store m.store).0 t in
     λ i. record { me = p' i; table = s' i; store = t' i }

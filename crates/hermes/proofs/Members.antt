@@ -1,84 +1,25 @@
 -- Sets of replica numbers, as facts about their members. The idea: a set below 2 ^ 16 is its sixteen bits, and each operation is known bit by bit.
-use Prim.Native.Nat.{ℕ, zero, suc, ◌+◌, ◌-◌, ◌/◌, ◌%◌, ◌^◌, ◌≤◌, ◌<◌, min, max}
+use Prim.Native.Nat.{ℕ, zero, suc, ◌-◌, ◌^◌, ◌≤◌, ◌<◌}
 use mathlib.Core.Path.{◌≡◌, refl, sym, ap, ap₂, ◌∙◌}
 use mathlib.Core.Bool.{Bool, true, false, not, ◌&&◌, ◌||◌, or-false, or-true, and-false, and-true}
 use mathlib.Core.Logic.{◌⊎◌, inl, inr, ◌≢◌, ◌↔◌}
 use native.Mathlib.Omega.{arith}
 use native.Mathlib.Decide.{ℕ_discrete, dec_lt}
-use native.Mathlib.Nat.{one-mul, zero-div, div-eq_of_lt, pow-suc}
 use lib.Dec.{ltb, eqb}
-use lib.Bits.{bit_and, bit_or, and_shr, and_step, or_shr, or_step}
-use lib.Pow.{pow-lt, pow-add, shl-shr, shr-shr}
+use lib.Bits.{bit_and, bit_or}
+use lib.Pow.{pow-lt}
 use borrow.Author.Tests.{ltb-true, eqb-true, eq-eqb, ne_eqb, lt-ltb, le-ltb}
 use Rattle.hermes_record.specs.Members.{has, all_below, within, others_in, with, without}
 use Rattle.hermes_record.proofs.Tests.{implied, implies}
-use Rattle.std.proofs.lemmas.Bool.{and_parts, or_cases, false_from_ne_true}
+use Rattle.std.specs.Bool.{Decides}
+use Rattle.std.specs.Int.{bit_at, w16}
+use Rattle.std.proofs.lemmas.Bool.{and_parts, or_cases, or_right, false_from_ne_true}
+use Rattle.std.proofs.lemmas.Bool.Decides.{Decides-below_and}
+use Rattle.std.proofs.lemmas.Nat.Bits.{bit_at-lt, bit_at-zero, bit_at_and, bit_at_or, bit_at_not, bit_at-pow_same, bit_at-pow_other}
 
 -- m is in the set s
 abbrev pub Has : ℕ → ℕ → Type 0
 Has s m = has s m ≡ true
-
--- ---- bits
-
-unfoldable pub bit : ℕ → ℕ → ℕ
-bit s m = s / 2 ^ m % 2
-
-pub bit-small : (s m : ℕ) → bit s m < 2
-unfolding bit
-bit-small s m = omega arith
-
-bit-suc : (s m : ℕ) → bit s (suc m) ≡ bit (s / 2) m
-unfolding bit
-bit-suc s m = ap (λ (x : ℕ). x % 2) (ap (λ (x : ℕ). s / 2 ^ x) e ∙ sym (shr-shr s 1 m))
-  where
-    e : suc m ≡ 1 + m
-    e = omega arith
-
-pub and-bit : (a b m : ℕ) → bit (bit_and a b) m ≡ min (bit a m) (bit b m)
-unfolding bit
-and-bit a b m = omega (arith, and_shr a b m, and_step (a / 2 ^ m) (b / 2 ^ m))
-
-or-bit : (a b m : ℕ) → bit (bit_or a b) m ≡ max (bit a m) (bit b m)
-unfolding bit
-or-bit a b m = omega (arith, or_shr a b m, or_step (a / 2 ^ m) (b / 2 ^ m))
-
--- 2 ^ n has bit n and no other
-pow-bit-same : (n : ℕ) → bit (2 ^ n) n ≡ 1
-unfolding bit
-pow-bit-same n = omega (arith, shl-shr 1 n, ap (λ (x : ℕ). x / 2 ^ n) (one-mul (2 ^ n)))
-
-pow-bit-other : (n m : ℕ) → m ≢ n → bit (2 ^ n) m ≡ 0
-unfolding bit
-pow-bit-other n m d = go (dec_lt m n)
-  where
-    go : Dec (m < n) → 2 ^ n / 2 ^ m % 2 ≡ 0
-    go (yes l) = omega (arith, ap (λ (x : ℕ). 2 ^ x / 2 ^ m) e, ap (λ (x : ℕ). x / 2 ^ m) (pow-add 2 (suc (n - m - 1)) m), shl-shr (2 ^ suc (n - m - 1)) m, pow-suc 2 (n - m - 1))
-      where
-        e : n ≡ suc (n - m - 1) + m
-        e = omega arith
-    go (no g) = omega (arith, div-eq_of_lt (pow-lt (above g)))
-      where
-        above : (m < n → ⊥) → n < m
-        above g = omega arith
-
--- the bits of a complement
-not-bit : (k a m : ℕ) → a < 2 ^ k → m < k → bit (2 ^ k - 1 - a) m ≡ 1 - bit a m
-not-bit zero a m h l = absurd (omega arith)
-not-bit (suc k) a zero h l = unfold bit in omega (arith, pow-suc 2 k)
-not-bit (suc k) a (suc m) h l =
-    bit-suc (2 ^ suc k - 1 - a) m ∙ ap (λ (x : ℕ). bit x m) half ∙ not-bit k (a / 2) m (omega (arith, pow-suc 2 k)) (omega arith) ∙ ap (λ (x : ℕ). 1 - x) (sym (bit-suc a m))
-  where
-    half : (2 ^ suc k - 1 - a) / 2 ≡ 2 ^ k - 1 - a / 2
-    half = omega (arith, pow-suc 2 k)
-
--- two sets of k bits with the same bits are one
-pub same_bits : (k a b : ℕ) → a < 2 ^ k → b < 2 ^ k → ((m : ℕ) → m < k → bit a m ≡ bit b m) → a ≡ b
-unfolding bit
-same_bits zero a b ha hb h = omega arith
-same_bits (suc k) a b ha hb h = join (same_bits k (a / 2) (b / 2) (omega (arith, pow-suc 2 k)) (omega (arith, pow-suc 2 k)) (λ m l. sym (bit-suc a m) ∙ h (suc m) (omega arith) ∙ bit-suc b m))
-  where
-    join : a / 2 ≡ b / 2 → a ≡ b
-    join e = omega (arith, h 0 (omega arith))
 
 -- ---- members
 
@@ -86,39 +27,33 @@ pub has-small : (s m : ℕ) → Has s m → m < 16
 unfolding has
 has-small s m h = ltb-true m 16 (and_parts _ _ h).0
 
-has-bit : (s m : ℕ) → m < 16 → has s m ≡ eqb (bit s m) 1
-unfolding has bit
+has-bit : (s m : ℕ) → m < 16 → has s m ≡ eqb (bit_at s m) 1
+unfolding has
 has-bit s m l = rw (lt-ltb m 16 l)
 
 has-large : (s m : ℕ) → 16 ≤ m → has s m ≡ false
 unfolding has
 has-large s m l = rw (le-ltb m 16 l)
 
-pub member-bit : (s m : ℕ) → Has s m → bit s m ≡ 1
-member-bit s m h = eqb-true (bit s m) 1 (sym (has-bit s m (has-small s m h)) ∙ h)
+pub member-bit : (s m : ℕ) → Has s m → bit_at s m ≡ 1
+member-bit s m h = eqb-true (bit_at s m) 1 (sym (has-bit s m (has-small s m h)) ∙ h)
 
-pub bit-member : (s m : ℕ) → m < 16 → bit s m ≡ 1 → Has s m
-bit-member s m l e = has-bit s m l ∙ eq-eqb (bit s m) 1 e
+pub bit-member : (s m : ℕ) → m < 16 → bit_at s m ≡ 1 → Has s m
+bit-member s m l e = has-bit s m l ∙ eq-eqb (bit_at s m) 1 e
 
 pub has-zero : (m : ℕ) → has 0 m ≡ false
-has-zero m = false_from_ne_true (has 0 m) (λ h. omega (arith, member-bit 0 m h, nought))
-  where
-    nought : bit 0 m ≡ 0
-    nought = unfold bit in omega (arith, zero-div (2 ^ m))
+has-zero m = false_from_ne_true (has 0 m) (λ h. omega (arith, member-bit 0 m h, bit_at-zero m))
 
 -- ---- every number below k
 
+every_below : (k : ℕ) (p : ℕ → Bool) → Decides (all_below k p) ((m : ℕ) → m < k → p m ≡ true)
+every_below k p = Decides-below_and p (λ m. p m ≡ true) (λ n. all_below n p) (λ m. (λ e. e, λ e. e)) refl (λ n. refl) k
+
 pub all-at : (k : ℕ) (p : ℕ → Bool) → all_below k p ≡ true → (m : ℕ) → m < k → p m ≡ true
-all-at zero p h m l = absurd (omega arith)
-all-at (suc k) p h m l = go (λ (t : m < k). all-at k p (and_parts (p k) (all_below k p) h).1 m t) (ℕ_discrete m k)
-  where
-    go : (m < k → p m ≡ true) → Dec (m ≡ k) → p m ≡ true
-    go below (yes e) = rw e (and_parts (p k) (all_below k p) h).0
-    go below (no d) = below (omega arith)
+all-at k p = (every_below k p).0
 
 pub all_of : (k : ℕ) (p : ℕ → Bool) → ((m : ℕ) → m < k → p m ≡ true) → all_below k p ≡ true
-all_of zero p h = refl
-all_of (suc k) p h = rw (h k (omega arith), all_of k p (λ m l. h m (omega arith)))
+all_of k p = (every_below k p).1
 
 pub all_same : (k : ℕ) (p q : ℕ → Bool) → ((m : ℕ) → m < k → p m ≡ q m) → all_below k p ≡ all_below k q
 all_same zero p q h = refl
@@ -147,11 +82,7 @@ members-others n view s h = all_of 16 (λ (x : ℕ). not (has view x) || (eqb x 
   where
     go : (m : ℕ) → (m ≡ n) ⊎ Has s m → (eqb m n || has s m) ≡ true
     go m (inl e) = rw (eq-eqb m n e)
-    go m (inr e) = join (eqb m n)
-      where
-        join : (b : Bool) → (b || has s m) ≡ true
-        join true = refl
-        join false = e
+    go m (inr e) = or_right (eqb m n) (has s m) e
 
 -- the same of every other member
 pub every-other : (n view s : ℕ) → ((m : ℕ) → Has view m → m ≢ n → Has s m) → others_in n view s ≡ true
@@ -185,12 +116,12 @@ has-with s n m = go (dec_lt n 16) (dec_lt m 16) (ℕ_discrete m n)
     go (yes a) (no b) e = rw (has-large (with s n) m (omega arith), has-large s m (omega arith), ne_eqb m n (omega arith))
     go (yes a) (yes b) (yes e) = rw (eq-eqb m n e, lt-ltb n 16 a) (bit-member (with s n) m b one ∙ sym (or-true (has s m)))
       where
-        one : bit (with s n) m ≡ 1
-        one = rw (add a, e) (omega (arith, or-bit s (2 ^ n) n, pow-bit-same n, bit-small s n))
+        one : bit_at (with s n) m ≡ 1
+        one = rw (add a, e) (omega (arith, bit_at_or s (2 ^ n) n, bit_at-pow_same n, bit_at-lt s n))
     go (yes a) (yes b) (no d) = rw (ne_eqb m n d) (has-bit (with s n) m b ∙ ap (λ (x : ℕ). eqb x 1) same ∙ sym (has-bit s m b) ∙ sym (or-false (has s m)))
       where
-        same : bit (with s n) m ≡ bit s m
-        same = rw (add a) (omega (arith, or-bit s (2 ^ n) m, pow-bit-other n m d))
+        same : bit_at (with s n) m ≡ bit_at s m
+        same = rw (add a) (omega (arith, bit_at_or s (2 ^ n) m, bit_at-pow_other n m d))
 
 pub with-members : (s n m : ℕ) → Has (with s n) m → Has s m ⊎ (m ≡ n)
 with-members s n m h = go (or_cases (has s m) (eqb m n && ltb n 16) (sym (has-with s n m) ∙ h))
@@ -219,17 +150,17 @@ has-without s n m = go (dec_lt n 16) (dec_lt m 16) (ℕ_discrete m n)
     none : 16 ≤ n → without s n ≡ s
     none l = unfold without in rw (le-ltb n 16 l)
 
-    mask-bit : n < 16 → m < 16 → bit mask m ≡ 1 - bit (2 ^ n) m
-    mask-bit a b = not-bit 16 (2 ^ n) m (pow-lt a) b
+    mask-bit : n < 16 → m < 16 → bit_at mask m ≡ 1 - bit_at (2 ^ n) m
+    mask-bit a b = bit_at_not w16 (2 ^ n) m (pow-lt a) b
 
     go : Dec (n < 16) → Dec (m < 16) → Dec (m ≡ n) → has (without s n) m ≡ (has s m && not (eqb m n))
     go d (no b) e = rw (has-large (without s n) m (omega arith), has-large s m (omega arith))
     go (no a) (yes b) e = rw (none (omega arith), ne_eqb m n (omega arith)) (sym (and-true (has s m)))
-    go (yes a) (yes b) (yes e) = rw (eq-eqb m n e) (has-bit (without s n) m b ∙ ne_eqb (bit (without s n) m) 1 (λ h. omega (arith, zeroed)) ∙ sym (and-false (has s m)))
+    go (yes a) (yes b) (yes e) = rw (eq-eqb m n e) (has-bit (without s n) m b ∙ ne_eqb (bit_at (without s n) m) 1 (λ h. omega (arith, zeroed)) ∙ sym (and-false (has s m)))
       where
-        zeroed : bit (without s n) m ≡ 0
-        zeroed = rw (cut a) (omega (arith, and-bit s mask m, mask-bit a b, pow-bit-same n, ap (bit (2 ^ n)) e))
+        zeroed : bit_at (without s n) m ≡ 0
+        zeroed = rw (cut a) (omega (arith, bit_at_and s mask m, mask-bit a b, bit_at-pow_same n, ap (bit_at (2 ^ n)) e))
     go (yes a) (yes b) (no d) = rw (ne_eqb m n d) (has-bit (without s n) m b ∙ ap (λ (x : ℕ). eqb x 1) same ∙ sym (has-bit s m b) ∙ sym (and-true (has s m)))
       where
-        same : bit (without s n) m ≡ bit s m
-        same = rw (cut a) (omega (arith, and-bit s mask m, mask-bit a b, pow-bit-other n m d, bit-small s m))
+        same : bit_at (without s n) m ≡ bit_at s m
+        same = rw (cut a) (omega (arith, bit_at_and s mask m, mask-bit a b, bit_at-pow_other n m d, bit_at-lt s m))

@@ -6,6 +6,9 @@ use lib.Dec.{eqb}
 use lib.ListN.{length}
 use borrow.Author.Tests.{eqb-true}
 use Rattle.std.specs.Prelude.{None}
+use Rattle.std.specs.List.{list_all}
+use Rattle.std.specs.Str.{bytes_eq}
+use Rattle.std.specs.Cmp.Lexicographic.{bytes_decides}
 use Rattle.hermes_record.specs.Members.{has, size, lowest, within, others_in, with}
 use Rattle.hermes_record.specs.Order.{later, same_timestamp}
 use Rattle.hermes.specs.Settings.{old_settings}
@@ -16,8 +19,8 @@ use Rattle.hermes.specs.Worked.{Claim, answers, leaves, stamps, last_writer, tie
 use Rattle.hermes.specs.Limits.{limits}
 use Rattle.hermes.specs.Rows.{unstarted, ringing, rows}
 use Rattle.std.proofs.lemmas.Bool.{and_parts}
-use Rattle.hermes.proofs.Coded.{same, same-sound, same_list, list-sound, state_code, timestamp_code, record_code, record_numbers, rule_code, replica_code, message_numbers, outgoing_numbers, outgoing_code, same_table, same_node, node-sound}
-use Rattle.hermes.proofs.Table.{passing, every}
+use Rattle.hermes.proofs.Coded.{same, same-sound, state_code, timestamp_code, record_code, record_numbers, rule_code, replica_code, message_numbers, outgoing_numbers, outgoing_code, same_node, node-sound}
+use Rattle.hermes.proofs.Table.{every}
 
 test : Claim → Node → Outcome → Bool
 test (answers k) n o = eqb (number_of o.answer) k
@@ -27,9 +30,9 @@ test (last_writer k) n o = eqb (record_of 0 o.node).writer k
 test (ties_by rule) n o = same rule_code o.node.me.settings.rule rule
 test (last_write v t) n o = same timestamp_code (record_of 0 o.node).written (record { version = v; tie = t })
 test (acknowledged_by set) n o = eqb (record_of 0 o.node).acks set
-test (holding v) n o = eqb (record_of 0 o.node).len (length v) && same_list o.node.store (store_of v)
+test (holding v) n o = eqb (record_of 0 o.node).len (length v) && bytes_eq o.node.store (store_of v)
 test (sends m) n o = same outgoing_code (sent_by o.answer) (send n.me 0 m)
-test (hands_out text v t) n o = same_list (asked o.node 0).part text && same timestamp_code (asked o.node 0).timestamp (record { version = v; tie = t })
+test (hands_out text v t) n o = bytes_eq (asked o.node 0).part text && same timestamp_code (asked o.node 0).timestamp (record { version = v; tie = t })
 test silent n o = same outgoing_code (sent_by o.answer) None
 test unchanged n o = same_node o.node n
 
@@ -44,11 +47,11 @@ says (last_write v t) n o e = same-sound timestamp_code _ _ e
 says (acknowledged_by set) n o e = eqb-true _ set e
 says (holding v) n o e =
     let (p, q) = and_parts (eqb (record_of 0 o.node).len (length v)) _ e in
-    (eqb-true _ (length v) p, list-sound o.node.store (store_of v) q)
+    (eqb-true _ (length v) p, (bytes_decides o.node.store (store_of v)).0 q)
 says (sends m) n o e = same-sound outgoing_code _ _ e
 says (hands_out text v t) n o e =
-    let (p, q) = and_parts (same_list (asked o.node 0).part text) _ e in
-    λ z. record { part = list-sound (asked o.node 0).part text p z; timestamp = same-sound timestamp_code (asked o.node 0).timestamp (record { version = v; tie = t }) q z }
+    let (p, q) = and_parts (bytes_eq (asked o.node 0).part text) _ e in
+    λ z. record { part = (bytes_decides (asked o.node 0).part text).0 p z; timestamp = same-sound timestamp_code (asked o.node 0).timestamp (record { version = v; tie = t }) q z }
 says silent n o e = same-sound outgoing_code _ None e
 says unchanged n o e = node-sound o.node n e
 
@@ -75,8 +78,8 @@ holds n (asks_start number set count bytes k) e = eqb-true _ k e
 holds n (asks_view me epoch set k) e = eqb-true _ k e
 
 -- the test, computed
-computed : passing Row (test_row unstarted) rows ≡ true
-unfolding passing test_row test_all test same same_list same_table same_node state_code timestamp_code record_code record_numbers rule_code replica_code outgoing_code outgoing_numbers message_numbers unstarted limits ringing rows apply effect refusal ask_stamp ask_hands start view viewed has size lowest within others_in with later same_timestamp padded place
+computed : list_all (test_row unstarted) rows ≡ true
+unfolding test_row test_all test same same_node state_code timestamp_code record_code record_numbers rule_code replica_code outgoing_code outgoing_numbers message_numbers unstarted limits ringing rows apply effect refusal ask_stamp ask_hands start view viewed has size lowest within others_in with later same_timestamp padded place
 computed = refl
 
 -- Every row about the events holds.

@@ -37,7 +37,7 @@ use Rattle.hermes.specs.SecondReading.{Entry, outcome, Leaves, Left, Honest, Rep
 use Rattle.hermes.specs.SecondReading.{FreshStart, Different, Premises, ShowsValid, Agree, Agreement, InWriteOrReplay, LastAck, Validates, Kept, SecondDemand3}
 use Rattle.std.proofs.lemmas.Bool.{and_parts, or_cases}
 use Rattle.hermes.proofs.Log.{find-front, find-last}
-use Rattle.hermes.proofs.Members.{bit, bit-member, member-bit, has-small}
+use Rattle.hermes.proofs.Members.{bit-member, member-bit, has-small}
 use Rattle.hermes.proofs.LastAck.{does-complete}
 use Rattle.hermes.proofs.Start.{begun}
 use Rattle.hermes.proofs.Agreement.{run-append, at-who, at_other, agreement}
@@ -47,11 +47,9 @@ use Rattle.hermes.proofs.Sound.{stay-sound}
 
 -- a number that stands in a view is a member
 pub in-view : (k s : ℕ) → InView k s → has s k ≡ true
-unfolding bit
 in-view k s v = bit-member s k v.0 v.1
 
 pub view_in : (k s : ℕ) → has s k ≡ true → InView k s
-unfolding bit
 view_in k s h = (has-small s k h, member-bit s k h)
 
 -- the two orders of stamps

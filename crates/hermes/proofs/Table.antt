@@ -1,23 +1,15 @@
 -- A table of rows: a sound test, computed once over the whole list, gives what every row of it says.
 use mathlib.Core.Path.{◌≡◌}
-use mathlib.Core.Bool.{Bool, true, ◌&&◌}
+use mathlib.Core.Bool.{Bool, true}
 use mathlib.Core.List.Memᴰ
 use mathlib.Core.List.{List, [], ◌∷◌, Memᴰ}
-use mathlib.Core.Logic.{◌⊎◌, inl, inr}
+use mathlib.Core.Logic.{⊎_elim}
+use Rattle.std.specs.List.{list_all}
 use Rattle.std.proofs.lemmas.Bool.{and_parts}
 
-module _ (R : Type 0) (test : R → Bool) where
-  -- every row passes
-  unfoldable pub passing : List R → Bool
-  passing [] = true
-  passing (r ∷ rs) = test r && passing rs
-
 module _ (R : Type 0) (test : R → Bool) (Says : R → Type 0) (sound : (r : R) → test r ≡ true → Says r) where
-  pub every : (rs : List R) → passing R test rs ≡ true → (r : R) → Memᴰ r rs → Says r
-  unfolding passing
+  pub every : (rs : List R) → list_all test rs ≡ true → (r : R) → Memᴰ r rs → Says r
   every [] e r m = absurd (Memᴰ.not-nil m)
-  every (q ∷ rs) e r m = go (Memᴰ.cases_cons m) (every rs (and_parts (test q) (passing R test rs) e).1 r)
-    where
-      go : (r ≡ q) ⊎ Memᴰ r rs → (Memᴰ r rs → Says r) → Says r
-      go (inl h) rest = rw h (sound q (and_parts (test q) (passing R test rs) e).0)
-      go (inr h) rest = rest h
+  every (q ∷ rs) e r m =
+      let (p, rest) = and_parts (test q) (list_all test rs) e in
+      ⊎_elim (λ h. rw h (sound q p)) (every rs rest r) (Memᴰ.cases_cons m)

@@ -1,6 +1,6 @@
 -- The loop over the messages that stores their entries, and question 25.
 use mathlib.Core.Path.{◌≡◌, refl, sym, ap, ◌∙◌}
-use mathlib.Core.Bool.{Bool, true, false, cond, ◌&&◌, ◌||◌}
+use mathlib.Core.Bool.{Bool, true, false, cond, ◌&&◌, ◌||◌, and-false}
 use mathlib.Core.List.{List, ◌∷◌, ◌++◌}
 use mathlib.Core.Logic.{⊎_elim}
 use Prim.Native.Nat.{ℕ, suc, ◌+◌, ◌-◌, ◌*◌, ◌≤◌, ◌<◌}
@@ -9,7 +9,7 @@ use borrow.Author.Tests.{le-leb, lt-leb, ltb-true, ltb-false}
 use lib.Dec.{leb, ltb}
 use lib.ListN.{length, get_or, set}
 use lib.Seq.{sets, length-sets}
-use Rattle.hermes_record.proofs.Tests.{either, neither, and-false}
+use Rattle.std.proofs.lemmas.Bool.{or_cases, or_parts}
 use Rattle.hermes_record.specs.declared.timestamp.Rule.{Rule}
 use Rattle.hermes_record.specs.Order.{rule_number}
 use Rattle.packet_format.specs.Bytes.{be}
@@ -67,13 +67,13 @@ module _ (d : List ℕ) (n : ℕ) (words : List ℕ) (out : List ℕ) (at j : �
 
 -- what the code's test of the total tells where it is passed
 pub roomy : (total room : ℕ) → (ltb 1400 total || ltb room total) ≡ false → (total ≤ 1400) × (total ≤ room)
-roomy total room h = let s = neither (ltb 1400 total) (ltb room total) h in (ltb-false _ _ s.0, ltb-false _ _ s.1)
+roomy total room h = let s = or_parts (ltb 1400 total) (ltb room total) h in (ltb-false _ _ s.0, ltb-false _ _ s.1)
 
 -- and where it is not: question 25 says no
 pub crowded : (total room : ℕ) → (ltb 1400 total || ltb room total) ≡ true → (leb total 1400 && leb total room) ≡ false
 crowded total room h =
     ⊎_elim (λ l. rw (lt-leb total 1400 (ltb-true 1400 total l))) (λ l. rw (lt-leb total room (ltb-true room total l)) (and-false (leb total 1400)))
-    (either (ltb 1400 total) (ltb room total) h)
+    (or_cases (ltb 1400 total) (ltb room total) h)
 
 module _ (rule : Rule) (words bodies out : List ℕ) (n : ℕ) (e : n ≡ count_in (length words)) where
   -- by question 25's answer

@@ -10,7 +10,7 @@ use borrow.Author.Tests.{eq-eqb, ne_eqb, le-leb, lt-leb, lt-ltb, le-ltb, leb-tru
 use lib.Dec.{eqb, leb, ltb}
 use lib.ListN.{length, take, drop}
 use lib.Seq.{drop-drop}
-use Rattle.hermes_record.proofs.Tests.{both}
+use Rattle.std.proofs.lemmas.Bool.{and_parts}
 use Rattle.hermes_record.specs.declared.timestamp.Rule.{Rule}
 use Rattle.hermes_record.specs.declared.timestamp.Rule.TheVariants.{Higher, Lower}
 use Rattle.hermes_record.specs.Order.{rule_number}
@@ -35,7 +35,7 @@ walk_at : (n : ℕ) (q : List ℕ) (at total : ℕ) → walk n q at total ≡ tr
 unfolding walk
 walk_at zero q at total w = let e = eqb-true at total w in omega arith
 walk_at (suc n) q at total w =
-    let s = both (good (fields_of q) && eqb (fields_of q).offset at) (walk n (drop 16 q) (at + (fields_of q).len) total) w in
+    let s = and_parts (good (fields_of q) && eqb (fields_of q).offset at) (walk n (drop 16 q) (at + (fields_of q).len) total) w in
     let h = walk_at n (drop 16 q) (at + (fields_of q).len) total s.1 in
     omega arith
 
@@ -46,14 +46,14 @@ unfolding walk
 walk-entry zero i q at total w l = absurd (not-suc-le-zero l)
 walk-entry (suc n) zero q at total w l =
     let f = fields_of q in
-    let s = both (good f && eqb f.offset at) (walk n (drop 16 q) (at + f.len) total) w in
-    let g = both (good f) (eqb f.offset at) s.0 in
+    let s = and_parts (good f && eqb f.offset at) (walk n (drop 16 q) (at + f.len) total) w in
+    let g = and_parts (good f) (eqb f.offset at) s.0 in
     let h = walk_at n (drop 16 q) (at + f.len) total s.1 in
     let e = eqb-true f.offset at g.1 in
     (g.0, omega arith)
 walk-entry (suc n) (suc i) q at total w l =
     let f = fields_of q in
-    let s = both (good f && eqb f.offset at) (walk n (drop 16 q) (at + f.len) total) w in
+    let s = and_parts (good f && eqb f.offset at) (walk n (drop 16 q) (at + f.len) total) w in
     rw (sixteen i q) (walk-entry n i (drop 16 q) (at + f.len) total s.1 (le_of_suc-le-suc l))
 
 -- an offset is a number of two bytes

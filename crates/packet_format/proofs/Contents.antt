@@ -15,7 +15,7 @@ use Rattle.packet_format.specs.declared.entry.Fields.{Fields}
 use Rattle.packet_format.specs.Entry.{fields_of, entry_bytes, entry_of, fields_for, entries_of, good, no_entry}
 use Rattle.packet_format.specs.Reading.{walk}
 use Rattle.packet_format.specs.Writing.{summed, contents, all_good}
-use Rattle.hermes_record.proofs.Tests.{both}
+use Rattle.std.proofs.lemmas.Bool.{and_parts}
 use Rattle.packet_format.proofs.Entries.{fields_back, drop-entry, length-entry, bytes_back, good-parts, good-offset, message-back}
 
 pub length-contents : (es : List Entry) (at : ℕ) → length (contents at es) ≡ 16 * length es
@@ -51,7 +51,7 @@ pub walk-contents : (es : List Entry) (at : ℕ) (rest : List ℕ) → all_good 
 unfolding walk summed all_good
 walk-contents [] at rest g = eq-eqb at (at + 0) (sym (add-zero at))
 walk-contents (e ∷ es) at rest g =
-    let gs = both (good (fields_for e 0)) (all_good es) g in
+    let gs = and_parts (good (fields_for e 0)) (all_good es) g in
     let f = fields_for e at in
     let tail = contents (at + e.len) es ++ rest in
     let total = at + (e.len + summed es) in
@@ -89,8 +89,8 @@ contents-walk (suc n) q at total h b w =
     let f = fields_of q in
     let e = entry_of f in
     let es = entries_of n (drop 16 q) in
-    let s1 = both (good f && eqb f.offset at) (walk n (drop 16 q) (at + f.len) total) w in
-    let s2 = both (good f) (eqb f.offset at) s1.0 in
+    let s1 = and_parts (good f && eqb f.offset at) (walk n (drop 16 q) (at + f.len) total) w in
+    let s2 = and_parts (good f) (eqb f.offset at) s1.0 in
     let g = good-parts f s2.0 in
     let same : fields_for e at ≡ f = message-back f at g.kind (eqb-true f.offset at s2.1) in
     let r = contents-walk n (drop 16 q) (at + f.len) total (simp length-drop (omega arith)) (bytes_drop 16 q b) s1.1 in (

@@ -1,6 +1,6 @@
 -- One entry there and back: its 16 bytes and its fields, its fields and its message.
 use mathlib.Core.Path.{◌≡◌, refl, sym, ◌∙◌}
-use mathlib.Core.Bool.{true, false, ◌&&◌}
+use mathlib.Core.Bool.{true, false, ◌&&◌, and-true}
 use mathlib.Core.List.{List, [], ◌∷◌, ◌++◌}
 use Prim.Native.Nat.{ℕ, ◌≤◌}
 use native.Mathlib.Omega.{arith}
@@ -15,7 +15,7 @@ use Rattle.packet_format.specs.declared.entry.Entry.{Entry}
 use Rattle.packet_format.specs.declared.entry.Fields.{Fields}
 use Rattle.packet_format.specs.Bytes.{window}
 use Rattle.packet_format.specs.Entry.{fields_of, entry_bytes, entry_of, fields_for, bodied, good}
-use Rattle.hermes_record.proofs.Tests.{both, is_false, and-true}
+use Rattle.std.proofs.lemmas.Bool.{and_parts, false_from_ne_true}
 use Rattle.packet_format.proofs.Width.{num-be, window-drop, be-window}
 
 -- fields written are read
@@ -70,14 +70,14 @@ pub record Good (f : Fields) : Type 0 where
 pub good-parts : (f : Fields) → good f ≡ true → Good f
 unfolding good
 good-parts f h =
-    let s6 = both _ (bodied f) h in
-    let s5 = both _ (leb f.len 192) s6.0 in
-    let s4 = both _ (leb f.index 4095) s5.0 in
-    let s3 = both _ (leb f.tie 15) s4.0 in
-    let s2 = both (known f.kind) (leb f.sender 15) s3.0 in
+    let s6 = and_parts _ (bodied f) h in
+    let s5 = and_parts _ (leb f.len 192) s6.0 in
+    let s4 = and_parts _ (leb f.index 4095) s5.0 in
+    let s3 = and_parts _ (leb f.tie 15) s4.0 in
+    let s2 = and_parts (known f.kind) (leb f.sender 15) s3.0 in
     record {
       kind = s2.0;
-      last = leb-true _ _ (both (leb inv f.kind) (leb f.kind val) s2.0).1;
+      last = leb-true _ _ (and_parts (leb inv f.kind) (leb f.kind val) s2.0).1;
       sender = leb-true _ _ s2.1;
       tie = leb-true _ _ s3.1;
       index = leb-true _ _ s4.1;
@@ -85,7 +85,7 @@ good-parts f h =
     }
 
 pub not_good : (f : Fields) → (Good f → ⊥) → false ≡ good f
-not_good f n = sym (is_false (good f) (λ h. n (good-parts f h)))
+not_good f n = sym (false_from_ne_true (good f) (λ h. n (good-parts f h)))
 
 -- fields whose sender, tie-breaker, record and length are within their limits
 module _ (f : Fields) (sender : f.sender ≤ 15) (tie : f.tie ≤ 15) (index : f.index ≤ 4095) (len : f.len ≤ 192) where

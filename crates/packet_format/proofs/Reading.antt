@@ -18,7 +18,7 @@ use Rattle.std.specs.Prelude.{Err, Ok}
 use Rattle.packet_format.specs.Bytes.{num, window}
 use Rattle.packet_format.specs.Entry.{fields_of, entry_of, good}
 use Rattle.packet_format.specs.Reading.{rule_in, count_of, entry_place, question20, question22, walk, fetch_refusal, fetched}
-use Rattle.hermes_record.proofs.Tests.{both}
+use Rattle.std.proofs.lemmas.Bool.{and_parts}
 
 -- a part to the end is what is left after the start
 pub part_to_end : (p : List ℕ) (a : ℕ) → take (length p - a) (drop a p) ≡ drop a p
@@ -62,11 +62,11 @@ pub record Header (p : List ℕ) : Type 0 where
 
 pub header : (p : List ℕ) → (question20 p).yes ≡ true → Header p
 header p h =
-    let s5 = both _ (leb (length p) 1400) h in
-    let s4 = both _ (eqb (num (window p 2 2)) (length p)) s5.0 in
-    let s3 = both _ (leb (count_of p) 64) s4.0 in
-    let s2 = both _ (leb 1 (count_of p)) s3.0 in
-    let s1 = both (leb 4 (length p)) (eqb (rule_in p) 1 || eqb (rule_in p) 2) s2.0 in
+    let s5 = and_parts _ (leb (length p) 1400) h in
+    let s4 = and_parts _ (eqb (num (window p 2 2)) (length p)) s5.0 in
+    let s3 = and_parts _ (leb (count_of p) 64) s4.0 in
+    let s2 = and_parts _ (leb 1 (count_of p)) s3.0 in
+    let s1 = and_parts (leb 4 (length p)) (eqb (rule_in p) 1 || eqb (rule_in p) 2) s2.0 in
     record {
       long = leb-true _ _ s1.0;
       first = s1.1;

@@ -10,7 +10,7 @@ use lib.ListN.{length}
 use Rattle.packet_format.specs.declared.entry.Entry.{Entry}
 use Rattle.std.specs.Prelude.{Ok}
 use Rattle.packet_format.specs.Writing.{summed, total_of, all_good, question24, question25, write_refusal, written_as, packet_written}
-use Rattle.hermes_record.proofs.Tests.{both}
+use Rattle.std.proofs.lemmas.Bool.{and_parts}
 
 -- the parts of questions 24 and 25
 pub record Accepts (es : List Entry) (bodies : List ℕ) (room : ℕ) : Type 0 where
@@ -35,10 +35,10 @@ module _ (es : List Entry) (bodies : List ℕ) (room : ℕ) where
   unfolding write_refusal
   accepts h =
       let s = both-passed (question24 es bodies).yes (question25 (length es) bodies room).yes h in
-      let s3 = both _ (eqb (summed es) (length bodies)) s.0 in
-      let s2 = both _ (all_good es) s3.0 in
-      let s1 = both (leb 1 (length es)) (leb (length es) 64) s2.0 in
-      let t = both (leb (total_of (length es) bodies) 1400) (leb (total_of (length es) bodies) room) s.1 in
+      let s3 = and_parts _ (eqb (summed es) (length bodies)) s.0 in
+      let s2 = and_parts _ (all_good es) s3.0 in
+      let s1 = and_parts (leb 1 (length es)) (leb (length es) 64) s2.0 in
+      let t = and_parts (leb (total_of (length es) bodies) 1400) (leb (total_of (length es) bodies) room) s.1 in
       record {
         some = leb-true _ _ s1.0;
         few = leb-true _ _ s1.1;

@@ -12,7 +12,7 @@ use Rattle.packet_format.specs.declared.entry.Entry.{Entry}
 use Rattle.packet_format.specs.declared.entry.Fields.{Fields}
 use Rattle.packet_format.specs.Entry.{fields_for, good, no_entry}
 use Rattle.packet_format.specs.Writing.{summed, all_good}
-use Rattle.hermes_record.proofs.Tests.{both, is_false}
+use Rattle.std.proofs.lemmas.Bool.{and_parts, false_from_ne_true}
 use Rattle.packet_format.proofs.Entries.{good-parts}
 use Rattle.packet_words.specs.Words.{fields_at, entries_from}
 use Rattle.packet_words.proofs.Places.{length-entries}
@@ -26,12 +26,12 @@ unfolding all_good
 good_more [] k h a g = absurd (not-suc-le-zero h)
 good_more (m ∷ ms) zero h a g = rw g
 good_more (m ∷ ms) (suc k) h a g =
-    let s = both (good (fields_for m 0)) (all_good (take k ms)) a in
+    let s = and_parts (good (fields_for m 0)) (all_good (take k ms)) a in
     rw s.0 (good_more ms k (le_of_suc-le-suc h) s.1 g)
 
 -- a bad message among them
 bad-one : (ms : List Entry) (k : ℕ) → k < length ms → good (fields_for (get_or ms k no_entry) 0) ≡ false → all_good ms ≡ false
-bad-one ms k h g = is_false (all_good ms) (λ a. false≢true (sym g ∙ good-one ms k h a))
+bad-one ms k h g = false_from_ne_true (all_good ms) (λ a. false≢true (sym g ∙ good-one ms k h a))
 
 -- message k of those that words hold
 pub within : (n : ℕ) (words : List ℕ) (k : ℕ) → k < n → k < length (entries_from n 0 words)

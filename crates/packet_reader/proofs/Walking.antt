@@ -8,7 +8,7 @@ use native.Mathlib.Omega.{arith}
 use borrow.Author.Tests.{ltb-true, ltb-false, not-true, not-false}
 use lib.Dec.{eqb, ltb}
 use lib.ListN.{length, take, drop}
-use Rattle.hermes_record.proofs.Tests.{both, neither}
+use Rattle.std.proofs.lemmas.Bool.{and_parts, or_parts}
 use Rattle.packet_format.specs.declared.entry.Fields.{Fields}
 use Rattle.packet_format.specs.Entry.{fields_of, good}
 use Rattle.packet_format.specs.Reading.{count_of, entry_place, question20, question22, walk}
@@ -34,7 +34,7 @@ module _ (p : List ℕ) (k at : ℕ) (w : Walked p k at) (more : k < count_of p)
   -- it is as question 22 asks
   pub walked_more : true ≡ (good f && eqb f.offset at) → Walked p (k + 1) (at + f.len)
   walked_more fits =
-      let g = good-parts f (both (good f) (eqb f.offset at) (sym fits)).0 in
+      let g = good-parts f (and_parts (good f) (eqb f.offset at) (sym fits)).0 in
       record {
         below = omega arith;
         small = omega (arith, w.small, g.len);
@@ -83,7 +83,7 @@ module _ (p : List ℕ) (w : Reached) (went : Went p (count_of p) w) where
 
   pub ended-all : (ltb w.next (count_of p) || not (eqb w.at (length p))) ≡ false → (question22 p).yes ≡ true
   ended-all h =
-      let s = neither (ltb w.next (count_of p)) (not (eqb w.at (length p))) h in
+      let s = or_parts (ltb w.next (count_of p)) (not (eqb w.at (length p))) h in
       sym (walked_all p w.at (came-to p (count_of p) w went (ltb-false _ _ s.0))) ∙ not-false _ s.1
 
 -- a packet that the first two questions let pass

@@ -8,7 +8,7 @@ use native.Mathlib.Omega.{arith}
 use borrow.Author.Tests.{eq-eqb, le-leb}
 use lib.ListN.{length, take, drop, get_or}
 use lib.Seq.{get_or-drop}
-use Rattle.hermes_record.proofs.Tests.{both}
+use Rattle.std.proofs.lemmas.Bool.{and_parts}
 use Rattle.hermes_record.specs.declared.timestamp.Rule.{Rule}
 use Rattle.packet_format.specs.declared.entry.Entry.{Entry}
 use Rattle.std.specs.Prelude.{Ok}
@@ -32,8 +32,8 @@ use Rattle.packet_words.proofs.Fit.{good-fit, entry-fit}
 pub good-one : (es : List Entry) (k : ℕ) → k < length es → all_good es ≡ true → good (fields_for (get_or es k no_entry) 0) ≡ true
 unfolding all_good
 good-one [] k l h = absurd (not-suc-le-zero l)
-good-one (e ∷ es) zero l h = (both (good (fields_for e 0)) (all_good es) h).0
-good-one (e ∷ es) (suc k) l h = good-one es k (le_of_suc-le-suc l) (both (good (fields_for e 0)) (all_good es) h).1
+good-one (e ∷ es) zero l h = (and_parts (good (fields_for e 0)) (all_good es) h).0
+good-one (e ∷ es) (suc k) l h = good-one es k (le_of_suc-le-suc l) (and_parts (good (fields_for e 0)) (all_good es) h).1
 
 -- the bodies' length with one message more
 pub summed-more : (ms : List Entry) (k : ℕ) → k < length ms → summed (take (suc k) ms) ≡ summed (take k ms) + (get_or ms k no_entry).len
@@ -134,7 +134,7 @@ all_back : (es : List Entry) → all_good es ≡ true → entries_from (length e
 unfolding all_good
 all_back [] h = refl
 all_back (e ∷ es) h =
-    let s = both (good (fields_for e 0)) (all_good es) h in
+    let s = and_parts (good (fields_for e 0)) (all_good es) h in
     ap₂ ◌∷◌ (entry-fit (fields_for e 0) s.0 ∙ entry-back e 0) (shifted (length es) 0 (words_of (e ∷ es)) ∙ all_back es s.1)
 
 length-words : (es : List Entry) → length (words_of es) ≡ 7 * length es

@@ -5,8 +5,10 @@ use mathlib.Core.List.{Memᴰ}
 use lib.Dec.{eqb}
 use lib.ListN.{length}
 use borrow.Author.Tests.{eqb-true}
-use Rattle.hermes.proofs.Coded.{same_list, list-sound}
-use Rattle.hermes.proofs.Table.{passing, every}
+use Rattle.std.specs.Cmp.Lexicographic.{bytes_decides}
+use Rattle.std.specs.List.{list_all}
+use Rattle.std.specs.Str.{bytes_eq}
+use Rattle.hermes.proofs.Table.{every}
 use Rattle.packet_format.specs.Entry.{entry_bytes, good}
 use Rattle.packet_format.specs.Writing.{summed, contents, packet_bytes, all_good, write_refusal, packet_written, written_number, output_of}
 use Rattle.packet_words.specs.Words.{entry_in, word_messages, packed}
@@ -14,16 +16,16 @@ use Rattle.packet_words.specs.Rows.{Row, packs, makes, Holds, rows}
 
 test : Row → Bool
 test (packs words bodies room k) = eqb (written_number (packed words bodies room)) k
-test (makes rule words bodies out after) = same_list (output_of rule (packed words bodies (length out)) (word_messages words) bodies out) after
+test (makes rule words bodies out after) = bytes_eq (output_of rule (packed words bodies (length out)) (word_messages words) bodies out) after
 
 holds : (r : Row) → test r ≡ true → Holds r
 unfolding test
 holds (packs words bodies room k) e = eqb-true _ k e
-holds (makes rule words bodies out after) e = list-sound _ after e
+holds (makes rule words bodies out after) e = (bytes_decides _ after).0 e
 
 -- the test, computed
-computed : passing Row test rows ≡ true
-unfolding passing test same_list rows entry_in word_messages good summed all_good write_refusal packet_written entry_bytes contents packet_bytes output_of
+computed : list_all test rows ≡ true
+unfolding test rows entry_in word_messages good summed all_good write_refusal packet_written entry_bytes contents packet_bytes output_of
 computed = refl
 
 -- Every row about words holds.

@@ -15,7 +15,7 @@ use Rattle.packet_format.specs.Bytes.{be}
 use Rattle.packet_format.specs.Entry.{fields_for, entry_bytes, good}
 use Rattle.packet_format.specs.Reading.{entry_place}
 use Rattle.packet_format.specs.Writing.{summed, contents, total_of, packet_bytes, all_good, question25}
-use Rattle.hermes_record.proofs.Tests.{both}
+use Rattle.std.proofs.lemmas.Bool.{and_parts}
 use Rattle.packet_format.proofs.Entries.{good-parts}
 use Rattle.packet_format.proofs.Contents.{length-contents}
 use Rattle.packet_format.proofs.RoundTrip.{packet-length}
@@ -56,7 +56,7 @@ table-good zero w at words a small = refl
 table-good (suc n) w at words a small =
     let e = entry_at words w in
     let es = entries_from n (w + 7) words in
-    let s = both (good (fields_for e 0)) (all_good es) a in
+    let s = and_parts (good (fields_for e 0)) (all_good es) a in
     let g : good (fields_at words w 0) ≡ true = sym (good-fit (fields_at words w 0)) ∙ s.0 in
     let is : fields_for e at ≡ fields_at words w at = fields_fit words w at g in
     let len : e.len ≡ get_or words (w + 6) 0 = ap (λ (f : Fields). f.len) is in

@@ -16,7 +16,7 @@ use Rattle.play_script.specs.declared.line.Size.{Size}
 use Rattle.play_script.proofs.Words.{size-empty}
 use Rattle.hermes_record.specs.Order.{ties}
 use Rattle.hermes.specs.Run.{Group, run}
-use Rattle.hermes_record.proofs.Tests.{both}
+use Rattle.std.proofs.lemmas.Bool.{and_parts}
 use Rattle.play_member.specs.declared.member.Member.{Member}
 use Rattle.play_game.specs.declared.cluster.Cluster.{Cluster}
 use Rattle.play_game.specs.declared.turn.Done.{Done}
@@ -153,7 +153,7 @@ first-inside (x ∷ input) b h = (h.0 (omega arith)).inside
 -- what is refused, and what is played
 pub roomy : (input : List ℕ) (room : ℕ) → playable input room ≡ true → (length input ≤ 65536) × (25 * length input + 2 ≤ room)
 roomy input room h =
-    let s = both (leb (length input) 65536) (leb (25 * length input + 2) room) h in (leb-true _ _ s.0, leb-true _ _ s.1)
+    let s = and_parts (leb (length input) 65536) (leb (25 * length input + 2) room) h in (leb-true _ _ s.0, leb-true _ _ s.1)
 
 module _ (input out : List ℕ) where
   pub unplayed : playable input (length out) ≡ false → (Refused ≡ played_answer input (length out)) × (out ≡ output_of input out)

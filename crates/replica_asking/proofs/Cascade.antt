@@ -6,7 +6,7 @@ use Rattle.hermes_record.specs.declared.record.Record.{Record}
 use Rattle.hermes.specs.Answer.{no}
 use Rattle.hermes.specs.declared.event.Refused.{Refused}
 use Rattle.hermes.specs.Guards.{Question, ask, first_no}
-use Rattle.hermes_record.proofs.Tests.{both}
+use Rattle.std.proofs.lemmas.Bool.{and_parts}
 use Rattle.hermes.proofs.Guards.{positive}
 use Rattle.replica_asking.specs.Cascade.{asked, next}
 
@@ -57,9 +57,9 @@ passed-same (q ∷ qs) r s e = go q.yes (passed-same qs r s) e
 
 pub refused-first : (qs : List Question) (r : Record) (e : Refused) → positive qs ≡ true → asked qs r ≡ Err e → (first_no qs ≡ e.0) × (0 < e.0)
 refused-first [] r e p h = absurd (cc)
-refused-first (q ∷ qs) r e p h = go q.yes (refused-first qs r e (both (ltb 0 q.number) (positive qs) p).1) h
+refused-first (q ∷ qs) r e p h = go q.yes (refused-first qs r e (and_parts (ltb 0 q.number) (positive qs) p).1) h
   where
     go : (b : Bool) → (asked qs r ≡ Err e → (first_no qs ≡ e.0) × (0 < e.0)) → next b (asked qs r) q.number ≡ Err e
         → (cond b (first_no qs) q.number ≡ e.0) × (0 < e.0)
     go true rest h = rest h
-    go false rest h = let same : no q.number ≡ e = cc in let n : q.number ≡ e.0 = ap (λ (x : Refused). x.0) same in (n, rw n at (ltb-true 0 q.number (both (ltb 0 q.number) (positive qs) p).0))
+    go false rest h = let same : no q.number ≡ e = cc in let n : q.number ≡ e.0 = ap (λ (x : Refused). x.0) same in (n, rw n at (ltb-true 0 q.number (and_parts (ltb 0 q.number) (positive qs) p).0))

@@ -1,7 +1,7 @@
 -- The tests on sets as code makes them, with `&`, `count_ones` and `trailing_zeros`.
 use Prim.Native.Nat.{ℕ, zero, suc, ◌+◌, ◌/◌, ◌%◌, ◌^◌, ◌≤◌, ◌<◌, min}
 use mathlib.Core.Path.{◌≡◌, refl, sym, ap, ap₂, ◌∙◌}
-use mathlib.Core.Bool.{Bool, true, cond, not, ◌&&◌, ◌||◌}
+use mathlib.Core.Bool.{Bool, true, cond, not, ◌&&◌, ◌||◌, or-false, or-true}
 use native.Mathlib.Omega.{arith}
 use native.Mathlib.Decide.{ℕ_discrete}
 use native.Mathlib.Nat.{mod-lt, mod-eq_of_lt}
@@ -11,8 +11,10 @@ use lib.Pow.{pow_pos, shr-shr, mod-pow-add}
 use lib.Count.{ones, ones_cat, under, count_trailing_zeros}
 use borrow.Author.Tests.{eqb-true, eq-eqb, ne_eqb, lt-ltb}
 use Rattle.hermes_record.specs.Members.{has, count_below, size, lowest, lowest_from, within, others_in, with}
-use Rattle.hermes_record.proofs.Tests.{alike, or-false, or-true}
-use Rattle.hermes.proofs.Members.{bit, bit-small, and-bit, same_bits, has-small, member-bit, bit-member, all_same, within-members, members-within, has-with}
+use Rattle.std.specs.Cmp.{both_ways}
+use Rattle.std.specs.Int.{bit_at}
+use Rattle.std.proofs.lemmas.Nat.Bits.{bit_at-lt, bit_at_and, same_from_bits_below}
+use Rattle.hermes.proofs.Members.{has-small, member-bit, bit-member, all_same, within-members, members-within, has-with}
 
 -- question 15, with one set for the acknowledgements and the own number
 pub others_within : (n view s : ℕ) → others_in n view s ≡ within view (with s n)
@@ -27,18 +29,18 @@ others_within n view s =
 
 -- `a & b == a`
 pub and_within : (a b : ℕ) → a < 2 ^ 16 → b < 2 ^ 16 → eqb (bit_and a b) a ≡ within a b
-and_within a b ha hb = alike (eqb (bit_and a b) a) (within a b) to from
+and_within a b ha hb = both_ways (eqb (bit_and a b) a) (within a b) to from
   where
     to : eqb (bit_and a b) a ≡ true → within a b ≡ true
     to e = members-within a b (λ m k. bit-member b m (has-small a m k)
-        (omega (arith, member-bit a m k, and-bit a b m, ap (λ (x : ℕ). bit x m) (eqb-true (bit_and a b) a e), bit-small b m)))
+        (omega (arith, member-bit a m k, bit_at_and a b m, ap (λ (x : ℕ). bit_at x m) (eqb-true (bit_and a b) a e), bit_at-lt b m)))
 
     from : within a b ≡ true → eqb (bit_and a b) a ≡ true
-    from w = eq-eqb (bit_and a b) a (same_bits 16 (bit_and a b) a (and_lt 16 a b ha hb) ha (λ m l. and-bit a b m ∙ at m l (ℕ_discrete (bit a m) 1)))
+    from w = eq-eqb (bit_and a b) a (same_from_bits_below 16 (bit_and a b) a (and_lt 16 a b ha hb) ha (λ m l. bit_at_and a b m ∙ at m l (ℕ_discrete (bit_at a m) 1)))
       where
-        at : (m : ℕ) → m < 16 → Dec (bit a m ≡ 1) → min (bit a m) (bit b m) ≡ bit a m
+        at : (m : ℕ) → m < 16 → Dec (bit_at a m ≡ 1) → min (bit_at a m) (bit_at b m) ≡ bit_at a m
         at m l (yes e) = omega (arith, member-bit b m (within-members a b w m (bit-member a m l e)))
-        at m l (no d) = omega (arith, bit-small a m, d)
+        at m l (no d) = omega (arith, bit_at-lt a m, d)
 
 -- `count_ones`
 count_ones : (k s : ℕ) → k ≤ 16 → count_below k (has s) ≡ ones (s % 2 ^ k)

@@ -4,13 +4,13 @@ use Rattle.std.proofs.Common.{arith}
 use borrow.Author.Tests.{leb-true, le-leb}
 use mathlib.Core.Bool.{false≢true}
 use Rattle.hermes_record.specs.Members.{has, size, within, all_below, count_below}
-use Rattle.hermes_record.proofs.Tests.{both}
+use Rattle.std.proofs.lemmas.Bool.{and_parts}
 use Rattle.hermes.proofs.Members.{has-small}
 
 -- where every number that passes one test passes the other, no fewer pass the other
 count-within : (k : ℕ) (p q : ℕ → Bool) → all_below k (λ m. not (p m) || q m) ≡ true → count_below k p ≤ count_below k q
 count-within zero p q h = omega arith
-count-within (suc k) p q h = go (p k) (q k) (both (not (p k) || q k) (all_below k (λ m. not (p m) || q m)) h).0 (count-within k p q (both (not (p k) || q k) (all_below k (λ m. not (p m) || q m)) h).1)
+count-within (suc k) p q h = go (p k) (q k) (and_parts (not (p k) || q k) (all_below k (λ m. not (p m) || q m)) h).0 (count-within k p q (and_parts (not (p k) || q k) (all_below k (λ m. not (p m) || q m)) h).1)
   where
     go : (a b : Bool) → (not a || b) ≡ true → count_below k p ≤ count_below k q → cond a 1 0 + count_below k p ≤ cond b 1 0 + count_below k q
     go true true e l = omega arith
