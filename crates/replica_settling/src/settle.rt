@@ -1,65 +1,48 @@
 // Replay, validate and resend, and the acknowledgement that settles a record.
 ghost use Rattle.std.specs.Prelude.{◌≡◌, []};
 ghost use Rattle.hermes_record.specs.Order.{ties};
-ghost use Rattle.hermes.specs.Event.{common, own, moved, moved_by, completes, ack_step, validate_step, resent};
+ghost use Rattle.hermes.specs.Event.{moved, moved_by, completes, ack_step, validate_step, resent};
 ghost use Rattle.hermes.specs.declared.event.Event.TheVariants.{Replay, Validate, Resend};
-ghost use Rattle.replica_asking.specs.Cascade.{asked};
 
 use hermes::{Message, Moved, Outgoing, Record, Replica, State, Timestamp};
-use replica_asking::Asked;
 
 // A replay of record i, r.
 pub fn replay(me: Replica, count: usize, bytes: usize, i: usize, r: Record) -> Moved
     ensures { result ≡ moved ties me count bytes i r Replay [] }
 {
-    let a = asks_replay(me, count, bytes, i, r);
-    let Asked::Passed(r1) = a else {
+    let a = replica_asking::every(me, count, bytes, i, r).and_then(|x| replica_guards::question16(
+        me, x,
+    ));
+    let Ok(r1) = a else {
         return replica_asking::stopped(a, r);
     };
-    let t = r1.timestamp;
     replica_outcome::accepted(
-        replica_outgoing::send(me, i, Message::Inv(t)),
+        replica_outgoing::send(me, i, Message::Inv(r1.timestamp)),
         r1.replay(me.number),
     )
-}
-
-fn asks_replay(me: Replica, count: usize, bytes: usize, i: usize, r: Record) -> Asked
-    ensures { result ≡ asked (common me count bytes i r (own me r Replay 0)) r }
-{
-    let a = replica_asking::every(me, count, bytes, i, r);
-    let Asked::Passed(r1) = a else {
-        return a;
-    };
-    replica_guards::question16(me, r1)
 }
 
 // Record i, r becomes valid, and its VAL leaves.
 fn validated(me: Replica, i: usize, r: Record) -> Moved
     ensures { result ≡ moved_by 0 r (validate_step me i r) }
 {
-    let t = r.timestamp;
-    replica_outcome::accepted(replica_outgoing::send(me, i, Message::Val(t)), r.validate())
+    replica_outcome::accepted(
+        replica_outgoing::send(me, i, Message::Val(r.timestamp)),
+        r.validate(),
+    )
 }
 
 // A validation of record i, r.
 pub fn validate(me: Replica, count: usize, bytes: usize, i: usize, r: Record) -> Moved
     ensures { result ≡ moved ties me count bytes i r Validate [] }
 {
-    let a = asks_validate(me, count, bytes, i, r);
-    let Asked::Passed(r1) = a else {
+    let a = replica_asking::every(me, count, bytes, i, r).and_then(|x| replica_guards::question15(
+        me, x,
+    ));
+    let Ok(r1) = a else {
         return replica_asking::stopped(a, r);
     };
     validated(me, i, r1)
-}
-
-fn asks_validate(me: Replica, count: usize, bytes: usize, i: usize, r: Record) -> Asked
-    ensures { result ≡ asked (common me count bytes i r (own me r Validate 0)) r }
-{
-    let a = replica_asking::every(me, count, bytes, i, r);
-    let Asked::Passed(r1) = a else {
-        return a;
-    };
-    replica_guards::question15(me, r1)
 }
 
 // An accepted acknowledgement of record i, r: its sender is counted. With the last one of the view the record also becomes valid: what the
@@ -68,11 +51,10 @@ pub fn acknowledge(me: Replica, i: usize, r: Record, sender: u8) -> Moved
     ensures { result ≡ moved_by 0 r (ack_step (completes me r sender) me i r sender) }
 {
     let counted = r.acknowledge(sender);
-    let a = replica_guards::question15(me, counted);
-    let Asked::Passed(r1) = a else {
-        return replica_outcome::accepted(Outgoing::None, counted);
-    };
-    validated(me, i, r1)
+    match replica_guards::question15(me, counted) {
+        Ok(r1) => validated(me, i, r1),
+        Err(_) => replica_outcome::accepted(None, counted),
+    }
 }
 
 // What is sent again of record i.
@@ -81,10 +63,8 @@ fn again(me: Replica, i: usize, s: State, t: Timestamp) -> Outgoing
 {
     match s {
         State::Valid => replica_outgoing::send(me, i, Message::Val(t)),
-        State::Invalid => Outgoing::None,
-        State::InvalidWrite => Outgoing::None,
-        State::Write => replica_outgoing::send(me, i, Message::Inv(t)),
-        State::Replay => replica_outgoing::send(me, i, Message::Inv(t)),
+        State::Write | State::Replay => replica_outgoing::send(me, i, Message::Inv(t)),
+        State::Invalid | State::InvalidWrite => None,
     }
 }
 
@@ -92,20 +72,11 @@ fn again(me: Replica, i: usize, s: State, t: Timestamp) -> Outgoing
 pub fn resend(me: Replica, count: usize, bytes: usize, i: usize, r: Record) -> Moved
     ensures { result ≡ moved ties me count bytes i r Resend [] }
 {
-    let a = asks_resend(me, count, bytes, i, r);
-    let Asked::Passed(r1) = a else {
+    let a = replica_asking::every(me, count, bytes, i, r).and_then(|x| replica_guards::question17(
+        me, x,
+    ));
+    let Ok(r1) = a else {
         return replica_asking::stopped(a, r);
     };
-    let s = r1.state;
-    replica_outcome::accepted(again(me, i, s, r1.timestamp), r1)
-}
-
-fn asks_resend(me: Replica, count: usize, bytes: usize, i: usize, r: Record) -> Asked
-    ensures { result ≡ asked (common me count bytes i r (own me r Resend 0)) r }
-{
-    let a = replica_asking::every(me, count, bytes, i, r);
-    let Asked::Passed(r1) = a else {
-        return a;
-    };
-    replica_guards::question17(me, r1)
+    replica_outcome::accepted(again(me, i, r1.state, r1.timestamp), r1)
 }

@@ -1,14 +1,19 @@
 -- `replica_settling::settle::replay` meets its contract.
+use Rattle.std.proofs.Common.{rules, ◌∙◌}
 use Rattle.hermes.specs.Event.{moved, replay_step}
-use Rattle.hermes.specs.declared.event.Event.TheVariants as event
+use Rattle.hermes.specs.Guards.{question16}
+use Rattle.hermes.specs.declared.event.Event.TheVariants.{Replay}
 use Rattle.replica_outcome.proofs.Outcomes.{stops, goes}
-use mathlib.Core.Path.{◌∙◌}
+use Rattle.replica_settling.proofs.Settling.{and_own}
 use Rattle.replica_settling.proofs.settle.replay.Goals as goal
 
 pub returns-in_default : goal.returns-in_default
 unfolding moved
-returns-in_default c = let v = c.args in c.stopped.ensures ∙ stops v.me v.count v.bytes v.i v.r event.Replay 0 _ c.in_default.field-0 _ c.asks_replay-a.ensures c.in_default.is
+returns-in_default c = let v = c.args in let a = c.and_then-a.result in
+    c.stopped.ensures
+    ∙ stops v.me v.count v.bytes v.i v.r Replay 0 a c.in_default.field-0 (replay_step v.me v.i v.r) (and_own v.me v.count v.bytes v.i v.r (question16 v.me) c.every.result a c.every.ensures (search rules)) c.in_default.is
 
 pub returns : goal.returns
 unfolding moved
-returns c = let v = c.args in c.accepted.ensures ∙ rw (c.send.ensures, c.replay.ensures) (goes v.me v.count v.bytes v.i v.r event.Replay 0 _ c.in-Passed.r1 (λ x. replay_step v.me v.i x) c.asks_replay-a.ensures c.in-Passed.is)
+returns c = let v = c.args in let a = c.and_then-a.result in
+    c.accepted.ensures ∙ rw (c.send.ensures, c.replay.ensures) (goes v.me v.count v.bytes v.i v.r Replay 0 a c.in-Ok.r1 (replay_step v.me v.i) (and_own v.me v.count v.bytes v.i v.r (question16 v.me) c.every.result a c.every.ensures (search rules)) c.in-Ok.is)
