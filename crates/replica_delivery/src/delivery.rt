@@ -4,11 +4,9 @@ ghost use Rattle.hermes_record.specs.Order.{ties, later};
 ghost use Rattle.hermes.specs.Settings.{under};
 ghost use Rattle.hermes.specs.Event.{effect, moved, moved_by, inv_step};
 ghost use Rattle.hermes.specs.declared.event.Event.TheVariants.{Deliver};
-ghost use Rattle.hermes.specs.declared.message.Message.TheVariants.{Inv, Ack, Val};
-ghost use Rattle.replica_delivery.specs.Kinds.{came_from};
+ghost use Rattle.replica_delivery.specs.Storing.{stores};
 
-use hermes::{Message, Moved, Outgoing, Received, Record, Replica, Timestamp};
-use replica_asking::Asked;
+use hermes::{Message, Moved, Received, Record, Replica, Timestamp};
 
 // What an accepted invalidation makes of its record: its acknowledgement always leaves; only a greater timestamp is taken.
 fn take_inv(me: Replica, i: usize, r: Record, t: Timestamp, sender: u8, value: &[u8]) -> Moved
@@ -16,121 +14,48 @@ fn take_inv(me: Replica, i: usize, r: Record, t: Timestamp, sender: u8, value: &
     ensures { result ≡ moved_by 0 r (inv_step (later (under ties me.settings) t r.timestamp) me i r t sender value.now) }
 {
     let ack = replica_outgoing::send(me, i, Message::Ack(t));
-    let settings = me.settings;
-    let rule = settings.rule;
-    if t.later(r.timestamp, rule) {
+    if t.later(r.timestamp, me.settings.rule) {
         return replica_outcome::accepted(ack, r.take_invalidation(t, sender, value.len() as u8));
     }
     replica_outcome::accepted(ack, r)
 }
 
-// An invalidation with timestamp t, but for the store, which is of so many bytes.
-pub fn move_inv(
+// A message, but for the store, which is of so many bytes. It is inlined, so that where the kind is known the compiler sees the questions and
+// the step of that kind alone, and keeps the record in registers.
+#[inline(always)]
+pub fn move_message(
     me: Replica,
     count: usize,
     bytes: usize,
     i: usize,
     r: Record,
-    sender: u8,
-    epoch: u32,
-    t: Timestamp,
+    m: Received,
     value: &[u8],
 ) -> Moved
-    ensures { result ≡ moved ties me count bytes i r (Deliver (came_from sender epoch (Inv t))) value.now }
+    ensures { result ≡ moved ties me count bytes i r (Deliver m) value.now }
 {
-    let m = Received {
-        sender: sender,
-        epoch: epoch,
-        message: Message::Inv(t),
-    };
-    let a = replica_message::asks_inv(me, count, bytes, i, r, m, value.len());
-    let Asked::Passed(r1) = a else {
+    let a = replica_message::asks(me, count, bytes, i, r, m, value.len());
+    let Ok(r1) = a else {
         return replica_asking::stopped(a, r);
     };
-    take_inv(me, i, r1, t, sender, value)
-}
-
-// An invalidation with timestamp t.
-pub fn deliver_inv(
-    me: Replica,
-    count: usize,
-    i: usize,
-    r: Record,
-    store: &mut [u8],
-    sender: u8,
-    epoch: u32,
-    t: Timestamp,
-    value: &[u8],
-) -> Moved
-    ensures { (result ≡ (effect ties me count i r store.old (Deliver (came_from sender epoch (Inv t))) value.now).moved)
-        × (store.new ≡ (effect ties me count i r store.old (Deliver (came_from sender epoch (Inv t))) value.now).store) }
-{
-    let m = move_inv(me, count, store.len(), i, r, sender, epoch, t, value);
-    let now = r.timestamp;
-    let settings = me.settings;
-    let rule = settings.rule;
-    if t.later(now, rule) {
-        let a = m.answer;
-        replica_outcome::stored(store, count, i, a, value);
+    match m.message {
+        Message::Inv(t) => take_inv(me, i, r1, t, m.sender, value),
+        Message::Ack(_) => replica_settling::acknowledge(me, i, r1, m.sender),
+        Message::Val(_) => replica_outcome::accepted(None, r1.validate()),
     }
-    m
 }
 
-// An acknowledgement with timestamp t. The store stays as it is.
-pub fn deliver_ack(
-    me: Replica,
-    count: usize,
-    i: usize,
-    r: Record,
-    store: &[u8],
-    sender: u8,
-    epoch: u32,
-    t: Timestamp,
-    value: &[u8],
-) -> Moved
-    ensures { (result ≡ (effect ties me count i r store.now (Deliver (came_from sender epoch (Ack t))) value.now).moved)
-        × (store.now ≡ (effect ties me count i r store.now (Deliver (came_from sender epoch (Ack t))) value.now).store) }
+// Is its value stored? Only that of an invalidation with a greater timestamp.
+pub fn stores(me: Replica, r: Record, m: Received) -> bool
+    ensures { result ≡ stores me.settings r.timestamp m.message }
 {
-    let m = Received {
-        sender: sender,
-        epoch: epoch,
-        message: Message::Ack(t),
-    };
-    let a = replica_message::asks_ack(me, count, store.len(), i, r, m, t, value.len());
-    let Asked::Passed(r1) = a else {
-        return replica_asking::stopped(a, r);
-    };
-    replica_settling::acknowledge(me, i, r1, sender)
+    match m.message {
+        Message::Inv(t) => t.later(r.timestamp, me.settings.rule),
+        Message::Ack(_) | Message::Val(_) => false,
+    }
 }
 
-// A validation with timestamp t. The store stays as it is.
-pub fn deliver_val(
-    me: Replica,
-    count: usize,
-    i: usize,
-    r: Record,
-    store: &[u8],
-    sender: u8,
-    epoch: u32,
-    t: Timestamp,
-    value: &[u8],
-) -> Moved
-    ensures { (result ≡ (effect ties me count i r store.now (Deliver (came_from sender epoch (Val t))) value.now).moved)
-        × (store.now ≡ (effect ties me count i r store.now (Deliver (came_from sender epoch (Val t))) value.now).store) }
-{
-    let m = Received {
-        sender: sender,
-        epoch: epoch,
-        message: Message::Val(t),
-    };
-    let a = replica_message::asks_val(me, count, store.len(), i, r, m, t, value.len());
-    let Asked::Passed(r1) = a else {
-        return replica_asking::stopped(a, r);
-    };
-    replica_outcome::accepted(Outgoing::None, r1.validate())
-}
-
-// A message of any kind.
+// A message, with the store.
 pub fn deliver(
     me: Replica,
     count: usize,
@@ -143,10 +68,9 @@ pub fn deliver(
     ensures { (result ≡ (effect ties me count i r store.old (Deliver m) value.now).moved)
         × (store.new ≡ (effect ties me count i r store.old (Deliver m) value.now).store) }
 {
-    let message = m.message;
-    match message {
-        Message::Inv(t) => deliver_inv(me, count, i, r, store, m.sender, m.epoch, t, value),
-        Message::Ack(t) => deliver_ack(me, count, i, r, store, m.sender, m.epoch, t, value),
-        Message::Val(t) => deliver_val(me, count, i, r, store, m.sender, m.epoch, t, value),
+    let moved = move_message(me, count, store.len(), i, r, m, value);
+    if stores(me, r, m) {
+        replica_outcome::stored(store, count, i, moved.answer, value);
     }
+    moved
 }

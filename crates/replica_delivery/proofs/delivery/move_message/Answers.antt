@@ -1,0 +1,28 @@
+-- `replica_delivery::delivery::move_message` meets its contract.
+use Rattle.std.proofs.Common.{length, ◌∙◌}
+use Rattle.hermes_record.specs.Order.{ties}
+use Rattle.hermes.specs.Event.{moved, deliver_step}
+use Rattle.hermes.specs.declared.event.Event.TheVariants.{Deliver}
+use Rattle.hermes.specs.declared.message.Message.TheVariants.{Inv, Ack, Val}
+use Rattle.replica_outcome.proofs.Outcomes.{stops}
+use Rattle.replica_delivery.proofs.Deliveries.{passed-short, does}
+use Rattle.replica_delivery.proofs.delivery.move_message.Goals as goal
+
+pub returns-in_default : goal.returns-in_default
+unfolding moved
+returns-in_default c = let v = c.args in
+    c.stopped.ensures
+    ∙ stops v.me v.count v.bytes v.i v.r (Deliver v.m) (length v.value.now) _ c.in_default.field-0 (deliver_step ties v.me v.i v.r v.m.sender v.m.message v.value.now) c.asks-a.ensures c.in_default.is
+
+pub take_inv-requires : goal.take_inv-requires
+take_inv-requires c = let v = c.args in passed-short v.me v.count v.bytes v.i v.r v.m v.value.now _ c.asks-a.ensures c.in-Ok.r1 c.in-Ok.is c.in-Inv.t c.in-Inv.is
+
+pub returns-in-Inv : goal.returns-in-Inv
+returns-in-Inv c = let v = c.args in does v.me v.count v.bytes v.i v.r v.m v.value.now _ c.asks-a.ensures c.in-Ok.r1 c.in-Ok.is (Inv c.in-Inv.t) c.in-Inv.is _ c.take_inv.ensures
+
+pub returns-in-Ack : goal.returns-in-Ack
+returns-in-Ack c = let v = c.args in does v.me v.count v.bytes v.i v.r v.m v.value.now _ c.asks-a.ensures c.in-Ok.r1 c.in-Ok.is (Ack c.in-Ack.field-0) c.in-Ack.is _ c.acknowledge.ensures
+
+pub returns-in-Val : goal.returns-in-Val
+returns-in-Val c = let v = c.args in
+    does v.me v.count v.bytes v.i v.r v.m v.value.now _ c.asks-a.ensures c.in-Ok.r1 c.in-Ok.is (Val c.in-Val.field-0) c.in-Val.is _ (c.accepted.ensures ∙ rw c.validate.ensures)
