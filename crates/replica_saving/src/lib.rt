@@ -5,5 +5,6 @@ mod committing;
 mod saving;
 mod writing;
 
-pub use committing::{commit, move_commit};
-pub use writing::{move_write, write};
+pub use committing::commit;
+pub use saving::move_save;
+pub use writing::write;

@@ -1,29 +1,86 @@
-// What a write and a commit share: questions 8 and 9, and the step.
+// What a write and a commit are, but for the timestamp that a commit brings: `opened`, which an ask handed out. A write brings none.
 ghost use Rattle.std.specs.Prelude.{◌≤◌, ◌≡◌, [], ◌∷◌, length};
-ghost use Rattle.hermes.specs.Event.{moved_by, write_step};
+ghost use Rattle.hermes_record.specs.Order.{ties};
+ghost use Rattle.hermes.specs.Event.{common, own, moved, effect, moved_by, write_step};
 ghost use Rattle.hermes.specs.Guards.{question8, question9};
 ghost use Rattle.replica_asking.specs.Cascade.{asked};
+ghost use Rattle.replica_saving.specs.Saving.{first_of, save_of};
 
-use hermes::{Message, Moved, Record, Replica};
+use hermes::{Message, Moved, Record, Replica, Timestamp};
 use replica_asking::Asked;
 
-// Questions 8 and 9, of a value of n bytes.
-pub(crate) fn asks_value(r: Record, n: usize) -> Asked
-    ensures { result ≡ asked (question8 n ∷ question9 r ∷ []) r }
+// Questions 7, 8 and 9, of a write; 26, 8 and 9, of a commit. A function of its own: the compiler then keeps the record in registers.
+fn asks_own(opened: Option<Timestamp>, r: Record, n: usize) -> Asked
+    ensures { result ≡ asked (first_of opened r ∷ question8 n ∷ question9 r ∷ []) r }
 {
-    let a = replica_guards::question8(n, r);
-    let Asked::Passed(r1) = a else {
-        return a;
+    let r = match opened {
+        None => replica_guards::question7(r)?,
+        Some(t) => replica_guards::question26(t, r)?,
     };
-    replica_guards::question9(r1)
+    let r = replica_guards::question8(n, r)?;
+    replica_guards::question9(r)
+}
+
+fn asks(
+    me: Replica,
+    count: usize,
+    bytes: usize,
+    i: usize,
+    r: Record,
+    opened: Option<Timestamp>,
+    n: usize,
+) -> Asked
+    ensures { result ≡ asked (common me count bytes i r (own me r (save_of opened) n)) r }
+{
+    let r = replica_asking::every(me, count, bytes, i, r)?;
+    asks_own(opened, r, n)
 }
 
 // The step on record i, r, but for the store: the record is written, and an invalidation leaves.
-pub(crate) fn saved(me: Replica, i: usize, r: Record, value: &[u8]) -> Moved
+fn saved(me: Replica, i: usize, r: Record, value: &[u8]) -> Moved
     requires { length value.now ≤ 192 }
     ensures { result ≡ moved_by 0 r (write_step me i r value.now) }
 {
     let next = r.write(me.number, value.len() as u8);
-    let t = next.timestamp;
-    replica_outcome::accepted(replica_outgoing::send(me, i, Message::Inv(t)), next)
+    replica_outcome::accepted(
+        replica_outgoing::send(me, i, Message::Inv(next.timestamp)),
+        next,
+    )
+}
+
+// A save of a value to record i, r, but for the store, which is of so many bytes.
+pub fn move_save(
+    me: Replica,
+    count: usize,
+    bytes: usize,
+    i: usize,
+    r: Record,
+    opened: Option<Timestamp>,
+    value: &[u8],
+) -> Moved
+    ensures { result ≡ moved ties me count bytes i r (save_of opened) value.now }
+{
+    let a = asks(me, count, bytes, i, r, opened, value.len());
+    let Ok(r1) = a else {
+        return replica_asking::stopped(a, r);
+    };
+    saved(me, i, r1, value)
+}
+
+// A save of a value to record i, r.
+pub(crate) fn save(
+    me: Replica,
+    count: usize,
+    i: usize,
+    r: Record,
+    store: &mut [u8],
+    opened: Option<Timestamp>,
+    value: &[u8],
+) -> Moved
+    ensures { (result ≡ (effect ties me count i r store.old (save_of opened) value.now).moved)
+        × (store.new ≡ (effect ties me count i r store.old (save_of opened) value.now).store) }
+{
+    let m = move_save(me, count, store.len(), i, r, opened, value);
+    replica_outcome::stored(store, count, i, m.answer, value);
+    m
 }

@@ -1,0 +1,25 @@
+-- `replica_saving::saving::move_save` meets its contract.
+use Rattle.std.proofs.Common.{length, sym, ◌∙◌}
+use Rattle.hermes_record.specs.Order.{ties}
+use Rattle.hermes.specs.Event.{step, moved, write_step}
+use Rattle.replica_outcome.proofs.Outcomes.{stops, goes, accepted}
+use Rattle.replica_saving.specs.Saving.{save_of}
+use Rattle.replica_saving.proofs.Saves.{saves-fit, saves-step}
+use Rattle.replica_saving.proofs.saving.move_save.Goals as goal
+
+pub returns-in_default : goal.returns-in_default
+unfolding moved
+returns-in_default c = let v = c.args in
+    c.stopped.ensures
+    ∙ stops v.me v.count v.bytes v.i v.r (save_of v.opened) (length v.value.now) _ c.in_default.field-0 (step ties v.me v.i v.r (save_of v.opened) v.value.now) c.asks-a.ensures c.in_default.is
+
+pub saved-requires : goal.saved-requires
+saved-requires c = let v = c.args in
+    saves-fit v.me v.i v.r v.opened v.count v.bytes (length v.value.now)
+    (accepted v.me v.count v.bytes v.i v.r (save_of v.opened) (length v.value.now) c.in-Ok.r1 (sym c.asks-a.ensures ∙ c.in-Ok.is))
+
+pub returns : goal.returns
+unfolding moved
+returns c = let v = c.args in
+    rw (saves-step v.me v.i v.r v.opened v.value.now)
+    (c.saved.ensures ∙ goes v.me v.count v.bytes v.i v.r (save_of v.opened) (length v.value.now) _ c.in-Ok.r1 (λ x. write_step v.me v.i x v.value.now) c.asks-a.ensures c.in-Ok.is)
