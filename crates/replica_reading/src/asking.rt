@@ -3,34 +3,21 @@ ghost use Rattle.std.specs.Prelude.{◌≡◌, []};
 ghost use Rattle.hermes_record.specs.Order.{ties};
 ghost use Rattle.hermes.specs.Event.{moved, ask_stamp};
 ghost use Rattle.hermes.specs.declared.event.Event.TheVariants.{Ask};
+ghost use Rattle.replica_reading.specs.Asking.{handed_by};
 
 use crate::reading::asks;
-use hermes::{Answer, Outgoing, Record, Replica, Timestamp};
-use replica_asking::Asked;
+use hermes::{Record, Refused, Replica, Timestamp};
 
-// The answer to an ask, and the record's timestamp; (0, 0), which stands for none, where it is refused.
-#[derive(Clone, Copy)]
-pub struct Handed {
-    pub answer: Answer,
-    pub timestamp: Timestamp,
-}
-
-// An ask of record i, r.
-pub fn ask(me: Replica, count: usize, bytes: usize, i: usize, r: Record) -> Handed
-    ensures { (result.answer ≡ (moved ties me count bytes i r Ask []).answer) × (result.timestamp ≡ ask_stamp me count bytes i r) }
+// An ask of record i, r: the record's timestamp, or the question that said no.
+pub fn ask(
+    me: Replica,
+    count: usize,
+    bytes: usize,
+    i: usize,
+    r: Record,
+) -> Result<Timestamp, Refused>
+    ensures { result ≡ handed_by (moved ties me count bytes i r Ask []).answer (ask_stamp me count bytes i r) }
 {
-    let a = asks(me, count, bytes, i, r);
-    let Asked::Passed(r1) = a else {
-        let m = replica_asking::stopped(a, r);
-        let answer = m.answer;
-        return Handed {
-            answer: answer,
-            timestamp: Timestamp { version: 0, tie: 0 },
-        };
-    };
-    let t = r1.timestamp;
-    Handed {
-        answer: Answer::Accepted(Outgoing::None),
-        timestamp: t,
-    }
+    let r = asks(me, count, bytes, i, r)?;
+    Ok(r.timestamp)
 }

@@ -4,5 +4,5 @@
 mod asking;
 mod reading;
 
-pub use asking::{Handed, ask};
+pub use asking::ask;
 pub use reading::{read, read_event, read_number};
