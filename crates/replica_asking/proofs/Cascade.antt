@@ -1,21 +1,14 @@
 -- Laws of questions asked one after the other: how a cascade goes on after a yes and ends at a no, and what it says of the first no.
-use Rattle.std.specs.Prelude.{ℕ, ◌<◌, ◌≡◌, Bool, true, false, cond, ◌&&◌, List, [], ◌∷◌, ◌++◌, Ok, Err, ltb}
-use Rattle.std.proofs.Common.{refl, ap, ◌∙◌}
+use Rattle.std.specs.Prelude.{◌<◌, ◌≡◌, Bool, true, false, cond, List, [], ◌∷◌, ◌++◌, Ok, Err, ltb}
+use Rattle.std.proofs.Common.{refl, ap}
 use borrow.Author.Tests.{ltb-true}
 use Rattle.hermes_record.specs.declared.record.Record.{Record}
 use Rattle.hermes.specs.Answer.{no}
 use Rattle.hermes.specs.declared.event.Refused.{Refused}
-use Rattle.hermes.specs.Guards.{Question, ask, first_no}
+use Rattle.hermes.specs.Guards.{Question, first_no}
 use Rattle.std.proofs.lemmas.Bool.{and_parts}
 use Rattle.hermes.proofs.Guards.{positive}
 use Rattle.replica_asking.specs.Cascade.{asked, next}
-
--- a question asked of equal answers
-pub alike : (k : ℕ) (r : Record) {a b : Bool} → a ≡ b → asked (ask k a ∷ []) r ≡ asked (ask k b ∷ []) r
-alike k r e = ap (λ (x : Bool). asked (ask k x ∷ []) r) e
-
-pub both-alike : {a a' b b' : Bool} → a ≡ a' → b ≡ b' → (a && b) ≡ (a' && b')
-both-alike {a' = a'} {b = b} p q = ap (λ (x : Bool). x && b) p ∙ ap (λ (x : Bool). a' && x) q
 
 -- after questions that passed the record on, the next are asked of that record
 pub then : (qs : List Question) (more : Record → List Question) (r s : Record) → asked qs r ≡ Ok s → asked (qs ++ more r) r ≡ asked (more s) s
