@@ -46,5 +46,5 @@ module _ (number view : ℕ) (settings : Settings) (table : List Record) (store 
     where
       go : (z : ℕ) → (begin z (newcomer number view settings) table store).admission ≡ Err (no k)
           → ((begin z (newcomer number view settings) table store).table ≡ table) × ((begin z (newcomer number view settings) table store).store ≡ store)
-      go zero e = let q : ◌≡◌ {A = ℕ} 0 1 = cc in absurd (omega arith)
+      go zero e = absurd (grind arith)
       go (suc z) e = (refl, refl)

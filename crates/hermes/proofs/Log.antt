@@ -8,7 +8,7 @@ use lib.ListN.{length}
 use Rattle.hermes.specs.Run.{Logged, missing, found, find}
 
 no-message : (x : Logged) → missing ≡ found x → ⊥
-no-message x e = let z : ◌≡◌ {A = ℕ} 0 1 = cc in omega arith
+no-message x e = grind arith
 
 -- what is found is in the log
 pub found_in : (log : List Logged) (k : ℕ) (x : Logged) → find log k ≡ found x → Memᴰ x log

@@ -44,40 +44,28 @@ begun k view settings table store me a = go (start_refusal k view settings (leng
       store_after = rw e;
       asked = all_yes (start_questions (newcomer k view settings) (length table) (length store)) refl e;
     }
-    go (suc z) e a = let q : ◌≡◌ {A = ℕ} 0 1 = cc in absurd (omega arith)
+    go (suc z) e a = absurd (grind arith)
 
--- the lowest number of a view is at most any in it, and is in it
-lowest-below : (f k s m : ℕ) → Has s m → k ≤ m → m < k + f → lowest_from f k s ≤ m
-lowest-below zero k s m h l u = absurd (omega arith)
-lowest-below (suc f) k s m h l u = go (has s k) refl (λ (d : suc k ≤ m). lowest-below f (suc k) s m h d (omega arith))
+-- the lowest number of a view is in it, and is at most any in it
+lowest-at : (f k s m : ℕ) → Has s m → k ≤ m → m < k + f → Has s (lowest_from f k s) × (lowest_from f k s ≤ m)
+lowest-at zero k s m h l u = absurd (omega arith)
+lowest-at (suc f) k s m h l u = go (has s k) refl (λ (d : suc k ≤ m). lowest-at f (suc k) s m h d (omega arith))
   where
-    go : (b : Bool) → has s k ≡ b → (suc k ≤ m → lowest_from f (suc k) s ≤ m) → cond b k (lowest_from f (suc k) s) ≤ m
-    go true e rest = l
+    go : (b : Bool) → has s k ≡ b → (suc k ≤ m → Has s (lowest_from f (suc k) s) × (lowest_from f (suc k) s ≤ m))
+        → Has s (cond b k (lowest_from f (suc k) s)) × (cond b k (lowest_from f (suc k) s) ≤ m)
+    go true e rest = (e, l)
     go false e rest = rest (next (ℕ_discrete k m))
       where
         next : Dec (k ≡ m) → suc k ≤ m
         next (yes q) = absurd (false≢true (sym (rw q at e) ∙ h))
         next (no d) = omega arith
+
+lowest-of : (s m : ℕ) → Has s m → Has s (lowest s) × (lowest s ≤ m)
+unfolding lowest
+lowest-of s m h = lowest-at 16 0 s m h (omega arith) (omega (arith, has-small s m h))
 
 pub lowest-small : (s m : ℕ) → Has s m → lowest s ≤ 15
-unfolding lowest
-lowest-small s m h = omega (arith, has-small s m h, lowest-below 16 0 s m h (omega arith) (omega (arith, has-small s m h)))
-
-lowest-in : (f k s m : ℕ) → Has s m → k ≤ m → m < k + f → Has s (lowest_from f k s)
-lowest-in zero k s m h l u = absurd (omega arith)
-lowest-in (suc f) k s m h l u = go (has s k) refl (λ (d : suc k ≤ m). lowest-in f (suc k) s m h d (omega arith))
-  where
-    go : (b : Bool) → has s k ≡ b → (suc k ≤ m → Has s (lowest_from f (suc k) s)) → Has s (cond b k (lowest_from f (suc k) s))
-    go true e rest = e
-    go false e rest = rest (next (ℕ_discrete k m))
-      where
-        next : Dec (k ≡ m) → suc k ≤ m
-        next (yes q) = absurd (false≢true (sym (rw q at e) ∙ h))
-        next (no d) = omega arith
+lowest-small s m h = omega (arith, has-small s (lowest s) (lowest-of s m h).0)
 
 pub lowest-lowest : (s m : ℕ) → Has s m → Lowest s (lowest s)
-unfolding lowest
-lowest-lowest s m h = record {
-  member = lowest-in 16 0 s m h (omega arith) (omega (arith, has-small s m h));
-  least = λ k g. lowest-below 16 0 s k g (omega arith) (omega (arith, has-small s k g));
-}
+lowest-lowest s m h = record { member = (lowest-of s m h).0; least = λ k g. (lowest-of s k g).1 }
