@@ -23,8 +23,7 @@ pub fn step(
         × (store.new ≡ (effect ties me count i r store.old e value.now).store) }
 {
     match e {
-        Event::Read => read_event(me, count, store.len(), i, r),
-        Event::Ask => read_event(me, count, store.len(), i, r),
+        Event::Read | Event::Ask => read_event(me, count, store.len(), i, r),
         Event::Write => write(me, count, i, r, store, value),
         Event::Commit(t) => commit(me, count, i, r, store, t, value),
         Event::Replay => replay(me, count, store.len(), i, r),

@@ -1,31 +1,22 @@
--- `start` meets its contract: `begin` asks the questions and zeroes the store; the loop then fills what the admission says.
-use Rattle.std.proofs.Common.{◌≡◌, ◌∙◌, ◌≤◌, List, length, ap, sym, arith, add-one}
-use lib.ListN.{set, length-set}
-use Rattle.hermes_record.specs.declared.record.Record.{Record}
-use Rattle.hermes.specs.Node.{admit}
-use Rattle.hermes.proofs.Filling.{filled, filled-suc, start-admission}
-use Rattle.replica_start.proofs.Filling.{start-table, start-store}
-use Rattle.replica_start.proofs.Filling.{filled_within}
+-- `start` meets its contract: a refused one changes nothing, an admitted one fills the table and zeroes the store.
+use Rattle.std.proofs.Common.{rules, ◌≡◌, length, replicate, sym, ap, ◌∙◌}
+use Rattle.std.proofs.lemmas.Result.{err_from_is_err_and}
+use Rattle.hermes.proofs.Filling.{start-admission, start-refused}
+use Rattle.replica_start.proofs.Starting.{start-admitted}
 use Rattle.replica_start.proofs.start.Goals as goal
 
-pub loop-k-preserved : goal.loop-k-preserved
-loop-k-preserved c =
-    let b = c.begin-b.result in let i = c.loop-k.invariant in let xs = c.args.table.now in
-    let upto : b.filled ≤ length xs = rw c.begin-b.ensures.1.0 (filled_within (admit c.args.number c.args.view c.args.settings (length xs) (length c.args.store.now)) (length xs)) in (
-      omega arith,
-      (
-        ap (λ (t : List Record). set t c.loop-k.k b.first) i.1.0 ∙ filled-suc b.first xs c.loop-k.k (omega arith) ∙ ap (filled b.first xs) (sym (add-one c.loop-k.k)),
-        length-set c.loop-k.table c.loop-k.k b.first ∙ i.1.1,
-      ),
-    )
+pub returns-in_err-me : goal.returns-in_err-me
+returns-in_err-me c =
+    let a = c.args in
+    let p = err_from_is_err_and c.from_residual.result c.from_residual.ensures.1 in
+    let no = sym (start-admission a.number a.view a.settings a.table.now a.store.now) ∙ sym c.admit.ensures ∙ c.in_err-me.was in
+    let stays = start-refused a.number a.view a.settings a.table.now a.store.now c.in_err-me.field-0.0.0 no in
+    rw (p.1, p.2) (sym no, (sym stays.0, sym stays.1))
 
 pub returns : goal.returns
 returns c =
-    let b = c.begin-b.result in let i = c.loop-k.invariant in let a = c.args in let e = c.begin-b.ensures in
-    let all : c.loop-k.k ≡ b.filled = omega arith in (
-      e.0 ∙ start-admission a.number a.view a.settings a.table.now a.store.now,
-      (
-        rw (i.1.0, all, e.1.0, e.1.1.0) (start-table a.number a.view a.settings a.table.now a.store.now),
-        e.1.1.1 ∙ start-store a.number a.view a.settings a.table.now a.store.now,
-      ),
-    )
+    let a = c.args in
+    let yes = sym (start-admission a.number a.view a.settings a.table.now a.store.now) ∙ sym c.admit.ensures ∙ c.in_ok-me.was in
+    let fills = start-admitted a.number a.view a.settings a.table.now a.store.now c.in_ok-me.me yes in
+    let full : c.fill.new.self ≡ replicate (length a.table.now) c.fresh_record.result = c.fill.ensures.after (λ y h. search rules) in
+    (sym yes, (full ∙ ap (replicate (length a.table.now)) c.fresh_record.ensures ∙ sym fills.0, c.zero.ensures ∙ sym fills.1))

@@ -1,2 +1,0 @@
--- What the covered parts of the crate are to do.
-pub mod Filling
