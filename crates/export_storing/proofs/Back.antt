@@ -14,8 +14,8 @@ use Rattle.hermes_record.specs.Record.{code}
 use Rattle.hermes.specs.Store.{Bytes}
 use Rattle.hermes.specs.Event.{Step, moved_by}
 use Rattle.hermes.specs.Node.{record_at}
-use Rattle.export_decoding.specs.Decoding.{two, four, state_of, or_unsound, decode}
-use Rattle.export_records.specs.Layout.{count_of, decode_at, table_of}
+use Rattle.export_decoding.specs.Decoding.{two, four, state_of, or_unsound, decode, decode_at}
+use Rattle.export_records.specs.Layout.{count_of, table_of}
 use Rattle.export_storing.specs.Storing.{in_two, in_four, record_bytes, put, bytes_after}
 use Rattle.export_storing.specs.Back.{PutBack}
 use Rattle.export_records.proofs.Lent.{record-in}

@@ -7,8 +7,7 @@ use Rattle.hermes_record.specs.declared.record.Record.{Record}
 use Rattle.hermes_record.specs.declared.record.State.{State}
 use Rattle.hermes_record.specs.declared.record.State.TheVariants.{Valid, Invalid, InvalidWrite, Write, Replay}
 use Rattle.hermes_record.specs.Record.{code}
-use Rattle.export_decoding.specs.Decoding.{two, four, state_of, decode}
-use Rattle.export_records.specs.Layout.{decode_at}
+use Rattle.export_decoding.specs.Decoding.{two, four, state_of, decode, decode_at}
 use Rattle.export_storing.specs.Storing.{record_bytes}
 
 two_back : (n : ℕ) → two (n % 256) (n / 256) ≡ n

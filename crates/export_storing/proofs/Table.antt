@@ -5,21 +5,21 @@ use mathlib.Core.Logic.{◌≢◌}
 use mathlib.Core.List.{List, [], ◌∷◌}
 use native.Mathlib.Omega.{arith}
 use native.Mathlib.Decide.{ℕ_discrete, dec_lt}
-use lib.Dec.{lit<}
+use borrow.Author.Tests.{lt-ltb, le-ltb}
 use lib.ListN.{length, get_or, set, replicate, length-set}
 use lib.Seq.{sets, length-sets, get_or-set_same, get_or-set_other, ext_get_or, set-get_or, set_out}
 use Rattle.hermes_record.specs.declared.record.Record.{Record}
-use Rattle.hermes.specs.declared.message.Outgoing.{Outgoing}
+use Rattle.hermes.specs.Answer.{Answer, Outgoing}
+use Rattle.std.specs.Prelude.{Ok, Err}
 use Rattle.hermes.specs.declared.event.Moved.{Moved}
-use Rattle.hermes.specs.declared.event.Answer.TheVariants.{Accepted}
 use Rattle.hermes_record.specs.Record.{fresh_record}
 use Rattle.hermes.specs.Event.{Step, moved_by}
 use Rattle.hermes.specs.Node.{record_at}
 use Rattle.hermes.proofs.Filling.{filled, filled-suc, filled-all}
-use Rattle.export_decoding.specs.Decoding.{two, four, decode}
-use Rattle.export_records.specs.Layout.{count_of, decode_at, table_of}
-use Rattle.export_storing.specs.Storing.{record_bytes, put, fill, table_after}
-use Rattle.export_records.proofs.Lent.{length-table, record-in, inside}
+use Rattle.export_decoding.specs.Decoding.{decode_at}
+use Rattle.export_records.specs.Layout.{count_of, table_of}
+use Rattle.export_storing.specs.Storing.{record_bytes, put, fill, bytes_by, bytes_after, table_by, table_after}
+use Rattle.export_records.proofs.Lent.{length-table, record-in, inside, same_bytes}
 use Rattle.export_storing.proofs.RoundTrip.{decode-encode}
 
 -- ---- a run of stores: the places inside it, before it, after it
@@ -44,18 +44,6 @@ sets-inside (v ∷ vs) l at zero h g =
 sets-inside (v ∷ vs) l at (suc k) h g =
     let e : at + suc k ≡ suc at + k = omega arith in
     ap (λ (p : ℕ). get_or (sets (set l at v) (suc at) vs) p 0) e ∙ sets-inside vs (set l at v) (suc at) k (omega arith) (omega (arith, length-set l at v))
-
--- the same bytes are the same record
-same_bytes : (xs ys : List ℕ) (a b : ℕ) → ((k : ℕ) → k < 15 → get_or xs (a + k) 0 ≡ get_or ys (b + k) 0) → decode_at xs a ≡ decode_at ys b
-same_bytes xs ys a b h =
-    let ea : a ≡ a + 0 = omega arith in
-    let eb : b + 0 ≡ b = omega arith in
-    let h0 : get_or xs a 0 ≡ get_or ys b 0 = ap (λ (p : ℕ). get_or xs p 0) ea ∙ h 0 (lit< tt) ∙ ap (λ (p : ℕ). get_or ys p 0) eb in
-    λ i. decode (h0 i) (h 1 (lit< tt) i) (h 2 (lit< tt) i) (h 3 (lit< tt) i)
-    (four (h 4 (lit< tt) i) (h 5 (lit< tt) i) (h 6 (lit< tt) i) (h 7 (lit< tt) i))
-    (four (h 8 (lit< tt) i) (h 9 (lit< tt) i) (h 10 (lit< tt) i) (h 11 (lit< tt) i))
-    (two (h 12 (lit< tt) i) (h 13 (lit< tt) i))
-    (h 14 (lit< tt) i)
 
 -- ---- a record put
 
@@ -109,19 +97,31 @@ module _ (bytes : List ℕ) (r : Record) where
       let below : k < length (table_of bytes) = rw (length-table bytes) h in
       table-put (fill k bytes r) k r low ∙ ap (λ (t : List Record). set t k r) (fills k (omega arith)) ∙ filled-suc r (table_of bytes) k below
 
-  pub filled-table : table_of (fill (count_of (length bytes)) bytes r) ≡ replicate (length (table_of bytes)) r
-  filled-table = fills (count_of (length bytes)) (omega arith) ∙ ap (filled r (table_of bytes)) (sym (length-table bytes)) ∙ filled-all r (table_of bytes)
+  -- all of them
+  pub filled_table : (new : List ℕ) → new ≡ fill (count_of (length bytes)) bytes r → table_of new ≡ replicate (length (table_of bytes)) r
+  filled_table new e =
+      ap table_of e ∙ fills (count_of (length bytes)) (omega arith) ∙ ap (filled r (table_of bytes)) (sym (length-table bytes)) ∙ filled-all r (table_of bytes)
 
 -- ---- an event settled
 
 -- an accepted event sets its record in the table, and past the table's end nothing
-pub settled-table : (m : Moved) (o : Outgoing) (bytes : List ℕ) (i : ℕ) → m.answer ≡ Accepted o → i < count_of (length bytes)
+pub settled-table : (m : Moved) (o : Outgoing) (bytes : List ℕ) (i : ℕ) → m.answer ≡ Ok o → i < count_of (length bytes)
     → table_of (put bytes i m.after) ≡ table_after m (table_of bytes) i
 settled-table m o bytes i e l = rw e (table-put bytes i m.after l)
 
-pub settled-nowhere : (m : Moved) (o : Outgoing) (bytes : List ℕ) (i : ℕ) → m.answer ≡ Accepted o → count_of (length bytes) ≤ i
+pub settled-nowhere : (m : Moved) (o : Outgoing) (bytes : List ℕ) (i : ℕ) → m.answer ≡ Ok o → count_of (length bytes) ≤ i
     → table_of bytes ≡ table_after m (table_of bytes) i
 settled-nowhere m o bytes i e l = rw e (sym (set_out (table_of bytes) i m.after (rw (length-table bytes) l)))
+
+-- of either answer
+pub table_settled : (m : Moved) (bytes new : List ℕ) (i : ℕ) → new ≡ bytes_after m bytes i → table_of new ≡ table_after m (table_of bytes) i
+table_settled m bytes new i e = ap table_of e ∙ go m.answer (dec_lt i (count_of (length bytes)))
+  where
+    go : (a : Answer) → Dec (i < count_of (length bytes)) → table_of (bytes_by a bytes i m.after) ≡ table_by a (table_of bytes) i m.after
+    go (Ok o) (yes l) = rw (lt-ltb i (count_of (length bytes)) l) (table-put bytes i m.after l)
+    go (Ok o) (no n) =
+        let l : count_of (length bytes) ≤ i = omega arith in rw (le-ltb i (count_of (length bytes)) l) (sym (set_out (table_of bytes) i m.after (rw (length-table bytes) l)))
+    go (Err k) d = refl
 
 -- a refused one leaves its record, so that the table is the one with the record put back in either case
 pub settled-step : (k : ℕ) (table : List Record) (i : ℕ) (s : Step)

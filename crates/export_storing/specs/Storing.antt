@@ -1,9 +1,8 @@
 -- A record put into its sixteen bytes, and the bytes after an event and after a fresh start.
-use Rattle.std.specs.Prelude.{ℕ, zero, suc, ◌*◌, ◌/◌, ◌%◌, cond, List, [], ◌∷◌, ◌++◌, ltb, length, set}
+use Rattle.std.specs.Prelude.{ℕ, zero, suc, ◌*◌, ◌/◌, ◌%◌, cond, List, [], ◌∷◌, ◌++◌, ltb, length, set, Err, Ok}
 use Rattle.std.proofs.lemmas.List.Edits.{sets}
 use Rattle.hermes_record.specs.declared.record.Record.{Record}
-use Rattle.hermes.specs.declared.event.Answer.{Answer}
-use Rattle.hermes.specs.declared.event.Answer.TheVariants.{Accepted, Refused}
+use Rattle.hermes.specs.Answer.{Answer}
 use Rattle.hermes.specs.declared.event.Moved.{Moved}
 use Rattle.hermes_record.specs.Record.{code}
 use Rattle.export_records.specs.Layout.{count_of}
@@ -33,16 +32,16 @@ fill (suc k) bytes r = put (fill k bytes r) k r
 
 -- 01, "A "no" .. leaves every lent byte and record as found"; an accepted event replaces the bytes of its record
 abbrev pub bytes_by : Answer → List ℕ → ℕ → Record → List ℕ
-bytes_by (Accepted o) bytes i r = cond (ltb i (count_of (length bytes))) (put bytes i r) bytes
-bytes_by (Refused k) bytes i r = bytes
+bytes_by (Ok o) bytes i r = cond (ltb i (count_of (length bytes))) (put bytes i r) bytes
+bytes_by (Err k) bytes i r = bytes
 
 abbrev pub bytes_after : Moved → List ℕ → ℕ → List ℕ
 bytes_after m bytes i = bytes_by m.answer bytes i m.after
 
 -- the table that they hold then
 abbrev pub table_by : Answer → List Record → ℕ → Record → List Record
-table_by (Accepted o) table i r = set table i r
-table_by (Refused k) table i r = table
+table_by (Ok o) table i r = set table i r
+table_by (Err k) table i r = table
 
 abbrev pub table_after : Moved → List Record → ℕ → List Record
 table_after m table i = table_by m.answer table i m.after

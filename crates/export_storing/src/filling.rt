@@ -8,14 +8,12 @@ use export_records::count;
 use hermes::Record;
 
 // Every record that the bytes hold becomes r.
+#[tactic(auto, using(crate::proofs::Table::filled_table))]
 pub fn fill(bytes: &mut [u8], r: Record)
-    ensures { (bytes.new ≡ fill (count_of (length bytes.old)) bytes.old r)
-        × (table_of bytes.new ≡ replicate (length (table_of bytes.old)) r) }
+    ensures bytes { bytes.new ≡ fill (count_of (length bytes.old)) bytes.old r }
+    ensures table { table_of bytes.new ≡ replicate (length (table_of bytes.old)) r }
 {
-    let n = count(bytes.len());
-    let mut i: usize = 0;
-    while i < n {
+    for i in 0..count(bytes.len()) {
         put_record(bytes, i, r);
-        i += 1;
     }
 }
