@@ -20,10 +20,7 @@ pub struct Bounds {
 pub fn playable(input: &[u8], room: usize) -> bool
     ensures { result ≡ playable input.now room }
 {
-    if INPUT_MAX < input.len() {
-        return false;
-    }
-    LINE_MAX * input.len() + 2 <= room
+    input.len() <= INPUT_MAX && LINE_MAX * input.len() + 2 <= room
 }
 
 // Is replica k one of the first `count`?
@@ -44,8 +41,5 @@ pub fn line_at(input: &[u8], from: usize) -> Bounds
         };
     }
     let end = play_script::find(input, from, input.len(), LINE_FEED);
-    Bounds {
-        end: end,
-        next: end + 1,
-    }
+    Bounds { end, next: end + 1 }
 }

@@ -1,12 +1,11 @@
 -- The line of an answer (01, "Each later line prints one line: answer, state letter, version, tie-breaker, log number of the message that left or `-`"), and the line `?`.
-use Rattle.std.specs.Prelude.{ℕ, ◌+◌, ◌≡◌, cond, List, [], ◌∷◌, ◌++◌, leb, length}
+use Rattle.std.specs.Prelude.{ℕ, ◌+◌, ◌≡◌, cond, List, [], ◌∷◌, ◌++◌, leb, length, Option, None, Some}
 use Rattle.std.proofs.lemmas.List.Edits.{sets}
 use Rattle.play_numbers.specs.Number.{decimal}
+use Rattle.play_lines.specs.declared.print.Printer.{Printer}
 use Rattle.hermes_record.specs.declared.record.Record.{Record}
 use Rattle.hermes_record.specs.declared.record.State.{State}
 use Rattle.hermes_record.specs.declared.record.State.TheVariants.{Valid, Invalid, InvalidWrite, Write, Replay}
-use Rattle.play_lines.specs.declared.print.Left.{Left}
-use Rattle.play_lines.specs.declared.print.Left.TheVariants.{Message, Nothing}
 
 -- 01, "state letter (V, I, X for invalid-write, W, R for replay)"
 abbrev pub letter_of : State → ℕ
@@ -17,12 +16,12 @@ letter_of Write = 87
 letter_of Replay = 82
 
 -- the log number, or `-`
-abbrev pub left_of : Left → List ℕ
-left_of (Message k) = decimal k
-left_of Nothing = 45 ∷ []
+abbrev pub left_of : Option ℕ → List ℕ
+left_of (Some k) = decimal k
+left_of None = 45 ∷ []
 
 -- the words, a space between two, and a line feed
-unfoldable pub answer_line : ℕ → Record → Left → List ℕ
+unfoldable pub answer_line : ℕ → Record → Option ℕ → List ℕ
 answer_line number r left =
     (decimal number ++ (32 ∷ [])) ++ ((letter_of r.state ∷ 32 ∷ []) ++ ((decimal r.timestamp.version ++ (32 ∷ []))
     ++ ((decimal r.timestamp.tie ++ (32 ∷ [])) ++ (left_of left ++ (10 ∷ [])))))
@@ -39,3 +38,8 @@ fitting need at n line = cond (leb (at + need) n) line []
 pub record Put (bytes : List ℕ) (at : ℕ) (out : List ℕ) (to : ℕ) (out' : List ℕ) : Type 0 where
   pub end : to ≡ at + length bytes
   pub text : out' ≡ sets out at bytes
+
+-- a printer that printed the bytes, into the same output
+pub record Prints (bytes : List ℕ) (p p' : Printer) : Type 0 where
+  pub put : Put bytes p.at p.out.now p'.at p'.out.now
+  pub same : p'.out.ghost_name ≡ p.out.ghost_name

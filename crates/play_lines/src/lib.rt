@@ -3,4 +3,4 @@
 
 mod print;
 
-pub use print::{LINE_MAX, Left, put_answer, put_unknown};
+pub use print::{LINE_MAX, Printer};
