@@ -23,14 +23,14 @@ use Rattle.hermes.specs.Settings.{under}
 use Rattle.hermes_record.specs.Record.{one_of, fresh_record}
 use Rattle.hermes.specs.Store.{slot, padded}
 use Rattle.hermes.specs.Event.{number_of}
-use Rattle.hermes.specs.Node.{Node, Outcome, record_of, apply, newcomer}
+use Rattle.hermes.specs.Node.{Node, record_of, apply, newcomer}
 use Rattle.hermes.specs.Run.{Entry, Group, received, node_after, result, advance, run}
 use Rattle.hermes.specs.Agreement.{FreshStart, Started, AsIssued, Entries, Sees, Shows, Alike, Validation, validates, acknowledges, Agreement, Demand3Any, Demand3}
 use Rattle.hermes.proofs.Members.{has-zero}
 use Rattle.hermes_record.proofs.Order.{ties-order, not_after-refl, not_after-trans, not_after-antisym}
 use Rattle.hermes.proofs.Store.{zeros, slot-zero}
 use Rattle.hermes.proofs.Start.{sized, Begun, begun}
-use Rattle.hermes.proofs.Apply.{step_of, Applied, refused, accepted, applied}
+use Rattle.hermes.proofs.Apply.{step_of, changed, was-accepted}
 use Rattle.hermes.proofs.Protocol as protocol
 use Rattle.hermes.proofs.Protocol.{Copy, Msg, Move, Honest, Invariant, Step, preserve, rises, same-cells}
 use Rattle.hermes.proofs.Standing.{Standing, standing, stands-first}
@@ -66,11 +66,10 @@ record Finished (i : ℕ) (n n' : Node) : Type 0 where
 finishes : (wins : Orders) (i : ℕ) (n : Node) (ev : Event) (v : List ℕ)
     → (step_of wins n i ev v).after.state ≡ Valid → (step_of wins n i ev v).after.timestamp ≡ (record_of i n).timestamp
     → number_of (apply wins n i ev v).answer ≡ 0 → Finished i n (apply wins n i ev v).node
-finishes wins i n ev v p t = go (apply wins n i ev v) (applied wins n i ev v)
-  where
-    go : (o : Outcome) → Applied wins n i ev v o → number_of o.answer ≡ 0 → Finished i n o.node
-    go o (refused k z q) e = absurd (omega (arith, ap (λ (x : Outcome). number_of x.answer) q))
-    go o (accepted y c q) e = rw q (record {
+finishes wins i n ev v p t a =
+    let (y, q) = was-accepted wins n i ev v a in
+    let c = changed wins n i ev v y in
+    rw q (record {
       valid = ap (λ (s : Record). one_of s.state (Valid ∷ [])) c.here ∙ ap (λ (s : State). one_of s (Valid ∷ [])) p;
       timestamp = ap (λ (s : Record). s.timestamp) c.here ∙ t;
       view = refl;

@@ -114,6 +114,25 @@ applied wins n i e v = go (refusal_of n i e v) refl
         accepted y (changed wins n i e v y) (rw z)
     go (suc k) z = refused k z (rw z (ap (λ (t : List Record). record { answer = Err (no (suc k)); node = record { me = n.me; table = t; store = n.store } }) (set-get_or n.table i (fresh_record 0))))
 
+-- an event that was accepted: its questions all said yes, and its step is done
+pub was-accepted : (wins : Orders) (n : Node) (i : ℕ) (e : Event) (v : List ℕ) → number_of (apply wins n i e v).answer ≡ 0
+    → AllYes (questions_of n i e v) × (apply wins n i e v ≡ record { answer = Ok (step_of wins n i e v).sent; node = done n i (step_of wins n i e v) })
+was-accepted wins n i e v = go (apply wins n i e v) (applied wins n i e v)
+  where
+    go : (o : Outcome) → Applied wins n i e v o → number_of o.answer ≡ 0
+        → AllYes (questions_of n i e v) × (o ≡ record { answer = Ok (step_of wins n i e v).sent; node = done n i (step_of wins n i e v) })
+    go o (refused k z q) a = absurd (omega (arith, ap (λ (x : Outcome). number_of x.answer) q))
+    go o (accepted y c q) a = (y, q)
+
+-- one that was refused: nothing is sent, and all is as it was
+pub was-refused : (wins : Orders) (n : Node) (i : ℕ) (e : Event) (v : List ℕ) → (number_of (apply wins n i e v).answer ≡ 0 → ⊥)
+    → (k : ℕ) × (refusal_of n i e v ≡ suc k) × (apply wins n i e v ≡ record { answer = Err (no (suc k)); node = n })
+was-refused wins n i e v = go (apply wins n i e v) (applied wins n i e v)
+  where
+    go : (o : Outcome) → Applied wins n i e v o → (number_of o.answer ≡ 0 → ⊥) → (k : ℕ) × (refusal_of n i e v ≡ suc k) × (o ≡ record { answer = Err (no (suc k)); node = n })
+    go o (refused k z q) a = (k, z, q)
+    go o (accepted y c q) a = absurd (a (ap (λ (x : Outcome). number_of x.answer) q))
+
 -- an event whose questions all say yes is accepted, and sends what its step does
 pub answered : (wins : Orders) (n : Node) (i : ℕ) (e : Event) (v : List ℕ) → AllYes (questions_of n i e v)
     → (number_of (apply wins n i e v).answer ≡ 0) × (sent_by (apply wins n i e v).answer ≡ (step_of wins n i e v).sent)

@@ -18,7 +18,7 @@ use Rattle.hermes.specs.Settings.{under}
 use Rattle.hermes_record.specs.Record.{next_timestamp}
 use Rattle.hermes.specs.Store.{slot}
 use Rattle.hermes.specs.Event.{number_of, Handed, refusal, effect, moved, read_part, ask_stamp, ask_hands}
-use Rattle.hermes.specs.Node.{Node, Outcome, record_of, value_of, apply, asked}
+use Rattle.hermes.specs.Node.{Node, Outcome, record_of, value_of, apply}
 use Rattle.hermes.specs.Run as run
 use Rattle.hermes.specs.Run.{Entry, Group, result, run}
 use Rattle.hermes.specs.Agreement.{Started, Entries, Shows, Alike, IsAccepted, after}
@@ -29,7 +29,7 @@ use Rattle.std.proofs.lemmas.Bool.{and_from}
 use Rattle.hermes.proofs.Store.{value-slot}
 use Rattle.hermes.proofs.Guards.{sound-passed, commit-own, other-number}
 use Rattle.hermes.proofs.Words.{is_state, state-is}
-use Rattle.hermes.proofs.Apply.{refusal_of, passed-zero, questions_of, Applied, refused, accepted, applied, first-five, its_own}
+use Rattle.hermes.proofs.Apply.{refusal_of, passed-zero, questions_of, Applied, refused, accepted, applied, was-accepted, was-refused, first-five, its_own}
 use Rattle.hermes.proofs.Refine.{Cell, copy}
 use Rattle.hermes.proofs.Agreement.{Ok, copies, copies-member, start-ok, run_ok, run-rises, run-cells, run-append, entries-append}
 use Rattle.hermes.proofs.Sound.{read-gives, stay-sound}
@@ -49,28 +49,18 @@ moves-as-read wins me count bytes i r = refl
 
 pub ask-gives : EveryAskGives
 unfolding ask_hands ask_stamp read_part refusal
-ask-gives wins n i = record { as_read = as_read_lem wins n i; part = refl; accepted = gives (apply wins n i Ask []) (applied wins n i Ask []); refused = empty (apply wins n i Ask []) (applied wins n i Ask []) }
-  where
-    number : Outcome → ℕ
-    number o = number_of o.answer
-
-    gives : (o : Outcome) → Applied wins n i Ask [] o → number o ≡ 0 → asked n i ≡ record { part = value_of i n; timestamp = (record_of i n).timestamp }
-    gives o (refused k z q) a = absurd (omega (arith, ap number q))
-    gives o (accepted y c q) a = rw (passed-zero n i Ask [] y)
-
-    empty : (o : Outcome) → Applied wins n i Ask [] o → (number o ≡ 0 → ⊥) → asked n i ≡ record { part = []; timestamp = record { version = 0; tie = 0 } }
-    empty o (refused k z q) a = rw z
-    empty o (accepted y c q) a = absurd (a (ap number q))
+ask-gives wins n i = record {
+  as_read = as_read_lem wins n i;
+  part = refl;
+  accepted = λ a. rw (passed-zero n i Ask [] (was-accepted wins n i Ask [] a).0);
+  refused = λ a. let (k, z, q) = was-refused wins n i Ask [] a in rw z;
+}
 
 -- ---- one entry
 
 -- an accepted read finds its record valid, and within the table
 reads-find : (wins : Orders) (n : Node) (i : ℕ) → number_of (apply wins n i Read []).answer ≡ 0 → Shows n i × (i < length n.table)
-reads-find wins n i = go (apply wins n i Read []) (applied wins n i Read [])
-  where
-    go : (o : Outcome) → Applied wins n i Read [] o → number_of o.answer ≡ 0 → Shows n i × (i < length n.table)
-    go o (refused k z q) a = absurd (omega (arith, ap (λ (x : Outcome). number_of x.answer) q))
-    go o (accepted y c q) a = (is_state (record_of i n).state state.Valid (its_own n i Read [] y).0, (first-five n i Read [] y).inside)
+reads-find wins n i a = let y = (was-accepted wins n i Read [] a).0 in (is_state (record_of i n).state state.Valid (its_own n i Read [] y).0, (first-five n i Read [] y).inside)
 
 -- what an entry that hands out t and a text finds at record i of its laptop
 record Finds (n : Node) (i : ℕ) (t : Timestamp) (text : List ℕ) : Type 0 where
@@ -93,11 +83,7 @@ hands wins g a i t text (asks e z p) =
 
 -- an accepted commit found the timestamp that it brought
 commits : (wins : Orders) (n : Node) (i : ℕ) (t : Timestamp) (v : List ℕ) → number_of (apply wins n i (Commit t) v).answer ≡ 0 → (record_of i n).timestamp ≡ t
-commits wins n i t v = go (apply wins n i (Commit t) v) (applied wins n i (Commit t) v)
-  where
-    go : (o : Outcome) → Applied wins n i (Commit t) v o → number_of o.answer ≡ 0 → (record_of i n).timestamp ≡ t
-    go o (refused k z q) a = absurd (omega (arith, ap (λ (x : Outcome). number_of x.answer) q))
-    go o (accepted y c q) a = sym (commit-own n.me (record_of i n) t (length v) (its_own n i (Commit t) v y)).current
+commits wins n i t v a = sym (commit-own n.me (record_of i n) t (length v) (its_own n i (Commit t) v (was-accepted wins n i (Commit t) v a).0)).current
 
 -- one that finds its record valid with that timestamp is not refused by 26
 not-in-vain : (wins : Orders) (n : Node) (i : ℕ) (t : Timestamp) (v : List ℕ) → Shows n i → t ≡ (record_of i n).timestamp → number_of (apply wins n i (Commit t) v).answer ≢ 26

@@ -3,7 +3,7 @@
 use Prim.Native.Nat.{ℕ, zero, suc, ◌≤◌, ◌<◌}
 use mathlib.Core.Path.{◌≡◌, refl, sym, ap, subst₃, ◌∙◌}
 use mathlib.Core.Bool.{Bool, true, false, not, ◌&&◌, ◌||◌, false≢true, or-true}
-use mathlib.Core.Logic.{inl, inr, ◌≢◌, ◌↔◌}
+use mathlib.Core.Logic.{inl, inr, ◌≢◌}
 use mathlib.Core.List.{List, [], ◌∷◌}
 use native.Mathlib.Omega.{arith}
 use lib.Dec.{eqb}
@@ -27,9 +27,8 @@ use Rattle.hermes_record.specs.Record.{one_of, invalidated_state, acknowledged, 
 use Rattle.hermes.specs.Store.{slot}
 use Rattle.hermes.specs.Guards.{Question, AllYes, ask, first_no, question1, question3, question8, question9, question12, question15, question16}
 use Rattle.hermes.specs.Event.{Step, write_step, inv_step, ack_step, completes, resent, number_of, answer_of, sent_by}
-use Rattle.hermes.specs.Node.{Node, Outcome, record_of, leaving, apply, newcomer, start_questions, start, view, viewed, view_questions, admission_of, admission_number}
+use Rattle.hermes.specs.Node.{Node, Outcome, record_of, leaving, newcomer, start_questions, start, view, viewed, view_questions, admission_of, admission_number}
 use Rattle.hermes.specs.Frame.{bytes_after, Changed}
-use Rattle.hermes.specs.Locality.{body}
 use Rattle.hermes.specs.Source as source
 use Rattle.hermes.specs.Source.{Vars, Sending, In, HInit, HReadGuard, HWriteGuard, HCommitGuard, HReplayWriteWidenedGuard, HRcvInvGuard, HRcvInv, HRcvAckGuard, HRcvAckThenSendVals, HRcvValGuard, HSendValsGuard, NodeFailureGuard, ResendGuard, Resent, send_inv}
 use Rattle.hermes.specs.Conformance.{vars_of, five_and, delivered, message, Follows, ViewFollows, StartFollows, Demand2By, Demand2}
@@ -39,7 +38,7 @@ use Rattle.hermes_record.proofs.Order.{later-greater, greater-later}
 use Rattle.hermes.proofs.Store.{value-slot, take-padded}
 use Rattle.hermes.proofs.Guards.{DeliverOwn, ReplayOwn, ResendOwn, read-own, write-own, commit-own, deliver-own, replay-own, resend-own, view-later, view-inside, all_yes, none-says-no}
 use Rattle.hermes.proofs.Steps.{next-version, step-about}
-use Rattle.hermes.proofs.Apply.{passed-zero, questions_of, own_of, step_of, done, Applied, refused, accepted, applied, first-five, its_own, sound-step}
+use Rattle.hermes.proofs.Apply.{questions_of, own_of, step_of, done, changed, was-accepted, was-refused, answered, first-five, its_own, sound-step}
 use Rattle.hermes.proofs.Words.{one_in, in_one, is_state, state-is, equal-ts, ts-same, Two, size-two, two_size}
 use Rattle.hermes.proofs.Locality.{leaving_slot, leaving-slot}
 use Rattle.hermes.proofs.Frame.{view-frame}
@@ -95,22 +94,11 @@ module _ (wins : Orders) (n : Node) (i : ℕ) (e : Event) (v : List ℕ) where
       → (AllYes (questions_of n i e v) → AllYes own × guard (vars_of i n)) → (AllYes own × guard (vars_of i n) → AllYes (questions_of n i e v))
       → (AllYes (questions_of n i e v) → action (seen (record_of i n) (slot i n.store)) (step_vars s (slot i n.store)) (step_sends s (slot i n.store)))
       → Follows wins n i e v own guard action
-  follows own guard action to from act = record { accepted = exactly (apply wins n i e v) (applied wins n i e v); does = does (apply wins n i e v) (applied wins n i e v); refused = stays (apply wins n i e v) (applied wins n i e v) }
-    where
-      number : Outcome → ℕ
-      number o = number_of o.answer
-
-      exactly : (o : Outcome) → Applied wins n i e v o → (number_of o.answer ≡ 0) ↔ (AllYes own × guard (vars_of i n))
-      exactly o (refused k z q) = (λ a. absurd (omega (arith, ap number q)), λ g. absurd (omega (arith, z, passed-zero n i e v (from g))))
-      exactly o (accepted y c q) = (λ a. to y, λ g. ap number q)
-
-      does : (o : Outcome) → Applied wins n i e v o → number_of o.answer ≡ 0 → action (vars_of i n) (vars_of i o.node) (record { message = sent_by o.answer; body = body o })
-      does o (refused k z q) a = absurd (omega (arith, ap number q))
-      does o (accepted y c q) a = rw q (acted action y c (act y))
-
-      stays : (o : Outcome) → Applied wins n i e v o → (number_of o.answer ≡ 0 → ⊥) → (o.node ≡ n) × (sent_by o.answer ≡ None)
-      stays o (refused k z q) a = (ap (λ (x : Outcome). x.node) q, ap (λ (x : Outcome). sent_by x.answer) q)
-      stays o (accepted y c q) a = absurd (a (ap number q))
+  follows own guard action to from act = record {
+    accepted = (λ a. to (was-accepted wins n i e v a).0, λ g. (answered wins n i e v (from g)).0);
+    does = λ a. let (y, q) = was-accepted wins n i e v a in rw q (acted action y (changed wins n i e v y) (act y));
+    refused = λ a. let (k, z, q) = was-refused wins n i e v a in (ap (λ (x : Outcome). x.node) q, ap (λ (x : Outcome). sent_by x.answer) q);
+  }
 
   -- questions 1 to 5, with others, of a passed event; and back
   five : (more : List Question) → AllYes (questions_of n i e v) → AllYes more → AllYes (five_and n i more)

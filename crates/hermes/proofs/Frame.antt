@@ -11,22 +11,17 @@ use Rattle.std.specs.Prelude.{None}
 use Rattle.hermes_record.specs.Order.{Orders}
 use Rattle.hermes.specs.Guards.{first_no}
 use Rattle.hermes.specs.Event.{number_of, answer_of}
-use Rattle.hermes.specs.Node.{Node, Outcome, apply, view, viewed, view_questions, admission_of, admission_number, identity}
-use Rattle.hermes.specs.Frame.{Changed, EventFrame, ViewFrame, StartFrame}
+use Rattle.hermes.specs.Node.{Node, Outcome, view, viewed, view_questions, admission_of, admission_number, identity}
+use Rattle.hermes.specs.Frame.{EventFrame, ViewFrame, StartFrame}
 use Rattle.hermes.proofs.Start.{Begun, begun}
 use Rattle.hermes.proofs.Filling.{start-refused}
-use Rattle.hermes.proofs.Apply.{step_of, Applied, refused, accepted, applied}
+use Rattle.hermes.proofs.Apply.{changed, was-accepted, was-refused}
 
 pub event-frame : (wins : Orders) (n : Node) (i : ℕ) (e : Event) (v : List ℕ) → EventFrame wins n i e v
-event-frame wins n i e v = record { accepted = yes-case (apply wins n i e v) (applied wins n i e v); refused = no-case (apply wins n i e v) (applied wins n i e v) }
-  where
-    yes-case : (o : Outcome) → Applied wins n i e v o → number_of o.answer ≡ 0 → Changed i (step_of wins n i e v) n o.node
-    yes-case o (refused k z q) a = absurd (omega (arith, ap (λ (x : Outcome). number_of x.answer) q))
-    yes-case o (accepted y c q) a = rw q c
-
-    no-case : (o : Outcome) → Applied wins n i e v o → (number_of o.answer ≡ 0 → ⊥) → o.node ≡ n
-    no-case o (refused k z q) a = ap (λ (x : Outcome). x.node) q
-    no-case o (accepted y c q) a = absurd (a (ap (λ (x : Outcome). number_of x.answer) q))
+event-frame wins n i e v = record {
+  accepted = λ a. let (y, q) = was-accepted wins n i e v a in rw q (changed wins n i e v y);
+  refused = λ a. let (k, z, q) = was-refused wins n i e v a in ap (λ (x : Outcome). x.node) q;
+}
 
 -- ---- a view event
 

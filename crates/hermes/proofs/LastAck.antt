@@ -5,7 +5,6 @@ use mathlib.Core.Path.{◌≡◌, refl, sym, ap, ◌∙◌}
 use mathlib.Core.Bool.{Bool, true, false, false≢true}
 use mathlib.Core.Logic.{◌⊎◌, inl, inr, ⊎_swap, ◌≢◌}
 use mathlib.Core.List.{List, [], ◌∷◌}
-use native.Mathlib.Omega.{arith}
 use native.Mathlib.Decide.{ℕ_discrete}
 use lib.Dec.{leb}
 use lib.ListN.{length}
@@ -22,16 +21,16 @@ use Rattle.hermes_record.specs.Order.{Orders}
 use Rattle.hermes.specs.Settings.{under}
 use Rattle.hermes_record.specs.Record.{one_of, invalidated_state, written_by, replayed, invalidated, acknowledged, validated}
 use Rattle.hermes.specs.Guards.{question1}
-use Rattle.hermes.specs.Event.{Step, ack_step, completes, send, number_of}
-use Rattle.hermes.specs.Node.{Outcome, record_of, apply}
+use Rattle.hermes.specs.Event.{Step, ack_step, completes, send}
+use Rattle.hermes.specs.Node.{record_of}
 use Rattle.hermes.specs.Run.{Entry, Group}
 use Rattle.hermes.specs.Agreement.{Started, after}
-use Rattle.hermes.specs.LastAck.{Waits, EveryOther, Completes, AckDone, LastAckSettles, AllReplied, IsView, NoView, NobodyWaits}
+use Rattle.hermes.specs.LastAck.{Waits, EveryOther, Completes, LastAckSettles, AllReplied, IsView, NoView, NobodyWaits}
 use Rattle.std.proofs.lemmas.Bool.{and_parts, and_from}
 use Rattle.hermes.proofs.Members.{has-small, has-zero, has-with, with-members, members-with, every-other, others-every}
 use Rattle.hermes.proofs.Guards.{deliver-own}
 use Rattle.hermes.proofs.Words.{Two, size-two}
-use Rattle.hermes.proofs.Apply.{step_of, Applied, refused, accepted, applied, its_own}
+use Rattle.hermes.proofs.Apply.{step_of, changed, was-accepted, its_own}
 use Rattle.hermes.proofs.Along.{fresh-record, Becomes, same, writes, replays, invalidates, counts, settles, validates, along}
 
 -- ---- question 15, in the words of the statements
@@ -78,20 +77,18 @@ module _ (me : Replica) (i : ℕ) (r : Record) (sender : ℕ) (known : has me.vi
   step-done false e = record { counted = in-set; last = λ w k. absurd (false≢true (sym e ∙ does-complete me r sender (pending r w) k)); other = λ f. (refl, refl) }
 
 pub last-ack-settles : LastAckSettles
-last-ack-settles wins n i m t v is = go (apply wins n i (Deliver m) v) (applied wins n i (Deliver m) v)
-  where
-    go : (o : Outcome) → Applied wins n i (Deliver m) v o → number_of o.answer ≡ 0 → AckDone n i m.sender o
-    go o (refused k z q) e = absurd (omega (arith, ap (λ (x : Outcome). number_of x.answer) q))
-    go o (accepted y c q) e =
-        let known = (deliver-own n.me (record_of i n) m (length v) (its_own n i (Deliver m) v y)).known in
-        let s = step-done n.me i (record_of i n) m.sender known (completes n.me (record_of i n) m.sender) refl in
-        let same : step_of wins n i (Deliver m) v ≡ ack_step (completes n.me (record_of i n) m.sender) n.me i (record_of i n) m.sender = rw is in
-        let d : StepDone n.me i (record_of i n) m.sender known (step_of wins n i (Deliver m) v) = rw same s in
-        rw q (record {
-          counted = rw c.here d.counted;
-          last = λ w k. let (a, b) = d.last w k in (rw c.here a, b);
-          other = λ f. let (a, b) = d.other f in (rw c.here a, b);
-        })
+last-ack-settles wins n i m t v is e =
+    let (y, q) = was-accepted wins n i (Deliver m) v e in
+    let c = changed wins n i (Deliver m) v y in
+    let known = (deliver-own n.me (record_of i n) m (length v) (its_own n i (Deliver m) v y)).known in
+    let s = step-done n.me i (record_of i n) m.sender known (completes n.me (record_of i n) m.sender) refl in
+    let same : step_of wins n i (Deliver m) v ≡ ack_step (completes n.me (record_of i n) m.sender) n.me i (record_of i n) m.sender = rw is in
+    let d : StepDone n.me i (record_of i n) m.sender known (step_of wins n i (Deliver m) v) = rw same s in
+    rw q (record {
+      counted = rw c.here d.counted;
+      last = λ w k. let (a, b) = d.last w k in (rw c.here a, b);
+      other = λ f. let (a, b) = d.other f in (rw c.here a, b);
+    })
 
 -- ---- nobody waits
 

@@ -1,7 +1,7 @@
 -- What is missing until a save that nobody has heard of is shown by all: that its INV leaves; and of every other laptop of the view that it takes the INV,
 -- that its ACK is counted, and that it takes the VAL. Here is what holds as long as no other save is made, and how much is missing.
 use Prim.Native.Nat.{ℕ, ◌+◌, ◌≤◌}
-use mathlib.Core.Path.{◌≡◌, ap, subst}
+use mathlib.Core.Path.{◌≡◌, subst}
 use mathlib.Core.Bool.{Bool, true, false, cond, not, ◌&&◌}
 use mathlib.Core.Logic.{◌⊎◌}
 use mathlib.Core.List.{List}
@@ -19,13 +19,13 @@ use Rattle.hermes.specs.declared.event.Event.{Event}
 use Rattle.hermes_record.specs.Members.{has, count_below, others_in}
 use Rattle.hermes_record.specs.Order.{same_timestamp}
 use Rattle.hermes.specs.Guards.{AllYes}
-use Rattle.hermes.specs.Event.{own, number_of}
-use Rattle.hermes.specs.Node.{Outcome, record_of, apply}
+use Rattle.hermes.specs.Event.{own}
+use Rattle.hermes.specs.Node.{record_of, apply}
 use Rattle.hermes.specs.Run.{Action, by, Group, Logged, find, found, event, perform, result}
 use Rattle.hermes.specs.Agreement.{IsAccepted}
 use Rattle.hermes.specs.Recipe.{is_valid, other}
 use Rattle.hermes.proofs.Members.{Has}
-use Rattle.hermes.proofs.Apply.{Applied, refused, accepted, applied, its_own}
+use Rattle.hermes.proofs.Apply.{was-accepted, its_own}
 use Rattle.hermes.proofs.Progress.{Task, self, Alive, identity}
 
 -- ---- an accepted event's own questions said yes
@@ -34,11 +34,7 @@ pub asked : (T : Task) (g : Group) → Alive T g → (m : ℕ) → Has T.set m �
     → IsAccepted (result T.wins g (by m what)) → AllYes (own (self T m) (record_of T.i (g.at m)) ev (length v))
 unfolding result
 asked T g all m h what ev v does c = subst (λ (me : Replica). AllYes (own me (record_of T.i (g.at m)) ev (length v))) (identity T m (g.at m) (all.live m h))
-    (go (apply T.wins (g.at m) T.i ev v) (applied T.wins (g.at m) T.i ev v) (rw does at c))
-  where
-    go : (o : Outcome) → Applied T.wins (g.at m) T.i ev v o → number_of o.answer ≡ 0 → AllYes (own (g.at m).me (record_of T.i (g.at m)) ev (length v))
-    go o (refused k z q) n = absurd (omega (arith, ap (λ (x : Outcome). number_of x.answer) q))
-    go o (accepted y c q) n = its_own (g.at m) T.i ev v y
+    (its_own (g.at m) T.i ev v (was-accepted T.wins (g.at m) T.i ev v (rw does at c)).0)
 
 -- ---- numbers that fall by e at most
 

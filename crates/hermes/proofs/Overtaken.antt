@@ -1,7 +1,7 @@
 -- 02, Wish 2: an overtaken save is given up by the replay, and no record hangs. The idea: in invalid-write the record's timestamp is later than the
 -- laptop's own save, and timestamps and last-write timestamps only rise from there; and who is invalid took an INV of another laptop.
 use Prim.Native.Nat.{ℕ}
-use mathlib.Core.Path.{◌≡◌, refl, sym, ap, subst, ◌∙◌}
+use mathlib.Core.Path.{◌≡◌, refl, sym, subst, ◌∙◌}
 use mathlib.Core.Bool.{Bool, true, false, false≢true}
 use mathlib.Core.Logic.{inl, ◌≢◌}
 use mathlib.Core.List.{List, [], ◌∷◌}
@@ -24,7 +24,7 @@ use Rattle.hermes.specs.Settings.{under}
 use Rattle.hermes_record.specs.Record.{one_of, invalidated_state, next_timestamp}
 use Rattle.hermes.specs.Guards.{AllYes}
 use Rattle.hermes.specs.Event.{resent, send, number_of}
-use Rattle.hermes.specs.Node.{Node, Outcome, record_of, apply}
+use Rattle.hermes.specs.Node.{Node, record_of, apply}
 use Rattle.hermes.specs.Run as run
 use Rattle.hermes.specs.Run.{Group, result, advance}
 use Rattle.hermes.specs.Agreement.{after}
@@ -34,7 +34,7 @@ use Rattle.std.proofs.lemmas.Bool.{and_from}
 use Rattle.hermes.proofs.Members.{every-other}
 use Rattle.hermes_record.proofs.Order.{greater-later, later_trans, later-apart}
 use Rattle.hermes.proofs.Guards.{KindOwn, deliver-own}
-use Rattle.hermes.proofs.Apply.{questions_of, own_of, Applied, refused, accepted, applied, its_own, answered}
+use Rattle.hermes.proofs.Apply.{questions_of, own_of, changed, was-accepted, its_own, answered}
 use Rattle.hermes.proofs.Agreement.{at-who}
 use Rattle.hermes.proofs.Sound.{stay-sound, five-say-yes, reads-tell}
 use Rattle.hermes.proofs.Along.{fresh-record, Becomes, same, writes, replays, invalidates, counts, settles, validates, always}
@@ -132,28 +132,24 @@ given-up wins ords member count issued settings g s before i k l m x rest = reco
     behind : later (order n.me.settings) (record_of i n).timestamp t ≡ true
     behind = subst (λ (z : State). Ahead (order n.me.settings) z (record_of i n).timestamp t) x.invalid_write ahead
 
-    done-risen : (o : Outcome) → Applied wins n i Replay [] o → number_of o.answer ≡ 0 → Risen (order o.node.me.settings) t (record_of i o.node)
-    done-risen o (refused z y q) e = absurd (omega (arith, ap (λ (w : Outcome). number_of w.answer) q))
-    done-risen o (accepted y c q) e = rw (q, c.here) (record { held = behind; own = behind })
+    done-risen : Risen (order (apply wins n i Replay []).node.me.settings) t (record_of i (apply wins n i Replay []).node)
+    done-risen = let (y, q) = was-accepted wins n i Replay [] x.accepted in rw (q, (changed wins n i Replay [] y).here) (record { held = behind; own = behind })
 
     now : Group
     now = advance wins (run.run wins g before) (replay_of k i)
 
     begun : Risen (order (now.at k).me.settings) t (record_of i (now.at k))
-    begun = rw (at-who wins (run.run wins g before) (replay_of k i)) (done-risen (apply wins n i Replay []) (applied wins n i Replay []) x.accepted)
+    begun = rw (at-who wins (run.run wins g before) (replay_of k i)) done-risen
 
     past : Risen (order (after wins now rest k).me.settings) t (record_of i (after wins now rest k))
     past = always wins i (λ number x r. Risen (order x) t r) (λ me. risen-keeps (order me.settings) (ord me.settings) t me) k now begun rest
 
     refuses : (msg : Received) (v : List ℕ) → msg.message ≡ Ack t → number_of (apply wins (after wins now rest k) i (Deliver msg) v).answer ≡ 0 → ⊥
-    refuses msg v is = go (apply wins (after wins now rest k) i (Deliver msg) v) (applied wins (after wins now rest k) i (Deliver msg) v)
-      where
-        go : (o : Outcome) → Applied wins (after wins now rest k) i (Deliver msg) v o → number_of o.answer ≡ 0 → ⊥
-        go o (refused z y q) e = omega (arith, ap (λ (w : Outcome). number_of w.answer) q)
-        go o (accepted y c q) e =
-            let kind = (deliver-own (after wins now rest k).me (record_of i (after wins now rest k)) msg (length v) (its_own (after wins now rest k) i (Deliver msg) v y)).kind in
-            let own : t ≡ (record_of i (after wins now rest k)).written = (subst (λ (z : Message). KindOwn z msg.sender (record_of i (after wins now rest k))) is kind).1 in
-            later-apart (order (after wins now rest k).me.settings) (ord (after wins now rest k).me.settings) (record_of i (after wins now rest k)).written t past.own own
+    refuses msg v is e =
+        let y = (was-accepted wins (after wins now rest k) i (Deliver msg) v e).0 in
+        let kind = (deliver-own (after wins now rest k).me (record_of i (after wins now rest k)) msg (length v) (its_own (after wins now rest k) i (Deliver msg) v y)).kind in
+        let own : t ≡ (record_of i (after wins now rest k)).written = (subst (λ (z : Message). KindOwn z msg.sender (record_of i (after wins now rest k))) is kind).1 in
+        later-apart (order (after wins now rest k).me.settings) (ord (after wins now rest k).me.settings) (record_of i (after wins now rest k)).written t past.own own
 
 -- ---- nobody hangs
 

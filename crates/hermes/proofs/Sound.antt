@@ -20,7 +20,7 @@ use Rattle.hermes_record.specs.Order.{Orders}
 use Rattle.hermes_record.specs.Record.{fresh_record}
 use Rattle.hermes.specs.Guards.{AllYes, first_no, question5}
 use Rattle.hermes.specs.Event.{Step, number_of, read_part}
-use Rattle.hermes.specs.Node.{Node, Outcome, record_of, value_of, apply, read, view, viewed, view_questions, admission_of, identity}
+use Rattle.hermes.specs.Node.{Node, Outcome, record_of, apply, view, viewed, view_questions, admission_of, identity}
 use Rattle.hermes.specs.Run as run
 use Rattle.hermes.specs.Run.{Action, Entry, Group, Logged, Found, find, received, delivery, perform, node_after, result, advance, run}
 use Rattle.hermes.specs.Agreement.{FreshStart, Sees, Shows, after}
@@ -29,7 +29,7 @@ use Rattle.std.proofs.lemmas.Bool.{and_parts}
 use Rattle.hermes.proofs.Members.{has-zero}
 use Rattle.hermes.proofs.Guards.{view-inside, all_yes}
 use Rattle.hermes.proofs.Steps.{sound-yes}
-use Rattle.hermes.proofs.Apply.{passed-zero, refusal_of, own_of, questions_of, step_of, done, Applied, refused, accepted, applied, its_own, sound-step}
+use Rattle.hermes.proofs.Apply.{passed-zero, own_of, questions_of, step_of, done, Applied, refused, accepted, applied, was-accepted, was-refused, answered, its_own, sound-step}
 use Rattle.hermes.proofs.Words.{is_state}
 use Rattle.hermes.proofs.Start.{Begun, begun, lowest-small}
 use Rattle.hermes.proofs.Agreement.{at-who, at_other}
@@ -134,14 +134,10 @@ five-say-yes count settings k n ok i h s e v y = (ok.first, (ok.second, (rw ok.n
 
 -- a sound replica in its own view answers a read with 0 exactly where the record is valid
 read-tells : (wins : Orders) (count : ℕ) (settings : Settings) (k : ℕ) (n : Node) → Sound count settings k n → (i : ℕ) → i < count → Sees n k → Shows n i ↔ (number_of (apply wins n i Read []).answer ≡ 0)
-read-tells wins count settings k n ok i h v = go (apply wins n i Read []) (applied wins n i Read [])
-  where
-    go : (o : Outcome) → Applied wins n i Read [] o → Shows n i ↔ (number_of o.answer ≡ 0)
-    go o (refused z y q) = (λ e. absurd (omega (arith, y, answers e)), λ e. absurd (omega (arith, ap (λ (x : Outcome). number_of x.answer) q)))
-      where
-        answers : Shows n i → refusal_of n i Read [] ≡ 0
-        answers e = passed-zero n i Read [] (five-say-yes count settings k n ok i h v Read [] (rw e, tt))
-    go o (accepted y c q) = (λ e. ap (λ (x : Outcome). number_of x.answer) q, λ e. is_state (record_of i n).state state.Valid (its_own n i Read [] y).0)
+read-tells wins count settings k n ok i h v = (
+  λ e. (answered wins n i Read [] (five-say-yes count settings k n ok i h v Read [] (rw e, tt))).0,
+  λ a. is_state (record_of i n).state state.Valid (its_own n i Read [] (was-accepted wins n i Read [] a).0).0,
+)
 
 pub reads-tell : (wins : Orders) → ReadsTell wins
 reads-tell wins member count issued settings g s entries c i k h e = read-tells wins count settings k (after wins g entries k) (stay-sound wins member count issued settings g s entries c k e) i h
@@ -149,15 +145,7 @@ reads-tell wins member count issued settings g s entries c i k h e = read-tells 
 -- what a read hands out
 pub read-gives : (wins : Orders) (n : Node) (i : ℕ) → ReadGives wins n i
 unfolding read_part
-read-gives wins n i = record { accepted = gives (apply wins n i Read []) (applied wins n i Read []); refused = empty (apply wins n i Read []) (applied wins n i Read []) }
-  where
-    number : Outcome → ℕ
-    number o = number_of o.answer
-
-    gives : (o : Outcome) → Applied wins n i Read [] o → number o ≡ 0 → read n i ≡ value_of i n
-    gives o (refused k z q) a = absurd (omega (arith, ap number q))
-    gives o (accepted y c q) a = rw (passed-zero n i Read [] y)
-
-    empty : (o : Outcome) → Applied wins n i Read [] o → (number o ≡ 0 → ⊥) → read n i ≡ []
-    empty o (refused k z q) a = rw z
-    empty o (accepted y c q) a = absurd (a (ap number q))
+read-gives wins n i = record {
+  accepted = λ a. rw (passed-zero n i Read [] (was-accepted wins n i Read [] a).0);
+  refused = λ a. let (k, z, q) = was-refused wins n i Read [] a in rw z;
+}
