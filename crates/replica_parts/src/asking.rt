@@ -1,18 +1,16 @@
-// Ask: the number and the timestamp of a record of the lent table.
+// Ask: the timestamp of a record of the lent table.
 ghost use Rattle.std.specs.Prelude.{◌≡◌, []};
 ghost use Rattle.hermes_record.specs.Order.{ties};
 ghost use Rattle.hermes.specs.declared.event.Event.TheVariants.{Ask};
 ghost use Rattle.hermes.specs.Node.{lent, asked, apply};
+ghost use Rattle.replica_reading.specs.Asking.{handed_by};
 
 use crate::reading::record_at;
-use hermes::{Record, Replica};
-use replica_reading::Handed;
+use hermes::{Record, Refused, Replica, Timestamp};
 
-// The answer to an ask of record i, and the timestamp that a commit brings back. The value is the part that `read` hands out.
-pub fn ask(me: Replica, table: &[Record], store: &[u8], i: usize) -> Handed
-    ensures { (result.answer ≡ (apply ties (lent me table.now store.now) i Ask []).answer)
-        × (result.timestamp ≡ (asked (lent me table.now store.now) i).timestamp) }
+// An ask of record i: the timestamp that a commit brings back, or the question that said no. The value is the part that `read` hands out.
+pub fn ask(me: Replica, table: &[Record], store: &[u8], i: usize) -> Result<Timestamp, Refused>
+    ensures { result ≡ handed_by (apply ties (lent me table.now store.now) i Ask []).answer (asked (lent me table.now store.now) i).timestamp }
 {
-    let r = record_at(table, i);
-    replica_reading::ask(me, table.len(), store.len(), i, r)
+    replica_reading::ask(me, table.len(), store.len(), i, record_at(table, i))
 }

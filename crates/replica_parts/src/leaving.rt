@@ -9,16 +9,12 @@ use hermes::{Outgoing, Record};
 fn index_of(out: Outgoing) -> usize
     ensures { result ≡ index_of out }
 {
-    match out {
-        Outgoing::Sent(_, header) => header.index,
-        Outgoing::None => 0,
-    }
+    out.map_or(0, |(_, header)| header.index)
 }
 
 // The bytes that what left an event takes along, out of the memory that the event left: the value of an invalidation's record.
 pub fn body<'a>(out: Outgoing, table: &[Record], store: &'a [u8]) -> &'a [u8]
     ensures { result.now ≡ leaving out table.now store.now }
 {
-    let r = record_at(table, index_of(out));
-    replica_outgoing::body(out, r, store)
+    replica_outgoing::body(out, record_at(table, index_of(out)), store)
 }

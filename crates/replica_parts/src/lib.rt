@@ -1,4 +1,4 @@
-// What a lent table and store hand out: a read's number and part, an ask's number and timestamp, and the bytes that an invalidation takes along.
+// What a lent table and store hand out: a record, a read's number and part, an ask's timestamp, and the bytes that an invalidation takes along.
 #![tactic(auto)]
 
 mod asking;
@@ -7,5 +7,4 @@ mod reading;
 
 pub use asking::ask;
 pub use leaving::body;
-pub use reading::{read, read_number};
-pub use replica_reading::Handed;
+pub use reading::{read, read_number, record_at};

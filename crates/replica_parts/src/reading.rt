@@ -7,27 +7,22 @@ ghost use Rattle.hermes.specs.Node.{lent, record_at, read, apply};
 use hermes::{Answer, Record, Replica};
 
 // Record i of the table; past its end a fresh one.
-pub(crate) fn record_at(table: &[Record], i: usize) -> Record
+pub fn record_at(table: &[Record], i: usize) -> Record
     ensures { result ≡ record_at table.now i }
 {
-    if table.len() <= i {
-        return Record::fresh(0);
-    }
-    table[i]
+    table.get(i).copied().unwrap_or(Record::fresh(0))
 }
 
 // The value of record i, as a part of the store; the empty part where a question refuses.
 pub fn read<'a>(me: Replica, table: &[Record], store: &'a [u8], i: usize) -> &'a [u8]
     ensures { result.now ≡ read (lent me table.now store.now) i }
 {
-    let r = record_at(table, i);
-    replica_reading::read(me, table.len(), i, r, store)
+    replica_reading::read(me, table.len(), i, record_at(table, i), store)
 }
 
 // The number of a read of record i.
 pub fn read_number(me: Replica, table: &[Record], store: &[u8], i: usize) -> Answer
     ensures { result ≡ (apply ties (lent me table.now store.now) i Read []).answer }
 {
-    let r = record_at(table, i);
-    replica_reading::read_number(me, table.len(), store.len(), i, r)
+    replica_reading::read_number(me, table.len(), store.len(), i, record_at(table, i))
 }

@@ -1,1 +1,0 @@
--- No law of its own.
