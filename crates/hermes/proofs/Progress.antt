@@ -27,7 +27,7 @@ use Rattle.hermes.specs.Settings.{under}
 use Rattle.hermes.specs.Store.{value_at}
 use Rattle.hermes.specs.Guards.{AllYes, shapely}
 use Rattle.hermes.specs.Event.{Step, own, step, body_of}
-use Rattle.hermes.specs.Node.{Node, Outcome, record_of, leaving, apply}
+use Rattle.hermes.specs.Node.{Node, record_of, leaving, apply}
 use Rattle.hermes.specs.Run.{Action, deliver, Entry, by, Group, Logged, Found, found, find, Result, event, delivery, perform, node_after, logged, log_after, result, advance, run}
 use Rattle.hermes.specs.Agreement.{IsAccepted}
 use Rattle.hermes.specs.Reads.{Sound}
@@ -36,7 +36,7 @@ use Rattle.hermes.specs.Recipe.{each}
 use Rattle.hermes.proofs.Members.{Has}
 use Rattle.hermes.proofs.Guards.{sound-passed}
 use Rattle.hermes.proofs.Log.{find-front, find-last, find-either}
-use Rattle.hermes.proofs.Apply.{questions_of, passed-zero, done, Applied, refused, accepted, applied}
+use Rattle.hermes.proofs.Apply.{questions_of, done, changed, was-accepted, answered}
 use Rattle.hermes.proofs.Agreement.{at-who, at_other, run-append}
 use Rattle.hermes.proofs.Sound.{advance-sound, five-say-yes}
 
@@ -125,7 +125,7 @@ acts : (T : Task) → T.i < T.count → (m : ℕ) → Has T.set m → (n : Node)
     → (apply T.wins n T.i ev v ≡ record { answer = Ok (step_by T m (record_of T.i n) ev v).sent; node = done n T.i (step_by T m (record_of T.i n) ev v) })
     × (record_of T.i (done n T.i (step_by T m (record_of T.i n) ev v)) ≡ (step_by T m (record_of T.i n) ev v).after)
 acts T inside m h n l ev v y = subst (λ (me : Replica). (apply wins n i ev v ≡ record { answer = Ok (s me).sent; node = done n i (s me) }) × (record_of i (done n i (s me)) ≡ (s me).after))
-    (identity T m n l) (go (apply wins n i ev v) (applied wins n i ev v))
+    (identity T m n l) ((was-accepted wins n i ev v (answered wins n i ev v yes-all).0).1, (changed wins n i ev v yes-all).here)
   where
     wins : Orders
     wins = T.wins
@@ -138,10 +138,6 @@ acts T inside m h n l ev v y = subst (λ (me : Replica). (apply wins n i ev v �
 
     yes-all : AllYes (questions_of n i ev v)
     yes-all = five-say-yes T.count T.settings m n l.sound i inside (rw l.view h) ev v (subst (λ (me : Replica). AllYes (own me (record_of i n) ev (length v))) (sym (identity T m n l)) y)
-
-    go : (o : Outcome) → Applied wins n i ev v o → (o ≡ record { answer = Ok (s n.me).sent; node = done n i (s n.me) }) × (record_of i (done n i (s n.me)) ≡ (s n.me).after)
-    go o (refused k z q) = absurd (omega (arith, z, passed-zero n i ev v yes-all))
-    go o (accepted w c q) = (q, c.here)
 
 module _ (T : Task) (inside : T.i < T.count) (g : Group) (all : Alive T g) (m : ℕ) (h : Has T.set m) (what : Action) (ev : Event) (v : List ℕ)
     (does : perform T.wins what g.log (g.at m) ≡ event (apply T.wins (g.at m) T.i ev v)) (y : AllYes (own (self T m) (record_of T.i (g.at m)) ev (length v))) where
