@@ -1,13 +1,8 @@
 -- How the answers of the packet's reader and writer cross as numbers.
-use Rattle.std.specs.Prelude.{ℕ}
+use Rattle.std.specs.Prelude.{ℕ, Err, Ok}
 use Rattle.packet_format.specs.declared.entry.Fields.{Fields}
-use Rattle.packet_format.specs.declared.answer.Fetched.{Fetched}
-use Rattle.packet_format.specs.declared.answer.Fetched.TheVariants.{Found, Refused}
+use Rattle.packet_format.specs.Answer.{Fetched, Taken, Written}
 use Rattle.packet_format.specs.declared.answer.Accepted.{Accepted}
-use Rattle.packet_format.specs.declared.answer.Taken.{Taken}
-use Rattle.packet_format.specs.declared.answer.Taken.TheVariants as take
-use Rattle.packet_format.specs.declared.answer.Written.{Written}
-use Rattle.packet_format.specs.declared.answer.Written.TheVariants as answer
 use Rattle.packet_format.specs.Entry.{fields_for}
 use Rattle.export_fields.specs.declared.answers.CetskobiAccepted.{CetskobiAccepted}
 use Rattle.export_fields.specs.declared.answers.CetskobiFetched.{CetskobiFetched}
@@ -35,13 +30,13 @@ no_fields = record { kind = 0; sender = 0; epoch = 0; index = 0; version = 0; ti
 
 -- 01, "Reading fetches message i": 0 with the message and where its body begins, or the number of the question that said no
 abbrev pub fetched_out : Fetched → CetskobiFetched
-fetched_out (Found e at) = fields_out 0 (fields_for e at)
-fetched_out (Refused k) = fields_out k no_fields
+fetched_out (Ok (e, at)) = fields_out 0 (fields_for e at)
+fetched_out (Err e) = fields_out e.0 no_fields
 
 -- 02, Wish 4: the same of a message taken; its entry's fields cross as they stand there
 abbrev pub taken_out : Taken → CetskobiFetched
-taken_out (take.Entry f) = fields_out 0 f
-taken_out (take.Refused k) = fields_out k no_fields
+taken_out (Ok f) = fields_out 0 f
+taken_out (Err e) = fields_out e.0 no_fields
 
 -- the facts of a packet, there and back
 abbrev pub accepted_out : Accepted → CetskobiAccepted
@@ -54,5 +49,5 @@ accepted_in a = record { number = a.number; count = a.count }
 
 -- 0 with the packet's total length, or the number of the question that said no
 abbrev pub written_out : Written → CetskobiWritten
-written_out (answer.Total n) = record { number = 0; len = n }
-written_out (answer.Refused k) = record { number = k; len = 0 }
+written_out (Ok n) = record { number = 0; len = n }
+written_out (Err e) = record { number = e.0; len = 0 }

@@ -1,12 +1,13 @@
 // How the answers of the packet's reader and writer cross as numbers.
 ghost use Rattle.std.specs.Prelude.{◌≡◌};
-ghost use Rattle.export_fields.specs.Answers.{fetched_out, taken_out, accepted_out, accepted_in, written_out};
+ghost use Rattle.export_fields.specs.Answers.{fields_out, fetched_out, taken_out, accepted_out, accepted_in, written_out};
 
-use packet_format::{Accepted, Fetched, Taken, Written};
+use hermes::Refused;
+use packet_format::{Accepted, Fetched, Fields, Taken, Written};
 
 // The answer to a fetch: 0 or the number of the question that said no; and the message, whose body is the len bytes of the packet from at on.
 #[repr(C)]
-#[derive(Clone, Copy)]
+#[derive(Clone, Copy, Default)]
 pub struct CetskobiFetched {
     pub number: u8,
     pub kind: u8,
@@ -35,93 +36,79 @@ pub struct CetskobiWritten {
     pub len: usize,
 }
 
-// A refused fetch has no message: its fields are zeros.
-pub fn fetched_out(fetched: Fetched) -> CetskobiFetched
-    ensures { result ≡ fetched_out fetched }
-{
-    match fetched {
-        Fetched::Found(entry, at) => {
-            let f = packet_format::fields_for(entry, at);
-            CetskobiFetched {
-                number: 0,
-                kind: f.kind,
-                sender: f.sender,
-                tie: f.tie,
-                epoch: f.epoch,
-                version: f.version,
-                index: f.index,
-                at: f.offset,
-                len: f.len as usize,
-            }
+// A message by the fields of its entry, whose body begins at the offset.
+impl From<Fields> for CetskobiFetched {
+    ghost from_gives = { λ fields fetched. fetched ≡ fields_out 0 fields };
+
+    fn from(fields: Fields) -> CetskobiFetched {
+        CetskobiFetched {
+            number: 0, // no question said no
+            kind: fields.kind,
+            sender: fields.sender,
+            tie: fields.tie,
+            epoch: fields.epoch,
+            version: fields.version,
+            index: fields.index,
+            at: fields.offset,
+            len: fields.len as usize,
         }
-        Fetched::Refused(k) => CetskobiFetched {
-            number: k,
-            kind: 0,
-            sender: 0,
-            tie: 0,
-            epoch: 0,
-            version: 0,
-            index: 0,
-            at: 0,
-            len: 0,
-        },
     }
 }
 
-// The same of a message taken: its entry's numbers as they stand there.
-pub fn taken_out(taken: Taken) -> CetskobiFetched
-    ensures { result ≡ taken_out taken }
-{
-    match taken {
-        Taken::Entry(f) => CetskobiFetched {
-            number: 0,
-            kind: f.kind,
-            sender: f.sender,
-            tie: f.tie,
-            epoch: f.epoch,
-            version: f.version,
-            index: f.index,
-            at: f.offset,
-            len: f.len as usize,
-        },
-        Taken::Refused(k) => CetskobiFetched {
-            number: k,
-            kind: 0,
-            sender: 0,
-            tie: 0,
-            epoch: 0,
-            version: 0,
-            index: 0,
-            at: 0,
-            len: 0,
-        },
+// A message taken crosses with its entry's fields as they stand there. A refused taking has no message: its fields are zeros.
+impl From<Taken> for CetskobiFetched {
+    ghost from_gives = { λ taken fetched. fetched ≡ taken_out taken };
+
+    fn from(taken: Taken) -> CetskobiFetched {
+        match taken {
+            Ok(fields) => fields.into(),
+            Err(Refused(number)) => CetskobiFetched {
+                number,
+                ..CetskobiFetched::default()
+            },
+        }
+    }
+}
+
+// A message fetched crosses as if it was taken.
+impl From<Fetched> for CetskobiFetched {
+    ghost from_gives = { λ answer fetched. fetched ≡ fetched_out answer };
+
+    fn from(answer: Fetched) -> CetskobiFetched {
+        answer.map(|(entry, at)| entry.fields(at)).into()
     }
 }
 
 // The facts of a packet, there and back.
-pub fn accepted_out(facts: Accepted) -> CetskobiAccepted
-    ensures { result ≡ accepted_out facts }
-{
-    CetskobiAccepted {
-        number: facts.number,
-        count: facts.count,
+impl From<Accepted> for CetskobiAccepted {
+    ghost from_gives = { λ facts accepted. accepted ≡ accepted_out facts };
+
+    fn from(facts: Accepted) -> CetskobiAccepted {
+        CetskobiAccepted {
+            number: facts.number,
+            count: facts.count,
+        }
     }
 }
 
-pub fn accepted_in(facts: CetskobiAccepted) -> Accepted
-    ensures { result ≡ accepted_in facts }
-{
-    Accepted {
-        number: facts.number,
-        count: facts.count,
+impl From<CetskobiAccepted> for Accepted {
+    ghost from_gives = { λ accepted facts. facts ≡ accepted_in accepted };
+
+    fn from(accepted: CetskobiAccepted) -> Accepted {
+        Accepted {
+            number: accepted.number,
+            count: accepted.count,
+        }
     }
 }
 
-pub fn written_out(written: Written) -> CetskobiWritten
-    ensures { result ≡ written_out written }
-{
-    match written {
-        Written::Total(n) => CetskobiWritten { number: 0, len: n },
-        Written::Refused(k) => CetskobiWritten { number: k, len: 0 },
+impl From<Written> for CetskobiWritten {
+    ghost from_gives = { λ answer written. written ≡ written_out answer };
+
+    fn from(answer: Written) -> CetskobiWritten {
+        match answer {
+            Ok(len) => CetskobiWritten { number: 0, len },
+            Err(Refused(number)) => CetskobiWritten { number, len: 0 },
+        }
     }
 }

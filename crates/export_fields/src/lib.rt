@@ -3,7 +3,4 @@
 
 mod answers;
 
-pub use answers::{
-    CetskobiAccepted, CetskobiFetched, CetskobiWritten, accepted_in, accepted_out, fetched_out,
-    taken_out, written_out,
-};
+pub use answers::{CetskobiAccepted, CetskobiFetched, CetskobiWritten};
