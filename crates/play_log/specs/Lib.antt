@@ -1,2 +1,2 @@
--- The log of the playing program, as it stands in lent memory.
+-- The log of the playing program, as the run has it.
 pub mod Log

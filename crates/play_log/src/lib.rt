@@ -1,6 +1,6 @@
-// The log of the playing program: the messages that left, in memory that the caller lends.
+// The log of the playing program: the messages that left.
 #![tactic(auto)]
 
 mod memory;
 
-pub use memory::{Envelope, append, envelope_at};
+pub use memory::{Envelope, Log};
