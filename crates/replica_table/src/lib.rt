@@ -6,4 +6,4 @@ mod events;
 pub use events::apply;
 pub use replica_membership::view;
 pub use replica_outgoing::recipients;
-pub use replica_parts::{Handed, ask, body, read, read_number};
+pub use replica_parts::{ask, body, read, read_number};
