@@ -1,8 +1,7 @@
 -- What an exported fresh start does: that of hermes's `start` on the table that the bytes hold.
-use Rattle.std.specs.Prelude.{ℕ, ◌≡◌, List, length}
+use Rattle.std.specs.Prelude.{ℕ, ◌≡◌, List, length, Err, Ok}
 use Rattle.hermes.specs.declared.event.Settings.{Settings}
-use Rattle.hermes.specs.declared.event.Admission.{Admission}
-use Rattle.hermes.specs.declared.event.Admission.TheVariants.{Admitted, Refused}
+use Rattle.hermes.specs.Answer.{Admission}
 use Rattle.hermes.specs.Node.{newcomer, first_record, start}
 use Rattle.export_numbers.specs.declared.numbers.CetskobiAdmission.{CetskobiAdmission}
 use Rattle.export_numbers.specs.Crossing.{identity_of, admission_out}
@@ -11,8 +10,8 @@ use Rattle.export_storing.specs.Storing.{fill}
 
 -- the bytes after an admission: every record the first one; after a refusal as they were
 abbrev pub filled_by : Admission → List ℕ → ℕ → List ℕ
-filled_by (Admitted me) bytes view = fill (count_of (length bytes)) bytes (first_record view)
-filled_by (Refused k) bytes view = bytes
+filled_by (Ok me) bytes view = fill (count_of (length bytes)) bytes (first_record view)
+filled_by (Err k) bytes view = bytes
 
 -- the admission, the bytes, the table that they hold, and the store after a fresh start in a group with these settings
 pub record StartDone (number view : ℕ) (settings : Settings) (before : List ℕ) (memory : List ℕ) (a : CetskobiAdmission) (bytes' store' : List ℕ) : Type 0 where

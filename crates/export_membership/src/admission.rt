@@ -5,15 +5,14 @@ ghost use Rattle.export_numbers.specs.Crossing.{settings_of, replica_of, admissi
 ghost use Rattle.export_membership.specs.Admission.{StartDone};
 
 use export_numbers::{CetskobiAdmission, CetskobiReplica, CetskobiSettings};
-use hermes::Admission;
+use hermes::Settings;
 
 // A change of view. A refused one gives the identity as it was.
 #[unsafe(no_mangle)]
 pub extern "C" fn cetskobi_view(me: CetskobiReplica, epoch: u32, set: u16) -> CetskobiAdmission
     ensures { result ≡ admission_out (view (replica_of me) epoch set) me }
 {
-    let a = replica_membership::view(export_numbers::replica_of(me), epoch, set);
-    export_numbers::admission_out(a, me)
+    CetskobiAdmission::of(replica_membership::view(me.into(), epoch, set), me)
 }
 
 // A fresh start of the replica of this number, with this first view, in a group with these settings: every record fresh, the store zero. A refused one changes nothing.
@@ -27,22 +26,18 @@ pub extern "C" fn cetskobi_start(
 ) -> CetskobiAdmission
     ensures { StartDone number view (settings_of settings) table.old store.old result table.new store.new }
 {
-    let fixed = export_numbers::settings_of(settings);
+    let settings = Settings::from(settings);
     let count = export_records::count(table.len());
-    let a = replica_membership::admit(number, view, fixed, count, store.len());
-    let out = export_numbers::settings_out(fixed);
-    let old = CetskobiReplica {
-        number: number,
-        settings: out,
-        view: view,
+    let admission = replica_membership::admit(number, view, settings, count, store.len());
+    if admission.is_ok() {
+        export_storing::fill(table, replica_membership::fresh_record(view));
+        replica_start::zero(store);
+    }
+    let newcomer = CetskobiReplica {
+        number,
+        settings: settings.into(),
+        view,
         epoch: 0,
     };
-    match a {
-        Admission::Admitted(_) => {
-            export_storing::fill(table, replica_membership::fresh_record(view));
-            replica_start::zero(store);
-            export_numbers::admission_out(a, old)
-        }
-        Admission::Refused(_) => export_numbers::admission_out(a, old),
-    }
+    CetskobiAdmission::of(admission, newcomer)
 }

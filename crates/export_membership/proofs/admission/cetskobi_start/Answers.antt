@@ -1,21 +1,15 @@
--- `export_membership::admission::cetskobi_start` meets its contract. The calls of an arm are not named: what they ensure is found in `c`.
-use mathlib.Core.Path.{refl}
-use Rattle.hermes.specs.declared.event.Settings.{Settings}
-use Rattle.hermes.specs.Node.{first_record}
-use Rattle.export_membership.proofs.Started.{started, not-started}
+-- `export_membership::admission::cetskobi_start` meets its contract.
+use mathlib.Core.Path.{sym, ◌∙◌}
+use Rattle.export_membership.proofs.Started.{started, not_started}
+use Rattle.export_membership.proofs.admission.cetskobi_start.Goals.{then-is_ok, else-is_ok}
 use Rattle.export_membership.proofs.admission.cetskobi_start.Goals as goal
 
-pub returns-in-Admitted : goal.returns-in-Admitted
-returns-in-Admitted c =
+pub returns : goal.returns
+returns c =
     let v = c.args in
-    let fixed : Settings = c.settings_of-fixed.result in
-    rw (← c.settings_of-fixed.ensures)
-    (started v.number v.view fixed v.table.now v.store.now _ _ c.count-count.ensures c.admit-a.ensures _ (first_record v.view) _ _ _
-    c.in-Admitted.is refl ((cc), (cc)) (cc) (cc))
-
-pub returns-in-Refused : goal.returns-in-Refused
-returns-in-Refused c =
-    let v = c.args in
-    let fixed : Settings = c.settings_of-fixed.result in
-    rw (← c.settings_of-fixed.ensures)
-    (not-started v.number v.view fixed v.table.now v.store.now _ _ c.count-count.ensures c.admit-a.ensures _ _ c.in-Refused.is (cc))
+    rw (← c.from-settings.ensures) (elim c.if-is_ok.branch [
+      | then-is_ok w ↦ started v.number v.view _ v.table.now v.store.now _ _ c.count-count.ensures c.admit-admission.ensures _ _ _ (cc) _
+          (sym c.is_ok.ensures.value ∙ w.if-is_ok.true) w.fresh_record.ensures (w.table-is ∙ w.fill.ensures.bytes) (cc) (w.store-is ∙ w.zero.ensures)
+      | else-is_ok w ↦ not_started v.number v.view _ v.table.now v.store.now _ _ c.count-count.ensures c.admit-admission.ensures _ _ _ (cc)
+          (sym c.is_ok.ensures.value ∙ w.if-is_ok.false) w.table-is w.store-is
+    ])
