@@ -1,17 +1,17 @@
 -- An exported event's end: what the parts of its code give is what hermes's `apply` says of the replica with its bytes.
 use Prim.Native.Nat.{ℕ}
 use mathlib.Core.Path.{◌≡◌, sym, ap, ◌∙◌}
-use mathlib.Core.List.{List, []}
+use mathlib.Core.List.{List}
 use lib.ListN.{length}
+use Rattle.std.specs.Prelude.{Ok}
 use Rattle.hermes_record.specs.declared.record.Record.{Record}
 use Rattle.hermes.specs.declared.event.Replica.{Replica}
 use Rattle.hermes.specs.declared.event.Event.{Event}
 use Rattle.hermes.specs.declared.event.Moved.{Moved}
 use Rattle.hermes_record.specs.Order.{ties}
-use Rattle.hermes.specs.Event.{Effect, effect, moved, step, refusal}
+use Rattle.hermes.specs.Event.{Effect, effect, step, refusal}
 use Rattle.hermes.specs.Node.{record_at, effect_of, apply}
-use Rattle.replica_asking.specs.declared.Asked.{Asked}
-use Rattle.replica_asking.specs.declared.Asked.TheVariants.{Passed}
+use Rattle.replica_asking.specs.Cascade.{Asked}
 use Rattle.export_numbers.specs.declared.numbers.CetskobiReplica.{CetskobiReplica}
 use Rattle.export_numbers.specs.declared.numbers.CetskobiAnswer.{CetskobiAnswer}
 use Rattle.export_numbers.specs.Crossing.{replica_of, answer_out}
@@ -30,7 +30,7 @@ pub record Taken (me : CetskobiReplica) (bytes : List ℕ) (i : ℕ) (who : Repl
 
 -- the same where the event began with that record
 pub taken_here : (me : CetskobiReplica) (bytes : List ℕ) (n i : ℕ) (who : Replica) (count : ℕ) (a : Asked) (r : Record) → who ≡ replica_of me → count ≡ count_of (length bytes)
-    → a ≡ beginning who bytes n i → a ≡ Passed r → Taken me bytes i who count r
+    → a ≡ beginning who bytes n i → a ≡ Ok r → Taken me bytes i who count r
 taken_here me bytes n i who count a r hw hc begins passed = record { identity = hw; counted = hc; found = begun-passed who bytes n i r (sym begins ∙ passed) }
 
 module _ (me : CetskobiReplica) (bytes : List ℕ) (i : ℕ) (who : Replica) (count : ℕ) (r : Record) (t : Taken me bytes i who count r) where
@@ -38,7 +38,7 @@ module _ (me : CetskobiReplica) (bytes : List ℕ) (i : ℕ) (who : Replica) (co
   pub same : (store : List ℕ) (e : Event) (v : List ℕ) → effect ties who count i r store e v ≡ effect_of ties (node_of me bytes store) i e v
   same store e v = rw (t.identity, t.counted, t.found, length-table bytes)
 
-  -- an event that stores
+  -- the moved record and the store of its effect are what the event does
   pub done : (store : List ℕ) (e : Event) (v : List ℕ) (m : Moved) (a : CetskobiAnswer) (bytes' store' : List ℕ)
       → (m ≡ (effect ties who count i r store e v).moved) × (store' ≡ (effect ties who count i r store e v).store)
       → Finished bytes i m a bytes' → Done (node_of me bytes store) bytes i e v a bytes' store'
@@ -51,11 +51,3 @@ module _ (me : CetskobiReplica) (bytes : List ℕ) (i : ℕ) (who : Replica) (co
         table = f.table ∙ ap (λ (x : Moved). table_after x (table_of bytes) i) moves ∙ settled-step (refusal (replica_of me) (length (table_of bytes)) (length store) i (record_at (table_of bytes) i) e (length v)) (table_of bytes) i (step ties (replica_of me) i (record_at (table_of bytes) i) e v);
         store = hs ∙ ap (λ (x : Effect). x.store) (same store e v);
       }
-
-  -- an event that stores nothing and looks at no value
-  pub done-quiet : (store : List ℕ) (e : Event) (m : Moved) (a : CetskobiAnswer) (bytes' : List ℕ)
-      → effect ties who count i r store e [] ≡ record { moved = moved ties who count (length store) i r e []; store = store }
-      → m ≡ moved ties who count (length store) i r e []
-      → Finished bytes i m a bytes' → Done (node_of me bytes store) bytes i e [] a bytes' store
-  done-quiet store e m a bytes' q hm h =
-      done store e [] m a bytes' store (hm ∙ ap (λ (x : Effect). x.moved) (sym q), ap (λ (x : Effect). x.store) (sym q)) h

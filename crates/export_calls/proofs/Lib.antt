@@ -1,4 +1,5 @@
 pub mod Parts
 pub mod Beginnings
 pub mod Ends
+pub mod Steps
 pub mod Unmoved

@@ -1,18 +1,16 @@
 -- What every exported event on a record begins and ends with, and what it does: that of hermes's `apply` on the replica whose table the bytes hold.
-use Rattle.std.specs.Prelude.{ℕ, ◌≡◌, List, length}
+use Rattle.std.specs.Prelude.{ℕ, ◌≡◌, Option, Some, None, Ok, Err, List, length}
+use Rattle.hermes_record.specs.declared.record.Record.{Record}
 use Rattle.hermes.specs.declared.event.Replica.{Replica}
 use Rattle.hermes.specs.declared.event.Event.{Event}
 use Rattle.hermes.specs.declared.event.Moved.{Moved}
 use Rattle.hermes_record.specs.Order.{ties}
 use Rattle.hermes.specs.Node.{Node, lent, effect_of, apply}
-use Rattle.replica_asking.specs.declared.Asked.{Asked}
-use Rattle.replica_asking.specs.declared.Asked.TheVariants.{Passed, Refused}
-use Rattle.replica_asking.specs.Cascade.{asked, beforehand}
+use Rattle.hermes.specs.Answer.{no}
+use Rattle.replica_asking.specs.Cascade.{Asked, asked, beforehand}
 use Rattle.export_numbers.specs.declared.numbers.CetskobiReplica.{CetskobiReplica}
 use Rattle.export_numbers.specs.declared.numbers.CetskobiAnswer.{CetskobiAnswer}
 use Rattle.export_numbers.specs.Crossing.{replica_of, answer_out}
-use Rattle.export_records.specs.declared.reading.Found.{Found}
-use Rattle.export_records.specs.declared.reading.Found.TheVariants.{Here, Missing}
 use Rattle.export_decoding.specs.Decoding.{unsound}
 use Rattle.export_records.specs.Layout.{count_of, table_of, found_at}
 use Rattle.export_storing.specs.Storing.{bytes_after, table_after}
@@ -22,10 +20,10 @@ abbrev pub node_of : CetskobiReplica → List ℕ → List ℕ → Node
 node_of me bytes store = lent (replica_of me) (table_of bytes) store
 
 -- after questions 1 to 4 the record that was found; where there is none, its bytes have no state, and question 5 says no
-abbrev pub with_record : Asked → Found → Asked
-with_record (Refused k) f = Refused k
-with_record (Passed r) (Here s) = Passed s
-with_record (Passed r) Missing = Refused 5
+abbrev pub with_record : Asked → Option Record → Asked
+with_record (Err e) f = Err e
+with_record (Ok r) (Some s) = Ok s
+with_record (Ok r) None = Err (no 5)
 
 -- the beginning of an event on number i, with a store of n bytes: questions 1 to 4, and then the record that the bytes hold there
 abbrev pub beginning : Replica → List ℕ → ℕ → ℕ → Asked

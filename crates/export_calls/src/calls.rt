@@ -1,14 +1,12 @@
 // What every exported event on a record begins and ends with.
 ghost use Rattle.std.specs.Prelude.{◌≡◌};
-ghost use Rattle.replica_asking.specs.Cascade.{asked, beforehand, stopped_by};
-ghost use Rattle.export_numbers.specs.Crossing.{answer_out};
-ghost use Rattle.export_decoding.specs.Decoding.{unsound};
+ghost use Rattle.replica_asking.specs.Cascade.{asked, beforehand};
 ghost use Rattle.export_records.specs.Layout.{count_of};
 ghost use Rattle.export_calls.specs.Calls.{beginning, Finished};
 
+use export_decoding::SIZE;
 use export_numbers::CetskobiAnswer;
-use export_records::{Found, SIZE};
-use hermes::{Moved, Record, Replica};
+use hermes::{Moved, Record, Refused, Replica};
 use replica_asking::Asked;
 
 // Questions 1 to 4 for a table of so many bytes: two calls, so that the count is one value in each, and no choice of two.
@@ -29,24 +27,8 @@ fn beforehand(me: Replica, len: usize, bytes: usize, i: usize, r: Record) -> Ask
 pub fn begin(me: Replica, table: &[u8], bytes: usize, i: usize) -> Asked
     ensures { result ≡ beginning me table.now bytes i }
 {
-    let a = beforehand(me, table.len(), bytes, i, export_decoding::none());
-    let Asked::Passed(_) = a else {
-        return a;
-    };
-    let found = export_records::found_at(table, i);
-    match found {
-        Found::Here(r) => Asked::Passed(r),
-        Found::Missing => Asked::Refused(5),
-    }
-}
-
-// The answer to an event whose beginning was refused.
-pub fn refused(a: Asked) -> CetskobiAnswer
-    ensures { result ≡ answer_out (stopped_by a unsound).answer }
-{
-    let m = replica_asking::stopped(a, export_decoding::none());
-    let answer = m.answer;
-    export_numbers::answer_out(answer)
+    beforehand(me, table.len(), bytes, i, export_decoding::none())?;
+    export_records::found_at(table, i).ok_or(Refused(5))
 }
 
 // The end of an event on record i: its answer, and the bytes of the table.
@@ -54,6 +36,5 @@ pub fn finish(table: &mut [u8], i: usize, m: Moved) -> CetskobiAnswer
     ensures { Finished table.old i m result table.new }
 {
     export_storing::settle(table, i, m);
-    let a = m.answer;
-    export_numbers::answer_out(a)
+    m.answer.into()
 }

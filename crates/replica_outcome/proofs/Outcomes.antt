@@ -66,7 +66,7 @@ module _ (me : Replica) (count bytes i : ℕ) (r : Record) (e : Event) (n : ℕ)
   goes-store a x store s h g = rw (accepted x (sym h ∙ g), same-record x (sym h ∙ g))
 
 -- the events that store nothing
-abbrev Quiet : Event → Type 0
+abbrev pub Quiet : Event → Type 0
 Quiet Read = Unit
 Quiet Ask = Unit
 Quiet Write = ⊥
