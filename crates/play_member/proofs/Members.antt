@@ -3,7 +3,6 @@ use mathlib.Core.Path.{◌≡◌, refl, sym, ap, ◌∙◌}
 use mathlib.Core.Bool.{Bool, true, false}
 use mathlib.Core.List.{List, [], ◌∷◌}
 use Prim.Native.Nat.{ℕ, zero, suc}
-use native.Mathlib.Omega.{arith}
 use lib.ListN.{length, replicate}
 use Rattle.hermes_record.specs.declared.timestamp.Timestamp.{Timestamp}
 use Rattle.hermes_record.specs.declared.record.Record.{Record}
@@ -11,15 +10,13 @@ use Rattle.hermes_record.specs.declared.record.State.{State}
 use Rattle.hermes_record.specs.declared.record.State.TheVariants as state
 use Rattle.hermes.specs.declared.message.Message.{Message}
 use Rattle.hermes.specs.declared.message.Message.TheVariants.{Inv, Ack, Val}
-use Rattle.hermes.specs.declared.message.Outgoing.TheVariants.{None}
+use Rattle.hermes.specs.Answer.{Answer, no}
+use Rattle.std.specs.Prelude.{Err, None, Ok, Some}
 use Rattle.hermes.specs.declared.event.Replica.{Replica}
 use Rattle.hermes.specs.declared.event.Event.{Event}
 use Rattle.hermes.specs.declared.event.Event.TheVariants.{Read, Ask, Write, Commit, Replay, Deliver, Validate, Resend}
 use Rattle.hermes.specs.declared.event.Moved.{Moved}
-use Rattle.hermes.specs.declared.event.Answer.{Answer}
-use Rattle.hermes.specs.declared.event.Answer.TheVariants as answer
-use Rattle.hermes.specs.declared.event.Admission.{Admission}
-use Rattle.hermes.specs.declared.event.Admission.TheVariants as admission
+use Rattle.hermes.specs.declared.event.Refused.{Refused}
 use Rattle.hermes_record.specs.Order.{ties, later}
 use Rattle.hermes.specs.Settings.{under, old_settings}
 use Rattle.hermes_record.specs.Record.{fresh_record}
@@ -57,22 +54,22 @@ module _ (view k : ℕ) where
     store = (begin z (newcomer k view old_settings) (fresh_record 0 ∷ []) (replicate 192 0)).store;
   }
 
-  pub start-admitted : (me : Replica) (r : Record) → admit k view old_settings 1 192 ≡ admission.Admitted me → r ≡ first_record view
-      → ◌≡◌ {A = Member} (record { me = me; held = r; store = replicate 192 0 }) (fresh_in view k)
+  pub start-admitted : (me : Replica) (r : Record) → admit k view old_settings 1 192 ≡ Ok me → r ≡ first_record view
+      → ◌≡◌ {A = Member} (record { me = newcomer k view old_settings; held = r; store = replicate 192 0 }) (fresh_in view k)
   unfolding start fresh_in
   start-admitted me r e er = go (start_refusal k view old_settings 1 192) e
     where
-      go : (z : ℕ) → admission_of z (newcomer k view old_settings) ≡ admission.Admitted me → ◌≡◌ {A = Member} (record { me = me; held = r; store = replicate 192 0 }) (begun_by z)
-      go zero e = let q : me ≡ newcomer k view old_settings = cc in λ i. record { me = q i; held = er i; store = replicate 192 0 }
-      go (suc z) e = let q : ◌≡◌ {A = ℕ} 0 1 = cc in absurd (omega arith)
+      go : (z : ℕ) → admission_of z (newcomer k view old_settings) ≡ Ok me → ◌≡◌ {A = Member} (record { me = newcomer k view old_settings; held = r; store = replicate 192 0 }) (begun_by z)
+      go zero e = λ i. record { me = newcomer k view old_settings; held = er i; store = replicate 192 0 }
+      go (suc z) e = cc
 
-  pub start-refused : (j : ℕ) (r : Record) → admit k view old_settings 1 192 ≡ admission.Refused j → r ≡ fresh_record 0
+  pub start-refused : (j : Refused) (r : Record) → admit k view old_settings 1 192 ≡ Err j → r ≡ fresh_record 0
       → ◌≡◌ {A = Member} (record { me = newcomer k view old_settings; held = r; store = replicate 192 0 }) (fresh_in view k)
   unfolding start fresh_in
   start-refused j r e er = go (start_refusal k view old_settings 1 192) e
     where
-      go : (z : ℕ) → admission_of z (newcomer k view old_settings) ≡ admission.Refused j → ◌≡◌ {A = Member} (record { me = newcomer k view old_settings; held = r; store = replicate 192 0 }) (begun_by z)
-      go zero e = let q : ◌≡◌ {A = ℕ} 0 1 = cc in absurd (omega arith)
+      go : (z : ℕ) → admission_of z (newcomer k view old_settings) ≡ Err j → ◌≡◌ {A = Member} (record { me = newcomer k view old_settings; held = r; store = replicate 192 0 }) (begun_by z)
+      go zero e = cc
       go (suc z) e = λ i. record { me = newcomer k view old_settings; held = er i; store = replicate 192 0 }
 
   -- the one record is the whole table
@@ -128,32 +125,25 @@ effect-index me r store e v = go (refusal me 1 (length store) 0 r e (length v))
 
 pub apply-is : (m : Member) (e : Event) (v : List ℕ) (x : Moved) (s : List ℕ)
     → x ≡ (effect ties m.me 1 0 m.held m.store e v).moved → s ≡ (effect ties m.me 1 0 m.held m.store e v).store
-    → result_of (record { known = true; answer = x.answer; member = record { me = m.me; held = x.after; store = s } }) ≡ event (apply ties (node_of m) 0 e v)
+    → result_of (Some x.answer) (record { me = m.me; held = x.after; store = s }) ≡ event (apply ties (node_of m) 0 e v)
 unfolding apply
 apply-is m e v x s ex es = λ i. event (record { answer = (ex i).answer; node = record { me = m.me; table = (ex i).after ∷ []; store = es i } })
 
-pub view-admitted : (m : Member) (epoch set : ℕ) (next : Replica) → view m.me epoch set ≡ admission.Admitted next
-    → result_of (record { known = true; answer = answer.Accepted None; member = record { me = next; held = m.held; store = m.store } }) ≡ event (viewed (node_of m) epoch set)
+pub view-admitted : (m : Member) (epoch set : ℕ) (next : Replica) → view m.me epoch set ≡ Ok next
+    → result_of (Some (Ok None)) (record { me = next; held = m.held; store = m.store }) ≡ event (viewed (node_of m) epoch set)
 unfolding viewed
 view-admitted m epoch set next e =
     λ i. event (record { answer = answer_of (admission_number (sym e i)) None; node = record { me = identity (sym e i) m.me; table = m.held ∷ []; store = m.store } })
 
 -- a refused admission has a number above 0
-refused-number : (n k : ℕ) (me : Replica) (a : Admission) → a ≡ admission_of n me → a ≡ admission.Refused k → answer.Refused k ≡ answer_of k None
-refused-number zero k me a d e = let z : ◌≡◌ {A = ℕ} 0 1 = cc in absurd (no z)
-  where
-    no : ◌≡◌ {A = ℕ} 0 1 → ⊥
-    no z = omega arith
-refused-number (suc n) k me a d e = let q : k ≡ suc n = cc in rw q
+refused-number : (n : ℕ) (me : Replica) (k : Refused) → admission_of n me ≡ Err k → ◌≡◌ {A = Answer} (Err k) (answer_of k.0 None)
+refused-number zero me k e = cc
+refused-number (suc n) me k e = let q : no (suc n) ≡ k = cc in rw (← q)
 
-view-number : (me : Replica) (epoch set k : ℕ) → view me epoch set ≡ admission.Refused k → answer.Refused k ≡ answer_of k None
-unfolding view
-view-number me epoch set k e =
-    refused-number (first_no (view_questions me epoch set)) k (record { number = me.number; epoch = epoch; view = set; settings = me.settings }) (view me epoch set) refl e
-
-pub view-refused : (m : Member) (epoch set k : ℕ) → view m.me epoch set ≡ admission.Refused k
-    → result_of (record { known = true; answer = answer.Refused k; member = m }) ≡ event (viewed (node_of m) epoch set)
-unfolding viewed
+pub view-refused : (m : Member) (epoch set : ℕ) (k : Refused) → view m.me epoch set ≡ Err k
+    → result_of (Some (Err k)) m ≡ event (viewed (node_of m) epoch set)
+unfolding viewed view
 view-refused m epoch set k e =
-    ap (λ (x : Answer). event (record { answer = x; node = node_of m })) (view-number m.me epoch set k e)
+    ap (λ (x : Answer). event (record { answer = x; node = node_of m }))
+    (refused-number (first_no (view_questions m.me epoch set)) (record { number = m.me.number; epoch = epoch; view = set; settings = m.me.settings }) k e)
     ∙ (λ i. event (record { answer = answer_of (admission_number (sym e i)) None; node = record { me = identity (sym e i) m.me; table = m.held ∷ []; store = m.store } }))

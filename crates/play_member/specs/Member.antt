@@ -1,13 +1,11 @@
 -- How a member that the code holds by value is read as a replica of the run, what an event on it came to, and the room of the log.
-use Rattle.std.specs.Prelude.{ℕ, Bool, true, cond, [], ◌∷◌, replicate, ltb}
-use Rattle.hermes.specs.declared.message.Outgoing.{Outgoing}
-use Rattle.hermes.specs.declared.message.Outgoing.TheVariants.{None, Sent}
+use Rattle.std.specs.Prelude.{ℕ, Bool, true, [], ◌∷◌, replicate, ltb, Option, None, Some}
+use Rattle.hermes.specs.Answer.{Outgoing, Answer}
 use Rattle.hermes_record.specs.Record.{fresh_record}
 use Rattle.hermes.specs.Settings.{old_settings}
 use Rattle.hermes.specs.Node.{Node, Start, newcomer, identity, record_at, start}
 use Rattle.hermes.specs.Run.{Result, nothing, event}
 use Rattle.play_member.specs.declared.member.Member.{Member}
-use Rattle.play_member.specs.declared.member.Judged.{Judged}
 
 -- a replica of one record
 abbrev pub node_of : Member → Node
@@ -25,11 +23,12 @@ fresh_in view k = record {
   store = (start_in view k).store;
 }
 
--- what an entry came to
-abbrev pub result_of : Judged → Result
-result_of j = cond j.known (event (record { answer = j.answer; node = node_of j.member })) nothing
+-- what an entry came to, with the member after it; no answer where there was no event
+abbrev pub result_of : Option Answer → Member → Result
+result_of (Some a) m = event (record { answer = a; node = node_of m })
+result_of None m = nothing
 
 -- 01, "the log holds 256"
 abbrev pub has_room : ℕ → Outgoing → Bool
 has_room sent None = true
-has_room sent (Sent m h) = ltb sent 256
+has_room sent (Some (m, h)) = ltb sent 256

@@ -12,18 +12,12 @@ const MESSAGES_MAX: usize = 256;
 pub fn sent_by(a: Answer) -> Outgoing
     ensures { result ≡ sent_by a }
 {
-    match a {
-        Answer::Accepted(o) => o,
-        Answer::Refused(_) => Outgoing::None,
-    }
+    a.unwrap_or(None)
 }
 
 // Whether the log has room for what leaves.
 pub fn has_room(sent: usize, o: Outgoing) -> bool
     ensures { result ≡ has_room sent o }
 {
-    match o {
-        Outgoing::None => true,
-        Outgoing::Sent(_, _) => sent < MESSAGES_MAX,
-    }
+    o.is_none() || sent < MESSAGES_MAX
 }

@@ -5,4 +5,4 @@ mod answer;
 mod member;
 
 pub use answer::{has_room, sent_by};
-pub use member::{Judged, Member, apply, idle, view};
+pub use member::Member;
