@@ -58,22 +58,15 @@ impl Fields {
     pub fn good(self) -> bool
         ensures { result ≡ good self }
     {
-        if Record::NUMBER_MAX < self.sender {
-            return false;
-        }
-        if Record::NUMBER_MAX < self.tie {
-            return false;
-        }
-        if Self::INDEX_MAX < self.index {
-            return false;
-        }
-        if Record::VALUE_MAX < self.len as usize {
-            return false;
-        }
-        if self.kind == Message::INV {
-            return true;
-        }
-        (Message::INV <= self.kind) & (self.kind <= Message::VAL) & (self.len == 0)
+        self.sender <= Record::NUMBER_MAX
+            && self.tie <= Record::NUMBER_MAX
+            && self.index <= Self::INDEX_MAX
+            && self.len as usize <= Record::VALUE_MAX
+            && match self.kind {
+                Message::INV => true,
+                Message::ACK | Message::VAL => self.len == 0,
+                _ => false,
+            }
     }
 }
 
