@@ -2,45 +2,32 @@
 ghost use Rattle.std.specs.Prelude.{◌≡◌};
 ghost use Rattle.packet_format.specs.Reading.{body_of};
 ghost use Rattle.packet_format.specs.Accepting.{accepted, taken, fetched_of};
+ghost use Rattle.packet_reader.specs.Opening.{Judged};
 
 use crate::entry::fields_of;
-use crate::reader::{header_good, part};
-use crate::walk::table_good;
+use crate::opening::open;
+use crate::reader::part;
+use crate::walk::walk_on;
 use hermes::{Refused, Rule};
 use packet_format::{Accepted, ENTRY_BYTES, HEADER_BYTES, Taken};
 
-// The facts of a packet in a group of this rule: questions 20, 27, 21 and 22, once for all of its messages.
+// Questions 20, 27, 21 and 22 of a packet in a group of this rule, and the count of its messages.
+fn judge(rule: Rule, packet: &[u8]) -> Result<u8, Refused>
+    ensures { Judged rule packet.now result }
+{
+    let count = open(rule, packet)?;
+    let entries = count as usize;
+    walk_on(packet, 0, entries, HEADER_BYTES + ENTRY_BYTES * entries)?;
+    Ok(count)
+}
+
+// The facts of a packet in a group of this rule, once for all of its messages.
 pub fn accept(rule: Rule, packet: &[u8]) -> Accepted
     ensures { result ≡ accepted rule packet.now }
 {
-    if !header_good(packet) {
-        return Accepted {
-            number: 20,
-            count: 0,
-        };
-    }
-    if packet[0] != u8::from(rule) {
-        return Accepted {
-            number: 27,
-            count: 0,
-        };
-    }
-    let count = packet[1] as usize;
-    if packet.len() < HEADER_BYTES + ENTRY_BYTES * count {
-        return Accepted {
-            number: 21,
-            count: 0,
-        };
-    }
-    if !table_good(packet, count) {
-        return Accepted {
-            number: 22,
-            count: 0,
-        };
-    }
-    Accepted {
-        number: 0,
-        count: packet[1],
+    match judge(rule, packet) {
+        Ok(count) => Accepted { number: 0, count },
+        Err(Refused(number)) => Accepted { number, count: 0 },
     }
 }
 
@@ -49,18 +36,15 @@ pub fn take(packet: &[u8], facts: Accepted, i: usize) -> Taken
     ensures { result ≡ taken packet.now facts i }
 {
     if facts.count as usize <= i {
-        if facts.number == 0 {
-            return Err(Refused(23));
-        }
-        return Err(Refused(facts.number));
+        let number = if facts.number == 0 { 23 } else { facts.number };
+        return Err(Refused(number));
     }
-    let n = packet.len();
     let pos = HEADER_BYTES + ENTRY_BYTES * i;
-    if n < pos + ENTRY_BYTES {
+    if packet.len() < pos + ENTRY_BYTES {
         return Err(Refused(21));
     }
     let f = fields_of(&packet[pos..]);
-    if n < f.offset + f.len as usize {
+    if packet.len() < f.offset + f.len as usize {
         return Err(Refused(22));
     }
     Ok(f)
@@ -72,6 +56,6 @@ pub fn body_taken(packet: &[u8], taken: Taken) -> &[u8]
 {
     match taken {
         Ok(f) => part(packet, f.offset, f.len as usize),
-        Err(_) => &packet[..0],
+        Err(_) => &[],
     }
 }

@@ -2,7 +2,6 @@
 ghost use Rattle.std.specs.Prelude.{◌≡◌, ◌≤◌, length};
 ghost use Rattle.packet_format.specs.Entry.{fields_of};
 
-use crate::numbers::{num2, num4};
 use packet_format::Fields;
 
 // The fields of the 16 bytes at the front of `bytes`.
@@ -13,11 +12,11 @@ pub(crate) fn fields_of(bytes: &[u8]) -> Fields
     Fields {
         kind: bytes[0],
         sender: bytes[1],
-        epoch: num4(bytes[2], bytes[3], bytes[4], bytes[5]),
-        index: num2(bytes[6], bytes[7]),
-        version: num4(bytes[8], bytes[9], bytes[10], bytes[11]),
+        epoch: u32::from_be_bytes([bytes[2], bytes[3], bytes[4], bytes[5]]),
+        index: usize::from(u16::from_be_bytes([bytes[6], bytes[7]])),
+        version: u32::from_be_bytes([bytes[8], bytes[9], bytes[10], bytes[11]]),
         tie: bytes[12],
-        offset: num2(bytes[13], bytes[14]),
+        offset: usize::from(u16::from_be_bytes([bytes[13], bytes[14]])),
         len: bytes[15],
     }
 }

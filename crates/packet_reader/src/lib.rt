@@ -3,7 +3,7 @@
 
 mod accepting;
 mod entry;
-mod numbers;
+mod opening;
 mod reader;
 mod walk;
 

@@ -10,11 +10,11 @@ use Rattle.packet_reader.proofs.accepting.take.Goals as goal
 pub returns-then-facts-eq0 : goal.returns-then-facts-eq0
 returns-then-facts-eq0 c = take-23 c.args.packet.now c.args.facts c.args.i c.if-facts-i.true c.if-facts-eq0.true
 
-pub returns-then-facts-i : goal.returns-then-facts-i
-returns-then-facts-i c = take-refused c.args.packet.now c.args.facts c.args.i c.if-facts-i.true c.if-facts-eq0.false
+pub returns-else-facts-eq0 : goal.returns-else-facts-eq0
+returns-else-facts-eq0 c = take-refused c.args.packet.now c.args.facts c.args.i c.if-facts-i.true c.if-facts-eq0.false
 
-pub returns-then-n-pos : goal.returns-then-n-pos
-returns-then-n-pos c = take-21 c.args.packet.now c.args.facts c.args.i c.if-facts-i.false (omega (arith, c.if-n-pos.true))
+pub returns-then-packet-pos : goal.returns-then-packet-pos
+returns-then-packet-pos c = take-21 c.args.packet.now c.args.facts c.args.i c.if-facts-i.false (omega (arith, c.if-packet-pos.true))
 
 pub overflow_add-f : goal.overflow_add-f
 overflow_add-f c =
@@ -23,8 +23,8 @@ overflow_add-f c =
     let e = ap (λ (f : Fields). f.offset) c.fields_of-f.ensures in
     omega (arith, small, e)
 
-pub returns-then-n-f : goal.returns-then-n-f
-returns-then-n-f c = take-22 c.args.packet.now c.args.facts c.args.i c.if-facts-i.false (omega (arith, c.if-n-pos.false)) c.fields_of-f.result c.fields_of-f.ensures c.if-n-f.true
+pub returns-then-packet-f : goal.returns-then-packet-f
+returns-then-packet-f c = take-22 c.args.packet.now c.args.facts c.args.i c.if-facts-i.false (omega (arith, c.if-packet-pos.false)) c.fields_of-f.result c.fields_of-f.ensures c.if-packet-f.true
 
 pub returns : goal.returns
-returns c = take_0 c.args.packet.now c.args.facts c.args.i c.if-facts-i.false (omega (arith, c.if-n-pos.false)) c.fields_of-f.result c.fields_of-f.ensures c.if-n-f.false
+returns c = take_0 c.args.packet.now c.args.facts c.args.i c.if-facts-i.false (omega (arith, c.if-packet-pos.false)) c.fields_of-f.result c.fields_of-f.ensures c.if-packet-f.false
