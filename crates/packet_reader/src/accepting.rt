@@ -36,7 +36,10 @@ pub fn take(packet: &[u8], facts: Accepted, i: usize) -> Taken
     ensures { result ≡ taken packet.now facts i }
 {
     if facts.count as usize <= i {
-        let number = if facts.number == 0 { 23 } else { facts.number };
+        let number = match facts.number {
+            0 => 23,
+            refused => refused,
+        };
         return Err(Refused(number));
     }
     let pos = HEADER_BYTES + ENTRY_BYTES * i;

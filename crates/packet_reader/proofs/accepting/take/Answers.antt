@@ -7,11 +7,11 @@ use Rattle.packet_format.proofs.Accepting.{offset-fits, take-refused, take-23, t
 use borrow.Author.Rules.{rules}
 use Rattle.packet_reader.proofs.accepting.take.Goals as goal
 
-pub returns-then-facts-eq0 : goal.returns-then-facts-eq0
-returns-then-facts-eq0 c = take-23 c.args.packet.now c.args.facts c.args.i c.if-facts-i.true c.if-facts-eq0.true
+pub returns-in-0 : goal.returns-in-0
+returns-in-0 c = take-23 c.args.packet.now c.args.facts c.args.i c.if-facts-i.true c.in-0.is
 
-pub returns-else-facts-eq0 : goal.returns-else-facts-eq0
-returns-else-facts-eq0 c = take-refused c.args.packet.now c.args.facts c.args.i c.if-facts-i.true c.if-facts-eq0.false
+pub returns-in_default : goal.returns-in_default
+returns-in_default c = take-refused c.args.packet.now c.args.facts c.args.i c.if-facts-i.true (λ e. omega (arith, e))
 
 pub returns-then-packet-pos : goal.returns-then-packet-pos
 returns-then-packet-pos c = take-21 c.args.packet.now c.args.facts c.args.i c.if-facts-i.false (omega (arith, c.if-packet-pos.true))
