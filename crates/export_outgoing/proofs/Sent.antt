@@ -3,6 +3,7 @@ use Prim.Native.Nat.{ℕ, zero, suc, ◌+◌, ◌*◌, ◌/◌, ◌<◌, ◌≤�
 use mathlib.Core.Path.{◌≡◌, refl, sym, ap, ◌∙◌}
 use mathlib.Core.Bool.{Bool, true, false, cond, not, ◌&&◌, ◌||◌}
 use mathlib.Core.List.{List}
+use mathlib.Core.Logic.{inl, inr}
 use native.Mathlib.Omega.{arith}
 use lib.Dec.{eqb, ltb, leb}
 use lib.ListN.{length}
@@ -13,11 +14,10 @@ use Rattle.hermes_record.specs.declared.record.State.{State}
 use Rattle.hermes_record.specs.declared.record.State.TheVariants as state
 use Rattle.hermes.specs.declared.message.Message.{Message}
 use Rattle.hermes.specs.declared.message.Message.TheVariants.{Inv, Ack, Val}
-use Rattle.hermes.specs.declared.message.Outgoing.TheVariants.{None, Sent}
+use Rattle.hermes.specs.Answer.{Answer, Outgoing}
+use Rattle.std.specs.Prelude.{None, Ok, Some}
 use Rattle.hermes.specs.declared.message.Received.{Received}
 use Rattle.hermes.specs.declared.event.Replica.{Replica}
-use Rattle.hermes.specs.declared.event.Answer.{Answer}
-use Rattle.hermes.specs.declared.event.Answer.TheVariants.{Accepted}
 use Rattle.hermes.specs.declared.event.Event.{Event}
 use Rattle.hermes.specs.declared.event.Event.TheVariants.{Read, Ask, Write, Commit, Replay, Deliver, Validate, Resend}
 use Rattle.hermes_record.specs.Members.{with, without}
@@ -27,11 +27,11 @@ use Rattle.hermes.specs.Kind as kind
 use Rattle.hermes.specs.Store.{value_at}
 use Rattle.hermes.specs.Event.{leaving_body, recipients, sent_by, send, Step, step, moved_by, deliver_step, inv_step, ack_step, completes, resent, refusal, effect}
 use Rattle.hermes.specs.Node.{Node, record_at, record_of, leaving, apply}
-use Rattle.export_records.specs.Layout.{count_of, table_of}
+use Rattle.export_records.specs.Layout.{table_of, found_at}
 use Rattle.export_records.proofs.Lent.{length-table}
+use Rattle.export_records.proofs.Finding.{found_here, found_below, found-missing}
 use Rattle.export_numbers.specs.declared.numbers.CetskobiAnswer.{CetskobiAnswer}
 use Rattle.export_numbers.specs.Crossing.{answer_out}
-use Rattle.hermes.specs.declared.message.Outgoing.{Outgoing}
 use Rattle.hermes_record.specs.Order.{same_timestamp}
 use Rattle.hermes.specs.Node.{Outcome}
 use Rattle.std.proofs.lemmas.Bool.{and_parts}
@@ -52,7 +52,7 @@ stamp = record { version = 0; tie = 0 }
 -- an INV and a VAL go to all others
 pub to-others : (me : Replica) (sender : ℕ) (inv : Bool)
     → without me.view me.number
-    ≡ recipients me (Deliver (from_sender sender)) (Sent (cond inv (Inv stamp) (cond false (Ack stamp) (Val stamp))) (record { sender = 0; epoch = 0; index = 0 }))
+    ≡ recipients me (Deliver (from_sender sender)) (Some (cond inv (Inv stamp) (cond false (Ack stamp) (Val stamp)), record { sender = 0; epoch = 0; index = 0 }))
 to-others me sender true = refl
 to-others me sender false = refl
 
@@ -61,43 +61,51 @@ pub nothing-along : (bytes store : List ℕ) (i : ℕ) (left : CetskobiAnswer) �
 nothing-along bytes store i left h = rw h (go (kind.known left.kind) (eqb left.kind kind.ack))
   where
     go : (known ack : Bool)
-        → PartAt store i (leaving_body (cond known (Sent (cond false (Inv stamp) (cond ack (Ack stamp) (Val stamp))) (record { sender = 0; epoch = 0; index = i })) None) (record_at (table_of bytes) i) store) 0
+        → PartAt store i (leaving_body (cond known (Some (cond false (Inv stamp) (cond ack (Ack stamp) (Val stamp)), record { sender = 0; epoch = 0; index = i })) None) (record_at (table_of bytes) i) store) 0
     go false ack = no_part store i
     go true true = no_part store i
     go true false = no_part store i
 
--- ---- an INV: the record at its number, r, and whether that holds its text
+-- ---- an INV: the record that is found at its number, r, and whether that holds its text
 
 module _ (bytes store : List ℕ) (i : ℕ) (left : CetskobiAnswer) (inv : left.kind ≡ kind.inv) where
-  pub text-gone : holds (table_of bytes) store i (stamp_of left) ≡ false → AlongAt store i (along_of bytes store i left) 18446744073709551615
+  text-gone : holds (table_of bytes) store i (stamp_of left) ≡ false → AlongAt store i (along_of bytes store i left) 18446744073709551615
   text-gone h = rw (inv, h)
 
-  pub past_end : count_of (length bytes) ≤ i → AlongAt store i (along_of bytes store i left) 18446744073709551615
-  past_end h = text-gone (rw (length-table bytes, le-ltb _ _ h))
+  pub nothing_there : found_at bytes i ≡ None → AlongAt store i (along_of bytes store i left) 18446744073709551615
+  nothing_there n =
+      elim (found-missing bytes i n) [
+        | inl h ↦ text-gone (rw (length-table bytes, le-ltb _ _ h))
+        | inr e ↦ text-gone (rw e (short _ _ (ltb i (length store / 192))))
+      ]
+    where
+      short : (a b c : Bool) → (a && (b && (leb 255 192 && c))) ≡ false
+      short true true c = refl
+      short true false c = refl
+      short false b c = refl
 
-  module _ (r : Record) (below : i < count_of (length bytes)) (er : r ≡ record_at (table_of bytes) i) where
-    inside : ltb i (length (table_of bytes)) ≡ true
-    inside = rw (length-table bytes) (lt-ltb _ _ below)
+  module _ (r : Record) (f : found_at bytes i ≡ Some r) where
+    here : r ≡ record_at (table_of bytes) i
+    here = found_here bytes i r f
 
     -- the test of the code
-    test : (same : Bool) → same ≡ same_timestamp (stamp_of left) r.timestamp
-        → holds (table_of bytes) store i (stamp_of left) ≡ (same && (leb r.len 192 && ltb i (length store / 192)))
-    test same e = rw (inside, e, er)
+    test : holds (table_of bytes) store i (stamp_of left) ≡ (same_timestamp (stamp_of left) r.timestamp && (leb r.len 192 && ltb i (length store / 192)))
+    test = rw (length-table bytes, lt-ltb _ _ (found_below bytes i r f), here)
 
-    pub text-here : (same : Bool) → same ≡ same_timestamp (stamp_of left) r.timestamp → (same && (leb r.len 192 && ltb i (length store / 192))) ≡ true
+    pub text_here : (same_timestamp (stamp_of left) r.timestamp && (leb r.len 192 && ltb i (length store / 192))) ≡ true
         → AlongAt store i (along_of bytes store i left) r.len
-    text-here same e h =
-        let (a, b) = and_parts same (leb r.len 192 && ltb i (length store / 192)) h in
+    text_here h =
+        let (a, b) = and_parts (same_timestamp (stamp_of left) r.timestamp) (leb r.len 192 && ltb i (length store / 192)) h in
         let (c, d) = and_parts (leb r.len 192) (ltb i (length store / 192)) b in
         let p : PartAt store i (value_at i r.len store) r.len = whole_part store i r.len (omega (arith, leb-true r.len 192 c, ltb-true i (length store / 192) d)) in
-        rw (inv, test same e ∙ h, ← er) p
+        rw (inv, test ∙ h, ← here) p
 
-    pub not-here : (same : Bool) → same ≡ same_timestamp (stamp_of left) r.timestamp → (same && (leb r.len 192 && ltb i (length store / 192))) ≡ false
+    pub text_not_here : (same_timestamp (stamp_of left) r.timestamp && (leb r.len 192 && ltb i (length store / 192))) ≡ false
         → AlongAt store i (along_of bytes store i left) 18446744073709551615
-    not-here same e h = text-gone (test same e ∙ h)
+    text_not_here h = text-gone (test ∙ h)
 
--- what `cetskobi_body` answers beyond the table, and of a text that is there
-pub ruleset body_answers = (past_end, text-here)
+-- what `cetskobi_body` answers to an INV
+pub ruleset body_answers = (nothing_there, text_here, text_not_here)
 
 -- ---- what left an event
 
@@ -108,16 +116,16 @@ Tells me e sender i a =
     × ((table : List Record) (store : List ℕ) → leaving_body (left_of (answer_out a).kind i) (record_at table i) store ≡ leaving (sent_by a) table store)
 
 module _ (me : Replica) (i sender : ℕ) where
-  nothing : (e : Event) → Tells me e sender i (Accepted None)
+  nothing : (e : Event) → Tells me e sender i (Ok None)
   nothing e = (refl, λ table store. refl)
 
-  inv : (e : Event) (t : Timestamp) → Tells me e sender i (Accepted (send me i (Inv t)))
+  inv : (e : Event) (t : Timestamp) → Tells me e sender i (Ok (send me i (Inv t)))
   inv e t = (refl, λ table store. refl)
 
-  val : (e : Event) (t : Timestamp) → Tells me e sender i (Accepted (send me i (Val t)))
+  val : (e : Event) (t : Timestamp) → Tells me e sender i (Ok (send me i (Val t)))
   val e t = (refl, λ table store. refl)
 
-  again : (s : State) (t : Timestamp) → Tells me Resend sender i (Accepted (resent me i s t))
+  again : (s : State) (t : Timestamp) → Tells me Resend sender i (Ok (resent me i s t))
   again state.Valid t = val Resend t
   again state.Invalid t = nothing Resend
   again state.InvalidWrite t = nothing Resend
@@ -125,20 +133,20 @@ module _ (me : Replica) (i sender : ℕ) where
   again state.Replay t = inv Resend t
 
   module _ (r : Record) (m : Received) (v : List ℕ) (from : sender ≡ m.sender) where
-    ack : (b : Bool) (t : Timestamp) → Tells me (Deliver m) sender i (Accepted (inv_step b me i r t m.sender v).sent)
+    ack : (b : Bool) (t : Timestamp) → Tells me (Deliver m) sender i (Ok (inv_step b me i r t m.sender v).sent)
     ack true t = (ap (with 0) from, λ table store. refl)
     ack false t = (ap (with 0) from, λ table store. refl)
 
-    settling : (c : Bool) → Tells me (Deliver m) sender i (Accepted (ack_step c me i r m.sender).sent)
+    settling : (c : Bool) → Tells me (Deliver m) sender i (Ok (ack_step c me i r m.sender).sent)
     settling true = val (Deliver m) r.timestamp
     settling false = nothing (Deliver m)
 
-    delivered : (x : Message) → Tells me (Deliver m) sender i (Accepted (deliver_step ties me i r m.sender x v).sent)
+    delivered : (x : Message) → Tells me (Deliver m) sender i (Ok (deliver_step ties me i r m.sender x v).sent)
     delivered (Inv t) = ack (later (under ties me.settings) t r.timestamp) t
     delivered (Ack t) = settling (completes me r m.sender)
     delivered (Val t) = nothing (Deliver m)
 
-  steps : (r : Record) (e : Event) (v : List ℕ) → Delivered e sender → Tells me e sender i (Accepted (step ties me i r e v).sent)
+  steps : (r : Record) (e : Event) (v : List ℕ) → Delivered e sender → Tells me e sender i (Ok (step ties me i r e v).sent)
   steps r Read v d = nothing Read
   steps r Ask v d = nothing Ask
   steps r Write v d = inv Write (step ties me i r Write v).after.timestamp
@@ -148,7 +156,7 @@ module _ (me : Replica) (i sender : ℕ) where
   steps r Validate v d = val Validate r.timestamp
   steps r Resend v d = again r.state r.timestamp
 
-  answers : (k : ℕ) (r : Record) (e : Event) (s : Step) → Tells me e sender i (Accepted s.sent) → Tells me e sender i (moved_by k r s).answer
+  answers : (k : ℕ) (r : Record) (e : Event) (s : Step) → Tells me e sender i (Ok s.sent) → Tells me e sender i (moved_by k r s).answer
   answers zero r e s h = h
   answers (suc k) r e s h = (refl, λ table store. refl)
 
@@ -157,9 +165,9 @@ module _ (me : Replica) (i sender : ℕ) where
 -- an INV has its record's timestamp
 abbrev Stamped : Outgoing → Record → Type 0
 Stamped None r = Unit
-Stamped (Sent (Inv t) h) r = t ≡ r.timestamp
-Stamped (Sent (Ack t) h) r = Unit
-Stamped (Sent (Val t) h) r = Unit
+Stamped (Some (Inv t, h)) r = t ≡ r.timestamp
+Stamped (Some (Ack t, h)) r = Unit
+Stamped (Some (Val t, h)) r = Unit
 
 module _ (me : Replica) (i : ℕ) (r : Record) (v : List ℕ) where
   again-stamped : (s : State) → Stamped (resent me i s r.timestamp) r
@@ -197,15 +205,15 @@ abbrev Held : Answer → ℕ → List Record → List ℕ → Type 0
 Held a i table store = (not (eqb (answer_out a).kind kind.inv) || holds table store i (stamp_of (answer_out a))) ≡ true
 
 held : (o : Outgoing) (i : ℕ) (table : List Record) (store : List ℕ) (r : Record) → Stamped o r → record_at table i ≡ r → i < length table → r.len ≤ 192 → 192 * i + 192 ≤ length store
-    → Held (Accepted o) i table store
+    → Held (Ok o) i table store
 held None i table store r s e a b c = refl
-held (Sent (Inv t) h) i table store r s e a b c =
+held (Some (Inv t, h)) i table store r s e a b c =
     let room : i < length store / 192 = omega arith in
     let short : (record_at table i).len ≤ 192 = rw e b in
     let same : t ≡ (record_at table i).timestamp = s ∙ ap (λ (x : Record). x.timestamp) (sym e) in
     rw (lt-ltb _ _ a, equal-same t (record_at table i).timestamp same, le-leb _ _ short, lt-ltb _ _ room)
-held (Sent (Ack t) h) i table store r s e a b c = refl
-held (Sent (Val t) h) i table store r s e a b c = refl
+held (Some (Ack t, h)) i table store r s e a b c = refl
+held (Some (Val t, h)) i table store r s e a b c = refl
 
 holding : (n : Node) (i : ℕ) (e : Event) (v : List ℕ) (o : Outcome) → Applied ties n i e v o → Held o.answer i o.node.table o.node.store
 holding n i e v o (refused k z p) = rw p

@@ -1,10 +1,9 @@
 -- What leaves an event, for a caller that has its answer: who gets it, and the bytes that it takes along.
-use Rattle.std.specs.Prelude.{ℕ, ◌/◌, ◌≡◌, Bool, true, false, cond, not, ◌&&◌, ◌||◌, List, eqb, ltb, leb, length}
+use Rattle.std.specs.Prelude.{ℕ, ◌/◌, ◌≡◌, Bool, true, false, cond, not, ◌&&◌, ◌||◌, List, eqb, ltb, leb, length, None, Some}
 use Rattle.hermes_record.specs.declared.timestamp.Timestamp.{Timestamp}
 use Rattle.hermes_record.specs.declared.record.Record.{Record}
 use Rattle.hermes.specs.declared.message.Message.TheVariants.{Inv}
-use Rattle.hermes.specs.declared.message.Outgoing.{Outgoing}
-use Rattle.hermes.specs.declared.message.Outgoing.TheVariants.{None, Sent}
+use Rattle.hermes.specs.Answer.{Outgoing}
 use Rattle.hermes.specs.declared.message.Received.{Received}
 use Rattle.hermes.specs.declared.event.Replica.{Replica}
 use Rattle.hermes.specs.declared.event.Event.{Event}
@@ -20,7 +19,7 @@ use Rattle.export_calls.specs.Part.{PartAt}
 -- a message of this kind about record i, stamped 0; of a kind that is none of the three nothing
 abbrev pub left_of : ℕ → ℕ → Outgoing
 left_of kind i =
-    cond (known kind) (Sent (message_of kind (record { version = 0; tie = 0 })) (record { sender = 0; epoch = 0; index = i })) None
+    cond (known kind) (Some (message_of kind (record { version = 0; tie = 0 }), record { sender = 0; epoch = 0; index = i })) None
 
 -- ---- who gets it
 

@@ -1,5 +1,5 @@
 -- What is found at a number: the table's record, or none, and then question 4 or question 5 says no.
-use Prim.Native.Nat.{ℕ, ◌*◌, ◌≤◌}
+use Prim.Native.Nat.{ℕ, ◌*◌, ◌<◌, ◌≤◌}
 use mathlib.Core.Path.{◌≡◌, refl, ◌∙◌}
 use mathlib.Core.Bool.{Bool, true, false, cond}
 use mathlib.Core.List.{List}
@@ -21,6 +21,13 @@ found_here bytes i r e = go (ltb i (count_of (length bytes))) (ltb 4 (get_or byt
     go true true h = cc
     go true false h = cc
     go false b h = cc
+
+pub found_below : (bytes : List ℕ) (i : ℕ) (r : Record) → found_at bytes i ≡ Some r → i < count_of (length bytes)
+found_below bytes i r e = go (ltb i (count_of (length bytes))) refl e
+  where
+    go : (a : Bool) → ltb i (count_of (length bytes)) ≡ a → cond a (cond (ltb 4 (get_or bytes (16 * i) 0)) None (Some (record_at (table_of bytes) i))) None ≡ Some r → i < count_of (length bytes)
+    go true ha h = ltb-true i (count_of (length bytes)) ha
+    go false ha h = cc
 
 no-state : (bytes : List ℕ) (at : ℕ) → ltb 4 (get_or bytes at 0) ≡ true → decode_at bytes at ≡ unsound
 unfolding decode
