@@ -3,14 +3,14 @@ ghost use Rattle.std.specs.Prelude.{◌≡◌, [], ◌∷◌, replicate};
 ghost use Rattle.hermes_record.specs.Order.{ties};
 ghost use Rattle.hermes_record.specs.Record.{fresh_record};
 ghost use Rattle.hermes.specs.declared.event.Event.TheVariants.{Read};
-ghost use Rattle.hermes.specs.Node.{lent, start, apply, leaving};
-ghost use Rattle.check_story.specs.Laptop.{started};
+ghost use Rattle.hermes.specs.Node.{start, apply, leaving};
+ghost use Rattle.check_story.specs.Laptop.{node_of, started};
 
 use crate::telling::text;
 use hermes::{Answer, Event, Outgoing, Record, Refused, Replica, Settings};
 use std::io;
 
-#[derive(Clone, Copy)]
+#[derive(Drop)]
 pub(crate) struct Laptop {
     me: Replica,
     records: [Record; 1],
@@ -30,16 +30,14 @@ impl Laptop {
 
     // An event on the record.
     pub(crate) fn turn(&mut self, e: Event, value: &[u8]) -> Answer
-        ensures { (result ≡ (apply ties (lent self.old.me self.old.records self.old.bytes) 0 e value.now).answer)
-            × ((self.new.records ≡ (apply ties (lent self.old.me self.old.records self.old.bytes) 0 e value.now).node.table)
-            × (self.new.bytes ≡ (apply ties (lent self.old.me self.old.records self.old.bytes) 0 e value.now).node.store)) }
+        ensures { (result ≡ (apply ties (node_of self.old) 0 e value.now).answer) × (node_of self.new ≡ (apply ties (node_of self.old) 0 e value.now).node) }
     {
         replica_table::apply(self.me, &mut self.records, &mut self.bytes, 0, e, value)
     }
 
     // The number of a read of the record.
     pub(crate) fn read_number(&self) -> Answer
-        ensures { result ≡ (apply ties (lent self.now.me self.now.records self.now.bytes) 0 Read []).answer }
+        ensures { result ≡ (apply ties (node_of self.now) 0 Read []).answer }
     {
         replica_table::read_number(self.me, &self.records, &self.bytes, 0)
     }
@@ -54,9 +52,8 @@ impl Laptop {
 
     // What left another laptop as event e, with the bytes that it takes along out of that laptop's arrays.
     pub(crate) fn deliver(&mut self, out: Outgoing, from: &Laptop, e: Event) -> Answer
-        ensures { (result ≡ (apply ties (lent self.old.me self.old.records self.old.bytes) 0 e (leaving out from.now.records from.now.bytes)).answer)
-            × ((self.new.records ≡ (apply ties (lent self.old.me self.old.records self.old.bytes) 0 e (leaving out from.now.records from.now.bytes)).node.table)
-            × (self.new.bytes ≡ (apply ties (lent self.old.me self.old.records self.old.bytes) 0 e (leaving out from.now.records from.now.bytes)).node.store)) }
+        ensures { (result ≡ (apply ties (node_of self.old) 0 e (leaving out from.now.records from.now.bytes)).answer)
+            × (node_of self.new ≡ (apply ties (node_of self.old) 0 e (leaving out from.now.records from.now.bytes)).node) }
     {
         self.turn(e, replica_table::body(out, &from.records, &from.bytes))
     }

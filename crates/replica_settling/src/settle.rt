@@ -5,14 +5,13 @@ ghost use Rattle.hermes.specs.Event.{moved, moved_by, completes, ack_step, valid
 ghost use Rattle.hermes.specs.declared.event.Event.TheVariants.{Replay, Validate, Resend};
 
 use hermes::{Message, Moved, Outgoing, Record, Replica, State, Timestamp};
+use replica_guards::{question15, question16, question17};
 
 // A replay of record i, r.
 pub fn replay(me: Replica, count: usize, bytes: usize, i: usize, r: Record) -> Moved
     ensures { result ≡ moved ties me count bytes i r Replay [] }
 {
-    let a = replica_asking::every(me, count, bytes, i, r).and_then(|x| replica_guards::question16(
-        me, x,
-    ));
+    let a = replica_asking::every(me, count, bytes, i, r).and_then(|x| question16(me, x));
     let Ok(r1) = a else {
         return replica_asking::stopped(a, r);
     };
@@ -36,9 +35,7 @@ fn validated(me: Replica, i: usize, r: Record) -> Moved
 pub fn validate(me: Replica, count: usize, bytes: usize, i: usize, r: Record) -> Moved
     ensures { result ≡ moved ties me count bytes i r Validate [] }
 {
-    let a = replica_asking::every(me, count, bytes, i, r).and_then(|x| replica_guards::question15(
-        me, x,
-    ));
+    let a = replica_asking::every(me, count, bytes, i, r).and_then(|x| question15(me, x));
     let Ok(r1) = a else {
         return replica_asking::stopped(a, r);
     };
@@ -51,7 +48,7 @@ pub fn acknowledge(me: Replica, i: usize, r: Record, sender: u8) -> Moved
     ensures { result ≡ moved_by 0 r (ack_step (completes me r sender) me i r sender) }
 {
     let counted = r.acknowledge(sender);
-    match replica_guards::question15(me, counted) {
+    match question15(me, counted) {
         Ok(r1) => validated(me, i, r1),
         Err(_) => replica_outcome::accepted(None, counted),
     }
@@ -72,9 +69,7 @@ fn again(me: Replica, i: usize, s: State, t: Timestamp) -> Outgoing
 pub fn resend(me: Replica, count: usize, bytes: usize, i: usize, r: Record) -> Moved
     ensures { result ≡ moved ties me count bytes i r Resend [] }
 {
-    let a = replica_asking::every(me, count, bytes, i, r).and_then(|x| replica_guards::question17(
-        me, x,
-    ));
+    let a = replica_asking::every(me, count, bytes, i, r).and_then(|x| question17(me, x));
     let Ok(r1) = a else {
         return replica_asking::stopped(a, r);
     };
