@@ -1,0 +1,12 @@
+-- `every` meets its contract: question 5 is asked of the record that the first four passed on.
+use Rattle.std.proofs.Common.{[], ◌∷◌, sym, ◌∙◌}
+use Rattle.hermes_record.specs.declared.record.Record.{Record}
+use Rattle.hermes.specs.Guards.{question5}
+use Rattle.replica_asking.specs.Cascade.{beforehand}
+use Rattle.replica_asking.proofs.Cascade.{then}
+use Rattle.replica_asking.proofs.every.Goals as goal
+
+pub returns : goal.returns
+returns c =
+    let v = c.args in
+    c.question5.ensures ∙ sym (then (beforehand v.me v.count v.bytes v.i) (λ (x : Record). question5 v.me x ∷ []) v.r _ (sym c.beforehand.ensures ∙ c.in_ok-r.was))
