@@ -39,7 +39,7 @@ use Rattle.hermes_record.proofs.Order.{equal-same}
 use Rattle.hermes.proofs.Recipients.{who-gets}
 use Rattle.hermes.proofs.Guards.{slot-fits}
 use Rattle.hermes.proofs.Apply.{Applied, refused, accepted, applied, first-five, sound-step, step_of, done}
-use Rattle.export_outgoing.specs.Leaving.{left_of, from_sender, recipients_of, Delivered, along, stamp_of, holds, along_of, AlongAt}
+use Rattle.export_outgoing.specs.Leaving.{left_of, from_sender, recipients_of, Delivered, along, stamp_of, has_text, holds, along_of, AlongAt}
 use Rattle.export_outgoing.specs.Sent.{AskedWhoGets, AskedBody}
 use Rattle.export_calls.specs.Part.{PartAt}
 use Rattle.export_calls.proofs.Parts.{whole_part, no_part}
@@ -89,19 +89,17 @@ module _ (bytes store : List ℕ) (i : ℕ) (left : CetskobiAnswer) (inv : left.
     here = found_here bytes i r f
 
     -- the test of the code
-    test : holds (table_of bytes) store i (stamp_of left) ≡ (same_timestamp (stamp_of left) r.timestamp && (leb r.len 192 && ltb i (length store / 192)))
+    test : holds (table_of bytes) store i (stamp_of left) ≡ has_text r (stamp_of left) (length store) i
     test = rw (length-table bytes, lt-ltb _ _ (found_below bytes i r f), here)
 
-    pub text_here : (same_timestamp (stamp_of left) r.timestamp && (leb r.len 192 && ltb i (length store / 192))) ≡ true
-        → AlongAt store i (along_of bytes store i left) r.len
+    pub text_here : has_text r (stamp_of left) (length store) i ≡ true → AlongAt store i (along_of bytes store i left) r.len
     text_here h =
         let (a, b) = and_parts (same_timestamp (stamp_of left) r.timestamp) (leb r.len 192 && ltb i (length store / 192)) h in
         let (c, d) = and_parts (leb r.len 192) (ltb i (length store / 192)) b in
         let p : PartAt store i (value_at i r.len store) r.len = whole_part store i r.len (omega (arith, leb-true r.len 192 c, ltb-true i (length store / 192) d)) in
         rw (inv, test ∙ h, ← here) p
 
-    pub text_not_here : (same_timestamp (stamp_of left) r.timestamp && (leb r.len 192 && ltb i (length store / 192))) ≡ false
-        → AlongAt store i (along_of bytes store i left) 18446744073709551615
+    pub text_not_here : has_text r (stamp_of left) (length store) i ≡ false → AlongAt store i (along_of bytes store i left) 18446744073709551615
     text_not_here h = text-gone (test ∙ h)
 
 -- what `cetskobi_body` answers to an INV

@@ -57,12 +57,13 @@ along_if false v = gone
 abbrev pub stamp_of : CetskobiAnswer → Timestamp
 stamp_of left = record { version = left.version; tie = left.tie }
 
--- record i still has this timestamp, and so the text that an INV of it takes along; and all its bytes are there
+-- the record still has this timestamp, and so the text that an INV of it takes along; and all its bytes are there, as record i's in a store of so many
+abbrev pub has_text : Record → Timestamp → ℕ → ℕ → Bool
+has_text r t bytes i = same_timestamp t r.timestamp && (leb r.len 192 && ltb i (bytes / 192))
+
+-- record i does
 abbrev pub holds : List Record → List ℕ → ℕ → Timestamp → Bool
-holds table store i t =
-    ltb i (length table)
-    && (same_timestamp t (record_at table i).timestamp
-    && (leb (record_at table i).len 192 && ltb i (length store / 192)))
+holds table store i t = ltb i (length table) && has_text (record_at table i) t (length store) i
 
 -- 01, "an INV leaves with the value": the bytes of what left, about record i, while the record holds them; only an INV takes any
 abbrev pub along_of : List ℕ → List ℕ → ℕ → CetskobiAnswer → Along

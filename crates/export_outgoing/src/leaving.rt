@@ -1,8 +1,7 @@
 // What leaves an event, for C and Rust: who gets it, and the bytes that it takes along.
-ghost use Rattle.std.specs.Prelude.{◌≡◌, ◌/◌, ◌&&◌, ltb, leb};
-ghost use Rattle.hermes_record.specs.Order.{same_timestamp};
+ghost use Rattle.std.specs.Prelude.{◌≡◌};
 ghost use Rattle.export_numbers.specs.Crossing.{replica_of};
-ghost use Rattle.export_outgoing.specs.Leaving.{recipients_of, along_of, AlongAt};
+ghost use Rattle.export_outgoing.specs.Leaving.{recipients_of, has_text, along_of, AlongAt};
 
 use export_numbers::{CetskobiAnswer, CetskobiReplica};
 use hermes::{Message, Record, Timestamp};
@@ -22,10 +21,10 @@ pub extern "C" fn cetskobi_recipients(me: CetskobiReplica, kind: u8, sender: u8)
     }
 }
 
-// Does the record still hold the text of this timestamp, and are all its bytes in a store of so many?
+// Does the record still have this timestamp, and so its text, and are all the bytes of that there, as record i's in a store of so many?
 #[tactic(auto, unfolding(hermes_record::specs::Order::same_timestamp))]
-fn holds(r: Record, timestamp: Timestamp, bytes: usize, i: usize) -> bool
-    ensures { result ≡ (same_timestamp timestamp r.timestamp && (leb r.len 192 && ltb i (bytes / 192))) }
+fn has_text(r: Record, timestamp: Timestamp, bytes: usize, i: usize) -> bool
+    ensures { result ≡ has_text r timestamp bytes i }
 {
     timestamp == r.timestamp && r.len as usize <= Record::VALUE_MAX && i < bytes / Record::VALUE_MAX
 }
@@ -46,7 +45,7 @@ pub extern "C" fn cetskobi_body(table: &[u8], store: &[u8], i: usize, left: Cets
         version: left.version,
         tie: left.tie,
     };
-    if holds(r, timestamp, store.len(), i) {
+    if has_text(r, timestamp, store.len(), i) {
         r.len as usize
     } else {
         GONE
