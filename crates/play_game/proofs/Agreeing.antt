@@ -7,8 +7,8 @@ use native.Mathlib.Omega.{arith}
 use borrow.Author.Tests.{ltb-true}
 use lib.Dec.{ltb}
 use lib.ListN.{length, replicate}
-use Rattle.hermes.specs.declared.event.Admission.{Admission}
-use Rattle.hermes.specs.declared.event.Admission.TheVariants.{Admitted}
+use Rattle.hermes.specs.Answer.{Admission}
+use Rattle.std.specs.Prelude.{Ok, Option, None, Some}
 use Rattle.hermes_record.specs.Members.{has, size, lowest}
 use Rattle.hermes_record.specs.Order.{ties}
 use Rattle.hermes_record.specs.Record.{fresh_record}
@@ -21,8 +21,7 @@ use Rattle.hermes.proofs.Agreement.{run-append, agreement}
 use Rattle.play_script.specs.Command.{line_of, text_of}
 use Rattle.play_words.specs.declared.command.Command.{Command}
 use Rattle.play_words.specs.declared.command.Command.TheVariants.{Read, Write, Replay, Deliver, Validate, Resend, View}
-use Rattle.play_script.specs.declared.command.Line.{Line}
-use Rattle.play_script.specs.declared.command.Line.TheVariants as line
+use Rattle.play_script.specs.declared.line.Entry.{Entry as Asked}
 use Rattle.play_member.specs.Member.{start_in, fresh_in, has_room}
 use Rattle.play_member.proofs.Members.{fresh-table}
 use Rattle.play_game.specs.Play.{fresh_node, fresh_group, played, reply, unknown, action_of, entry_turn, turn_of, turn, after, entries_of}
@@ -67,9 +66,9 @@ of_entry n issued g a h = go (ltb a.who n) refl
     go true e = of-result n issued (length g.log) a (result ties g a) e h
     go false e = tt
 
-of-line : (n : ℕ) (issued : ℕ → ℕ) (g : Group) (s : List ℕ) (l : Line) → OfLine issued l → Entries (λ k. ltb k n) issued (turn_of n g s l).entries
-of-line n issued g s (line.Entry who c) h = of_entry n issued g (record { who = who; what = action_of c (text_of s) }) (as-issued issued c (text_of s) h)
-of-line n issued g s line.Unknown h = tt
+of-line : (n : ℕ) (issued : ℕ → ℕ) (g : Group) (s : List ℕ) (l : Option Asked) → OfLine issued l → Entries (λ k. ltb k n) issued (turn_of n g s l).entries
+of-line n issued g s (Some e) h = of_entry n issued g (record { who = e.laptop; what = action_of e.command (text_of s) }) (as-issued issued e.command (text_of s) h)
+of-line n issued g s None h = tt
 
 of-script : (n : ℕ) (issued : ℕ → ℕ) (g : Group) (ls : List (List ℕ)) → OneViewEach issued ls → Entries (λ k. ltb k n) issued (entries_of n g ls)
 unfolding entries_of turn
@@ -79,7 +78,7 @@ of-script n issued g (s ∷ rest) h =
 
 -- ---- the fresh start of each laptop is accepted
 
-pub fresh_start : (n k : ℕ) → 2 ≤ n → n ≤ 4 → k < n → (start_in (2 ^ n - 1) k).admission ≡ Admitted (newcomer k (2 ^ n - 1) old_settings)
+pub fresh_start : (n k : ℕ) → 2 ≤ n → n ≤ 4 → k < n → (start_in (2 ^ n - 1) k).admission ≡ Ok (newcomer k (2 ^ n - 1) old_settings)
 unfolding start has size lowest
 fresh_start zero k l h e = absurd (omega arith)
 fresh_start (suc zero) k l h e = absurd (omega arith)
@@ -105,14 +104,14 @@ started n l h issued i = record {
     store = replicate 192 0;
     records = refl;
     accepted =
-        ap (λ (v : ℕ). (start_in v k).admission) i ∙ at k e ∙ ap (λ (x : Admission). Admitted (identity x (newcomer k (2 ^ n - 1) old_settings))) (sym (at k e));
+        ap (λ (v : ℕ). (start_in v k).admission) i ∙ at k e ∙ ap (λ (x : Admission). Ok (identity x (newcomer k (2 ^ n - 1) old_settings))) (sym (at k e));
     table_after = fresh-table (2 ^ n - 1) k ∙ ap (λ (v : ℕ). (start_in v k).table) (sym i);
     store_after = ap (λ (v : ℕ). (start_in v k).store) (sym i);
   };
   silent = refl;
 }
   where
-    at : (k : ℕ) → ltb k n ≡ true → (start_in (2 ^ n - 1) k).admission ≡ Admitted (newcomer k (2 ^ n - 1) old_settings)
+    at : (k : ℕ) → ltb k n ≡ true → (start_in (2 ^ n - 1) k).admission ≡ Ok (newcomer k (2 ^ n - 1) old_settings)
     at k e = fresh_start n k l h (ltb-true k n e)
 
 pub played-agrees : PlayedAgrees

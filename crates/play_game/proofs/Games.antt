@@ -1,142 +1,76 @@
 -- A script line by line: what is still to be printed after a line is what its rest prints.
-use mathlib.Core.Path.{◌≡◌, refl, sym, ap, ◌∙◌, subst}
-use mathlib.Core.Bool.{true, false, cond}
-use mathlib.Core.List.{List, [], ◌∷◌, ◌++◌}
-use Prim.Native.Nat.{ℕ, zero, suc, ◌+◌, ◌-◌, ◌*◌, ◌≤◌, ◌<◌}
-use native.Mathlib.Nat.{zero-add, not-suc-le-zero}
-use native.Mathlib.Omega.{arith}
-use borrow.Author.Tests.{le-ltb, leb-true}
-use lib.Dec.{ltb, leb, eqb}
-use lib.ListN.{length, take, drop, get_or, set, length-set, length-append, drop_of_length-le}
+use Rattle.std.proofs.Common.{◌≡◌, ℕ, zero, suc, ◌+◌, ◌-◌, ◌*◌, ◌≤◌, ◌<◌, true, false, leb, leb-true, List, [], ◌∷◌, ◌++◌, length, take, drop, append_assoc, append-nil, drop_of_length-le, refl, sym, ap, ◌∙◌, arith, Option, None, Some}
+use native.Mathlib.Nat.{zero-add}
 use lib.Seq.{sets, take-nil}
-use Rattle.play_script.specs.Text.{lines}
-use Rattle.play_script.specs.Command.{line_of, size_of}
-use Rattle.play_script.specs.declared.command.Line.{Line}
-use Rattle.play_script.specs.declared.line.Size.{Size}
-use Rattle.play_script.proofs.Words.{size-empty}
-use Rattle.hermes_record.specs.Order.{ties}
-use Rattle.hermes.specs.Run.{Group, run}
 use Rattle.std.proofs.lemmas.Bool.{and_parts}
-use Rattle.play_member.specs.declared.member.Member.{Member}
-use Rattle.play_game.specs.declared.cluster.Cluster.{Cluster}
-use Rattle.play_game.specs.declared.turn.Done.{Done}
-use Rattle.play_game.specs.declared.game.Played.TheVariants.{Printed, Refused}
-use Rattle.play_lines.specs.Print.{Put}
+use Rattle.hermes.specs.Run.{Group}
+use Rattle.play_script.specs.Text.{lines}
+use Rattle.play_script.specs.Command.{size_of}
+use Rattle.play_script.proofs.Words.{size-empty}
+use Rattle.play_lines.specs.Print.{Prints}
+use Rattle.play_lines.specs.declared.print.Printer.{Printer}
+use Rattle.play_lines.proofs.Printing.{moved, prints_then}
 use Rattle.play_bounds.specs.declared.bounds.Bounds.{Bounds}
 use Rattle.play_bounds.specs.Bounds.{playable, LineAt, BoundsAt}
-use Rattle.play_game.specs.Play.{fresh_node, fresh_group, reply, turn, turn_of, after, prints, begun, opened, printed, played_answer, output_of}
-use Rattle.play_log.specs.Log.{up_to, log_of}
-use Rattle.play_member.specs.Member.{node_of}
-use Rattle.play_game.specs.Cluster.{no_member, group_of, fresh_member, fresh_cluster, Sound, who_of, line_result, node_by, log_by, commit, DoneIs}
-use Rattle.play_game.proofs.Clusters.{node_at, group-set, log_is, log-length}
-use Rattle.play_game.proofs.Turns.{line-group, line-text}
-use Rattle.play_lines.proofs.Printing.{sets-append-at}
-
--- ---- the start
-
-fresh_at : (n k : ℕ) → cond (ltb k 4) (node_of (get_or (fresh_member n 0 ∷ fresh_member n 1 ∷ fresh_member n 2 ∷ fresh_member n 3 ∷ []) k no_member)) (fresh_node n k) ≡ fresh_node n k
-unfolding fresh_node
-fresh_at n zero = refl
-fresh_at n (suc zero) = refl
-fresh_at n (suc (suc zero)) = refl
-fresh_at n (suc (suc (suc zero))) = refl
-fresh_at n (suc (suc (suc (suc k)))) = rw (le-ltb (suc (suc (suc (suc k)))) 4 (omega arith))
-
-fresh-group : (n : ℕ) (heads bodies : List ℕ) → group_of (fresh_cluster n) heads bodies ≡ fresh_group n
-unfolding group_of fresh_cluster fresh_group log_of up_to
-fresh-group n heads bodies = λ i. record { at = λ k. fresh_at n k i; log = [] }
-
-fresh-count : (n : ℕ) → (fresh_cluster n).count ≡ n
-unfolding fresh_cluster
-fresh-count n = refl
-
-pub fresh-prints : (n : ℕ) (heads bodies : List ℕ) (c : Cluster) (ls : List (List ℕ)) → c ≡ fresh_cluster n
-    → prints c.count (group_of c heads bodies) ls ≡ prints n (fresh_group n) ls
-fresh-prints n heads bodies c ls e =
-    ap (λ (x : Cluster). prints x.count (group_of x heads bodies) ls) e ∙ (λ i. prints (fresh-count n i) (fresh-group n heads bodies i) ls)
-
-pub fresh-sound : (n : ℕ) (heads bodies : List ℕ) → n < 5 → length heads ≡ 1536 → length bodies ≡ 49152 → Sound (fresh_cluster n) heads bodies
-unfolding fresh_cluster
-fresh-sound n heads bodies h lh lb = record {
-  few = omega arith;
-  four = refl;
-  stored = record { slots = lh; space = lb; short = omega arith; sized = λ k z. absurd (not-suc-le-zero z) };
-}
+use Rattle.play_game.specs.declared.cluster.Cluster.{Cluster}
+use Rattle.play_game.specs.Play.{turn, after, prints, begun, opened, printed, played_answer, output_of}
+use Rattle.play_game.specs.Cluster.{group_of, Turned}
 
 -- ---- one line after another
 
-pub next-line : (n : ℕ) (g : Group) (input : List ℕ) (pos : ℕ) (b : Bounds) → LineAt input pos b
+next-line : (n : ℕ) (g : Group) (input : List ℕ) (pos : ℕ) (b : Bounds) → LineAt input pos b
     → prints n g (lines (drop pos input))
     ≡ (turn n g (take (b.end - pos) (drop pos input))).text ++ prints n (after n g (take (b.end - pos) (drop pos input))) (lines (drop b.next input))
 unfolding prints
 next-line n g input pos b l = ap (prints n g) l.parts
 
-pub no_line : (n : ℕ) (g : Group) (input : List ℕ) (pos : ℕ) → length input ≤ pos → prints n g (lines (drop pos input)) ≡ []
+no_line : (n : ℕ) (g : Group) (input : List ℕ) (pos : ℕ) → length input ≤ pos → prints n g (lines (drop pos input)) ≡ []
 unfolding prints lines
 no_line n g input pos h = ap (λ (l : List ℕ). prints n g (lines l)) (drop_of_length-le input h)
 
-module _ (c : Cluster) (heads bodies s : List ℕ) (l : Line) (who : ℕ) (m₀ : Member) (at : ℕ) (out : List ℕ) (d : Done) (heads' bodies' out' : List ℕ)
-    (sound : Sound c heads bodies) (read : l ≡ line_of s) (named : who ≡ who_of c.count l) (low : who < 4)
-    (done : DoneIs (get_or c.members who m₀) heads bodies c.sent (line_result c.count s l (log_of heads bodies c.sent) (node_of (get_or c.members who m₀))) at out d heads' bodies' out') where
-  abbrev g : Group
-  g = group_of c heads bodies
+-- the cluster c and the printer p, at index `pos` of the input: p printed so much, and the lines from there on print the rest of the whole
+pub record Halfway (whole input : List ℕ) (start : Printer) (pos : ℕ) (c : Cluster) (p : Printer) : Type 0 where
+  pub room : p.at + 25 * (length input - pos) ≤ length p.out.now
+  pub done : List ℕ
+  pub printed : Prints done start p
+  pub rest : whole ≡ done ++ prints c.count (group_of c) (lines (drop pos input))
 
-  abbrev c' : Cluster
-  c' = record { count = c.count; members = set c.members who d.member; sent = d.sent }
+pub at-start : (input : List ℕ) (pos : ℕ) (c : Cluster) (p : Printer) → p.at + 25 * length input ≤ length p.out.now
+    → Halfway (prints c.count (group_of c) (lines (drop pos input))) input p pos c p
+at-start input pos c p h = record {
+  room = omega arith;
+  done = [];
+  printed = record { put = record { end = omega arith; text = refl }; same = refl };
+  rest = refl;
+}
 
-  -- what the line came to, as the group has it
-  came : line_result c.count s l (log_of heads bodies c.sent) (node_of (get_or c.members who m₀)) ≡ line_result c.count s l g.log (g.at who)
-  unfolding group_of
-  came = ap (line_result c.count s l (log_of heads bodies c.sent)) (node_at c heads bodies who low sound.four m₀)
+module _ (whole input : List ℕ) (start : Printer) (pos : ℕ) (c : Cluster) (p : Printer) (so : Halfway whole input start pos c p) where
+  pub at-line : pos < length input → p.at + 25 ≤ length p.out.now
+  at-line h = omega (arith, so.room)
 
-  after_line : group_of c' heads' bodies' ≡ after c.count g s
-  unfolding turn
-  after_line =
-      group-set c heads bodies who low sound.four d.member d.sent heads' bodies' ∙ (λ i. record { at = λ k. cond (eqb k who) (node i) (g.at k); log = log i })
-      ∙ ap (λ (k : ℕ). commit g k (line_result c.count s l g.log (g.at k))) named ∙ sym (line-group c.count g s l) ∙ ap (λ (x : Line). run ties g (turn_of c.count g s x).entries) read
-    where
-      node : node_of d.member ≡ node_by (length g.log) (line_result c.count s l g.log (g.at who)) (g.at who)
-      node = done.node ∙ (λ i. node_by (log-length c heads bodies i) (came i) (node_at c heads bodies who low sound.four m₀ i))
+  pub after-line : (b : Bounds) → pos < length input → LineAt input pos b → (c' : Cluster) (q : Printer)
+      → Turned (turn c.count (group_of c) (take (b.end - pos) (drop pos input))) c p c' q → Halfway whole input start b.next c' q
+  after-line b h l c' q t =
+      let text = (turn c.count (group_of c) (take (b.end - pos) (drop pos input))).text in
+      record {
+        room = omega (arith, so.room, moved t.text, t.brief, l.begins, l.onward);
+        done = so.done ++ text;
+        printed = prints_then so.printed t.text;
+        rest =
+            so.rest ∙ ap (λ (x : List ℕ). so.done ++ x) (next-line c.count (group_of c) input pos b l)
+            ∙ ap (λ (x : List ℕ). so.done ++ (text ++ x)) (sym (λ i. prints (t.count i) (t.group i) (lines (drop b.next input))))
+            ∙ sym (append_assoc so.done text _);
+      }
 
-      log : log_of heads' bodies' d.sent ≡ log_by (length g.log) (line_result c.count s l g.log (g.at who)) g.log
-      log = done.log ∙ (λ i. log_by (log-length c heads bodies i) (came i) (log_is c heads bodies i))
-
-  text-line : reply c.sent (line_result c.count s l (log_of heads bodies c.sent) (node_of (get_or c.members who m₀))) ≡ (turn c.count g s).text
-  unfolding turn
-  text-line =
-      (λ i. reply (log-length c heads bodies i) (came i)) ∙ ap (λ (k : ℕ). reply (length g.log) (line_result c.count s l g.log (g.at k))) named
-      ∙ sym (line-text c.count g s l) ∙ ap (λ (x : Line). (turn_of c.count g s x).text) read
-
-  sound-after : Sound c' heads' bodies'
-  sound-after = record { few = sound.few; four = length-set c.members who d.member ∙ sound.four; stored = done.stored }
-
-  module _ (ls ls' : List (List ℕ)) (e : prints c.count g ls ≡ (turn c.count g s).text ++ prints c.count (after c.count g s) ls') where
-    put : Put (turn c.count g s).text at out d.at out'
-    put = subst (λ (t : List ℕ). Put t at out d.at out') text-line done.put
-
-    rest : prints c.count (group_of c' heads' bodies') ls' ≡ prints c.count (after c.count g s) ls'
-    rest = ap (λ (x : Group). prints c.count x ls') after_line
-
-    text-after : sets out' d.at (prints c.count (group_of c' heads' bodies') ls') ≡ sets out at (prints c.count g ls)
-    text-after =
-        ap (sets out' d.at) rest ∙ ap (λ (o : List ℕ). sets o d.at (prints c.count (after c.count g s) ls')) put.text
-        ∙ sets-append-at out at d.at (turn c.count g s).text (prints c.count (after c.count g s) ls') put.end ∙ ap (sets out at) (sym e)
-
-    length-after : d.at + length (prints c.count (group_of c' heads' bodies') ls') ≡ at + length (prints c.count g ls)
-    length-after =
-        omega (arith, ap length rest, ap length e, length-append (turn c.count g s).text (prints c.count (after c.count g s) ls'), put.end)
-
-    pub again : (d.at ≤ at + 25) × (Sound c' heads' bodies')
-        × (sets out' d.at (prints c.count (group_of c' heads' bodies') ls') ≡ sets out at (prints c.count g ls))
-        × (d.at + length (prints c.count (group_of c' heads' bodies') ls') ≡ at + length (prints c.count g ls))
-    again = (omega (arith, done.put.end, done.brief), sound-after, text-after, length-after)
+  pub at-end : length input ≤ pos → Prints whole start p
+  at-end h = rw (so.rest, no_line c.count (group_of c) input pos h, append-nil) so.printed
 
 -- ---- line one, and the whole
 
 no-first-line : (end next : ℕ) → opened (lines []) ≡ begun (size_of (take end [])) (lines (drop next []))
 unfolding lines
-no-first-line end zero = ap (λ (z : Size). begun z []) (sym (ap size_of (take-nil end) ∙ size-empty))
-no-first-line end (suc next) = ap (λ (z : Size). begun z []) (sym (ap size_of (take-nil end) ∙ size-empty))
+no-first-line end zero = ap (λ (z : Option ℕ). begun z []) (sym (ap size_of (take-nil end) ∙ size-empty))
+no-first-line end (suc next) = ap (λ (z : Option ℕ). begun z []) (sym (ap size_of (take-nil end) ∙ size-empty))
 
 pub first-line : (input : List ℕ) (b : Bounds) → BoundsAt input 0 b → printed input ≡ begun (size_of (take b.end input)) (lines (drop b.next input))
 unfolding printed
@@ -156,13 +90,13 @@ roomy input room h =
     let s = and_parts (leb (length input) 65536) (leb (25 * length input + 2) room) h in (leb-true _ _ s.0, leb-true _ _ s.1)
 
 module _ (input out : List ℕ) where
-  pub unplayed : playable input (length out) ≡ false → (Refused ≡ played_answer input (length out)) × (out ≡ output_of input out)
+  pub unplayed : playable input (length out) ≡ false → (None ≡ played_answer input (length out)) × (out ≡ output_of input out)
   unfolding played_answer output_of
   unplayed h = (rw h, rw h)
 
-  pub all-played : playable input (length out) ≡ true → (text : List ℕ) (to : ℕ) (out' : List ℕ) → printed input ≡ text → Put text 0 out to out'
-      → (Printed to ≡ played_answer input (length out)) × (out' ≡ output_of input out)
+  pub all-played : playable input (length out) ≡ true → (text : List ℕ) (p q : Printer) → p.at ≡ 0 → p.out.now ≡ out → printed input ≡ text → Prints text p q
+      → (Some q.at ≡ played_answer input (length out)) × (q.out.now ≡ output_of input out)
   unfolding played_answer output_of
-  all-played h text to out' e p =
-      let q : to ≡ length (printed input) = p.end ∙ zero-add (length text) ∙ ap length (sym e) in
-      (rw h (ap Printed q), rw h (p.text ∙ ap (sets out 0) (sym e)))
+  all-played h text p q ea eo e x =
+      let to : q.at ≡ length (printed input) = x.put.end ∙ ap (λ (n : ℕ). n + length text) ea ∙ zero-add (length text) ∙ ap length (sym e) in
+      (rw h (ap Some to), rw h (x.put.text ∙ (λ i. sets (eo i) (ea i) (sym e i))))

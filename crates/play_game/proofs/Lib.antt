@@ -1,4 +1,4 @@
--- Laws of the cluster and its lines.
+-- What is played, and that it is a run.
 pub mod Clusters
 pub mod Turns
 pub mod Games

@@ -1,5 +1,5 @@
 -- What is played is what is proved: demand 3 of every script whose view lines give one set for each epoch.
-use Rattle.std.specs.Prelude.{ℕ, ◌-◌, ◌^◌, ◌≤◌, ◌≡◌, List, [], ◌∷◌, ltb}
+use Rattle.std.specs.Prelude.{ℕ, ◌-◌, ◌^◌, ◌≤◌, ◌≡◌, List, [], ◌∷◌, ltb, Option, None, Some}
 use Rattle.hermes_record.specs.Order.{ties}
 use Rattle.hermes.specs.Settings.{old_settings}
 use Rattle.hermes.specs.Run.{Group, run}
@@ -7,8 +7,7 @@ use Rattle.hermes.specs.Agreement.{Agreement}
 use Rattle.play_script.specs.Command.{line_of}
 use Rattle.play_words.specs.declared.command.Command.{Command}
 use Rattle.play_words.specs.declared.command.Command.TheVariants.{Read, Write, Replay, Deliver, Validate, Resend, View}
-use Rattle.play_script.specs.declared.command.Line.{Line}
-use Rattle.play_script.specs.declared.command.Line.TheVariants as line
+use Rattle.play_script.specs.declared.line.Entry.{Entry}
 use Rattle.play_game.specs.Play.{fresh_group, after, entries_of}
 
 -- a view line gives the set that is issued for its epoch
@@ -21,9 +20,9 @@ Issued issued Validate = Unit
 Issued issued Resend = Unit
 Issued issued (View epoch set) = set ≡ issued epoch
 
-abbrev pub OfLine : (ℕ → ℕ) → Line → Type 0
-OfLine issued (line.Entry who c) = Issued issued c
-OfLine issued line.Unknown = Unit
+abbrev pub OfLine : (ℕ → ℕ) → Option Entry → Type 0
+OfLine issued (Some e) = Issued issued e.command
+OfLine issued None = Unit
 
 abbrev pub OneViewEach : (ℕ → ℕ) → List (List ℕ) → Type 0
 OneViewEach issued [] = Unit

@@ -1,8 +1,7 @@
 -- The playing program (01): a script is played on the run of a group that agreement is proved of.
-use Rattle.std.specs.Prelude.{ℕ, ◌-◌, ◌^◌, cond, List, [], ◌∷◌, ◌++◌, length, ltb}
+use Rattle.std.specs.Prelude.{ℕ, ◌-◌, ◌^◌, cond, List, [], ◌∷◌, ◌++◌, length, ltb, Option, None, Some}
 use Rattle.std.proofs.lemmas.List.Edits.{sets}
-use Rattle.hermes.specs.declared.message.Outgoing.{Outgoing}
-use Rattle.hermes.specs.declared.message.Outgoing.TheVariants.{None, Sent}
+use Rattle.hermes.specs.Answer.{Outgoing}
 use Rattle.hermes_record.specs.Order.{ties}
 use Rattle.hermes.specs.Event.{number_of, sent_by}
 use Rattle.hermes.specs.Node.{Node, record_of}
@@ -11,15 +10,8 @@ use Rattle.play_script.specs.Text.{lines}
 use Rattle.play_script.specs.Command.{line_of, text_of, size_of}
 use Rattle.play_words.specs.declared.command.Command.{Command}
 use Rattle.play_words.specs.declared.command.Command.TheVariants as command
-use Rattle.play_script.specs.declared.command.Line.{Line}
-use Rattle.play_script.specs.declared.command.Line.TheVariants as line
-use Rattle.play_script.specs.declared.line.Size.{Size}
-use Rattle.play_script.specs.declared.line.Size.TheVariants.{Of, Wrong}
+use Rattle.play_script.specs.declared.line.Entry.{Entry as Asked}
 use Rattle.play_member.specs.Member.{node_of, fresh_in, has_room}
-use Rattle.play_lines.specs.declared.print.Left.{Left}
-use Rattle.play_lines.specs.declared.print.Left.TheVariants as left
-use Rattle.play_game.specs.declared.game.Played.{Played}
-use Rattle.play_game.specs.declared.game.Played.TheVariants as outcome
 use Rattle.play_lines.specs.Print.{answer_line, unknown_line}
 use Rattle.play_bounds.specs.Bounds.{playable}
 
@@ -44,9 +36,9 @@ abbrev pub unknown : Turn
 unknown = record { entries = []; text = unknown_line }
 
 -- 01, "log number of the message that left": they start at 0
-abbrev pub log_number : ℕ → Outgoing → Left
-log_number sent None = left.Nothing
-log_number sent (Sent m h) = left.Message sent
+abbrev pub log_number : ℕ → Outgoing → Option ℕ
+log_number sent None = None
+log_number sent (Some (m, h)) = Some sent
 
 -- 01, "State and stamp are the named laptop's after the event"; an unknown log number, or an event whose message a full log cannot take, prints `?`
 abbrev pub reply : ℕ → Result → List ℕ
@@ -76,9 +68,9 @@ unfoldable pub entry_turn : ℕ → Group → Entry → Turn
 entry_turn n g a =
     cond (ltb a.who n) (record { entries = played (length g.log) a (result ties g a); text = reply (length g.log) (result ties g a) }) unknown
 
-abbrev pub turn_of : ℕ → Group → List ℕ → Line → Turn
-turn_of n g s (line.Entry who c) = entry_turn n g (record { who = who; what = action_of c (text_of s) })
-turn_of n g s line.Unknown = unknown
+abbrev pub turn_of : ℕ → Group → List ℕ → Option Asked → Turn
+turn_of n g s (Some e) = entry_turn n g (record { who = e.laptop; what = action_of e.command (text_of s) })
+turn_of n g s None = unknown
 
 -- 01, "Each later line prints one line": the line s, played on the group g
 unfoldable pub turn : ℕ → Group → List ℕ → Turn
@@ -101,9 +93,9 @@ entries_of n g [] = []
 entries_of n g (s ∷ rest) = (turn n g s).entries ++ entries_of n (after n g s) rest
 
 -- 01, "a wrong or missing line one prints `?` and ends"
-abbrev pub begun : Size → List (List ℕ) → List ℕ
-begun (Of n) rest = prints n (fresh_group n) rest
-begun Wrong rest = unknown_line
+abbrev pub begun : Option ℕ → List (List ℕ) → List ℕ
+begun (Some n) rest = prints n (fresh_group n) rest
+begun None rest = unknown_line
 
 abbrev pub opened : List (List ℕ) → List ℕ
 opened [] = unknown_line
@@ -116,8 +108,8 @@ printed input = opened (lines input)
 -- ---- the library
 
 -- what `play` answers: how many bytes it printed, or a refusal where input or room are not as they must be
-unfoldable pub played_answer : List ℕ → ℕ → Played
-played_answer input room = cond (playable input room) (outcome.Printed (length (printed input))) outcome.Refused
+unfoldable pub played_answer : List ℕ → ℕ → Option ℕ
+played_answer input room = cond (playable input room) (Some (length (printed input))) None
 
 -- the output after it: what is printed, then the bytes that were there; refused, all as it was
 unfoldable pub output_of : List ℕ → List ℕ → List ℕ

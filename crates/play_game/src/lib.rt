@@ -3,6 +3,5 @@
 
 mod cluster;
 mod game;
-mod turn;
 
-pub use game::{Played, play};
+pub use game::play;

@@ -1,5 +1,5 @@
 -- The log that the code holds, read as the log of the run: for each message who sent it, its epoch, the message and its body.
-use Rattle.std.specs.Prelude.{ℕ, ◌+◌, ◌≡◌, Bool, false, cond, ◌&&◌, List, [], ◌∷◌, ◌++◌, take, map, ltb, leb, Option, None, Some}
+use Rattle.std.specs.Prelude.{ℕ, ◌≡◌, Bool, false, cond, ◌&&◌, List, [], ◌∷◌, ◌++◌, take, map, length, ltb, leb, Option, None, Some}
 use Rattle.hermes.specs.declared.message.Header.{Header}
 use Rattle.hermes.specs.declared.message.Message.{Message}
 use Rattle.hermes.specs.Run.{Logged}
@@ -24,7 +24,6 @@ has_place n len = ltb n 256 && leb len 192
 
 -- what appending a message comes to, by whether it has its place: its log number, and the log
 pub record Appended (place : Bool) (l : Log) (x : Logged) (r : Option ℕ) (l' : Log) : Type 0 where
-  pub number : r ≡ cond place (Some l.sent) None
-  pub sent : l'.sent ≡ cond place (l.sent + 1) l.sent
+  pub number : r ≡ cond place (Some (length (log_of l))) None
   pub log : log_of l' ≡ cond place (log_of l ++ (x ∷ [])) (log_of l)
   pub kept : place ≡ false → l' ≡ l

@@ -19,11 +19,11 @@ impl Envelope {
     ghost use Rattle.hermes.specs.Run.{received};
     ghost use Rattle.play_log.specs.Log.{logged_as, logged_of};
 
-    // What a slot holds before a message is logged there.
+    // What a slot holds before a message is logged there: zeros, so that a whole log is zeroed where it stands.
     const NONE: Envelope = Envelope {
         sender: 0,
         epoch: 0,
-        message: Message::Val(Timestamp { version: 0, tie: 0 }),
+        message: Message::Inv(Timestamp { version: 0, tie: 0 }),
         len: 0,
         bytes: [0; 192],
     };
@@ -90,7 +90,7 @@ impl Log {
 
     // How many messages left.
     pub fn sent(&self) -> usize
-        ensures { result ≡ self.now.sent }
+        ensures { result ≡ length (log_of self.now) }
     {
         self.sent
     }
@@ -107,7 +107,7 @@ impl Log {
 
     // A message is logged, if it has its place; otherwise nothing. The answer is its log number.
     pub fn append(&mut self, message: Message, header: Header, body: &[u8]) -> Option<usize>
-        ensures { Appended (has_place self.old.sent (length body.now)) self.old (logged_as message header body.now) result self.new }
+        ensures { Appended (has_place (length (log_of self.old)) (length body.now)) self.old (logged_as message header body.now) result self.new }
     {
         let n = self.sent;
         if Self::MESSAGES_MAX <= n || Record::VALUE_MAX < body.len() {

@@ -1,38 +1,36 @@
--- `play_game::game::play` meets its contract. Refused before anything is printed; else line one, and the lines after it.
-use Rattle.play_game.proofs.Games.{all-played, first-line, roomy, unplayed}
-use Rattle.play_game.specs.Play.{begun}
-use Rattle.play_lines.specs.Print.{unknown_line}
-use Rattle.play_lines.proofs.Printing.{put_all}
-use Rattle.play_script.proofs.Words.{size_few}
+-- `play_game::game::play` meets its contract.
+use Rattle.std.proofs.Common.{◌≡◌, length, arith, true, refl, sym, ap, ◌∙◌, Option, ℕ, drop}
+use Rattle.std.proofs.lemmas.Grind.{common_steps}
 use Rattle.play_script.specs.Text.{lines}
-use Rattle.play_script.specs.declared.line.Size.{Size}
-use lib.ListN.{length, drop}
-use mathlib.Core.Path.{◌∙◌, ap, sym}
-use native.Mathlib.Omega.{arith}
-use borrow.Author.Tests.{not-true, not-false}
+use Rattle.play_script.proofs.Words.{size_few}
+use Rattle.play_bounds.specs.Bounds.{playable}
+use Rattle.play_game.specs.Play.{begun}
+use Rattle.play_lines.proofs.Printing.{put_all}
+use Rattle.play_game.proofs.Games.{first-line, unplayed, all-played, roomy}
 use Rattle.play_game.proofs.game.play.Goals as goal
 
 pub returns-then-not-playable : goal.returns-then-not-playable
-returns-then-not-playable c = unplayed c.args.input.now c.args.out.now (sym c.playable.ensures ∙ not-true _ c.if-not-playable.true-raw)
+returns-then-not-playable c = unplayed _ _ (sym c.playable.ensures ∙ c.if-not-playable.true)
+
+pub play_lines-requires : goal.play_lines-requires
+play_lines-requires c =
+    let room = roomy c.args.input.now (length c.args.out.now) (sym c.playable.ensures ∙ c.if-not-playable.false) in
+    (size_few _ _ (sym c.group_size.ensures ∙ c.in-Some.is), room.0, omega (arith, room.1))
 
 pub returns-in_default : goal.returns-in_default
 returns-in_default c =
-    let v = c.args in
-    let h = sym c.playable.ensures ∙ not-false _ c.if-not-playable.false-raw in
-    let r = roomy v.input.now (length v.out.now) h in
-    all-played v.input.now v.out.now h unknown_line _ _
-    (first-line v.input.now c.line_at-bounds.result c.line_at-bounds.ensures
-    ∙ ap (λ (z : Size). begun z (lines (drop c.line_at-bounds.result.next v.input.now))) (sym c.group_size-size.ensures ∙ c.in_default.is))
-    (put_all 2 0 v.out.now unknown_line (omega (arith, r.1)) c.put_unknown-to.ensures)
-
-pub play_lines-to-requires : goal.play_lines-to-requires
-play_lines-to-requires c = let r = roomy c.args.input.now (length c.args.out.now) (sym c.playable.ensures ∙ not-false _ c.if-not-playable.false-raw) in
-    (size_few _ _ (sym c.group_size-size.ensures ∙ c.in-Of.is), r.0, sym c.head_space-heads.ensures, sym c.body_space-bodies.ensures, omega (arith, r.1))
+    let input = c.args.input.now in
+    let h : playable input (length c.args.out.now) ≡ true = sym c.playable.ensures ∙ c.if-not-playable.false in
+    let all = all-played input c.args.out.now h _ _ c.put_unknown.new.self refl refl
+    (first-line input c.line_at-bounds.result c.line_at-bounds.ensures ∙ ap (λ (z : Option ℕ). begun z (lines (drop c.line_at-bounds.result.next input))) (sym c.group_size.ensures ∙ c.in_default.is))
+    (put_all 2 _ _ (omega (arith, roomy input (length c.args.out.now) h)) c.put_unknown.ensures) in
+    (all.0, grind (arith, common_steps, all.1, sym c.put_unknown.ensures.same))
 
 pub returns : goal.returns
 returns c =
-    let v = c.args in
-    all-played v.input.now v.out.now (sym c.playable.ensures ∙ not-false _ c.if-not-playable.false-raw) _ _ _
-    (first-line v.input.now c.line_at-bounds.result c.line_at-bounds.ensures
-    ∙ ap (λ (z : Size). begun z (lines (drop c.line_at-bounds.result.next v.input.now))) (sym c.group_size-size.ensures ∙ c.in-Of.is))
-    c.play_lines-to.ensures
+    let input = c.args.input.now in
+    let h : playable input (length c.args.out.now) ≡ true = sym c.playable.ensures ∙ c.if-not-playable.false in
+    let all = all-played input c.args.out.now h _ _ c.play_lines.new.out refl refl
+    (first-line input c.line_at-bounds.result c.line_at-bounds.ensures ∙ ap (λ (z : Option ℕ). begun z (lines (drop c.line_at-bounds.result.next input))) (sym c.group_size.ensures ∙ c.in-Some.is))
+    c.play_lines.ensures in
+    (all.0, grind (arith, common_steps, all.1, sym c.play_lines.ensures.same))
