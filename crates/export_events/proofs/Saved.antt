@@ -1,25 +1,33 @@
--- An exported event that saves its value: the record moved, put back, and the value in its place are what hermes's `apply` says.
-use Prim.Native.Nat.{ℕ}
-use mathlib.Core.Path.{◌≡◌, ◌∙◌}
-use mathlib.Core.List.{List}
-use lib.ListN.{length}
+-- An exported event that saves its value: the record moved and put back and the value in its place are what hermes's `apply` says.
+use Rattle.std.specs.Prelude.{ℕ, ◌≡◌, Option, None, Some, Bool, true, List, length}
+use Rattle.std.proofs.Common.{refl}
+use Rattle.hermes_record.specs.declared.timestamp.Timestamp.{Timestamp}
 use Rattle.hermes_record.specs.declared.record.Record.{Record}
 use Rattle.hermes.specs.declared.event.Replica.{Replica}
 use Rattle.hermes.specs.declared.event.Event.{Event}
+use Rattle.hermes.specs.declared.event.Event.TheVariants.{Write, Commit}
 use Rattle.hermes.specs.declared.event.Moved.{Moved}
 use Rattle.hermes_record.specs.Order.{ties}
 use Rattle.hermes.specs.Event.{moved}
-use Rattle.replica_outcome.specs.Placing.{stored_for}
-use Rattle.replica_saving.proofs.Saves.{Saves, save-moved, save-stored}
+use Rattle.replica_saving.specs.Saving.{save_of}
+use Rattle.replica_saving.proofs.Saves.{save-moved, save-stored}
 use Rattle.export_numbers.specs.declared.numbers.CetskobiReplica.{CetskobiReplica}
 use Rattle.export_numbers.specs.declared.numbers.CetskobiAnswer.{CetskobiAnswer}
-use Rattle.export_calls.specs.Calls.{node_of, Finished, Done}
-use Rattle.export_calls.proofs.Ends.{Taken, done}
+use Rattle.export_calls.specs.Calls.{node_of, Done}
+use Rattle.export_calls.specs.Steps.{Step, Storing}
 
-pub saved-done : (me : CetskobiReplica) (bytes : List ℕ) (i : ℕ) (who : Replica) (count : ℕ) (r : Record) → Taken me bytes i who count r
-    → (store : List ℕ) (e : Event) → Saves e → (v : List ℕ) (m : Moved) (a : CetskobiAnswer) (bytes' store' : List ℕ)
-    → m ≡ moved ties who count (length store) i r e v → Finished bytes i m a bytes' → store' ≡ stored_for m.answer count i v store
-    → Done (node_of me bytes store) bytes i e v a bytes' store'
-saved-done me bytes i who count r t store e s v m a bytes' store' moves ends stores =
-    done me bytes i who count r t store e v m a bytes' store'
-    (moves ∙ save-moved who count i r store v e s, stores ∙ save-stored who count i r store v e s m moves) ends
+module _ (me : CetskobiReplica) (before store : List ℕ) (i : ℕ) (v : List ℕ) (takes : Replica → Record → Bool → Type 0) (step : Step) (a : CetskobiAnswer) (bytes' store' : List ℕ) (d : Storing takes step me before store i v a bytes' store') where
+  -- the value is always stored, and the record moves as by this event
+  abbrev pub Saves : Event → Type 0
+  Saves e = ((who : Replica) (r : Record) (b : Bool) → takes who r b → b ≡ true)
+      × ((who : Replica) (count : ℕ) (r : Record) (m : Moved) → step who count (length store) r m → m ≡ moved ties who count (length store) i r e v)
+
+  saved : (opened : Option Timestamp) → Saves (save_of opened) → Done (node_of me before store) before i (save_of opened) v a bytes' store'
+  saved opened (always, moves) =
+      d.done (save_of opened) (λ who count r b m p q. rw (always who r b p, moves who count r m q) (save-moved who count i r store v opened, save-stored who count i r store v opened _ refl))
+
+  pub write_done : Saves Write → Done (node_of me before store) before i Write v a bytes' store'
+  write_done s = saved None s
+
+  pub commit_done : (t : Timestamp) → Saves (Commit t) → Done (node_of me before store) before i (Commit t) v a bytes' store'
+  commit_done t s = saved (Some t) s

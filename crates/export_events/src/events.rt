@@ -1,13 +1,15 @@
 // The events on one record but read and delivery, for C and Rust. Each takes the identity, the table as bytes, sixteen for each record, and the store.
+#![tactic(auto, using(export_calls::proofs::Steps::quiet_done, crate::proofs::Saved::write_done))]
+
 ghost use Rattle.std.specs.Prelude.{[]};
 ghost use Rattle.hermes.specs.declared.event.Event.TheVariants.{Write, Commit, Replay, Validate, Resend};
 ghost use Rattle.export_calls.specs.Calls.{node_of, Done};
 
+use export_calls::{quiet, storing};
 use export_numbers::{CetskobiAnswer, CetskobiReplica};
 use hermes::Timestamp;
-use replica_asking::Asked;
 
-// Write of a value to record i.
+// Write of a value to record i. A commit shares all but `opened`, and yet each has its own step: one with two callers would not be inlined.
 #[unsafe(no_mangle)]
 pub extern "C" fn cetskobi_write(
     me: CetskobiReplica,
@@ -18,17 +20,15 @@ pub extern "C" fn cetskobi_write(
 ) -> CetskobiAnswer
     ensures { Done (node_of me table.old store.old) table.old i Write value.now result table.new store.new }
 {
-    let who = export_numbers::replica_of(me);
-    let a = export_calls::begin(who, table, store.len(), i);
-    let Asked::Passed(r) = a else {
-        return export_calls::refused(a);
-    };
-    let count = export_records::count(table.len());
-    let m = replica_saving::move_write(who, count, store.len(), i, r, value);
-    let out = export_calls::finish(table, i, m);
-    let answer = m.answer;
-    replica_outcome::stored(store, count, i, answer, value);
-    out
+    storing(
+        me,
+        table,
+        store,
+        i,
+        value,
+        |_, _| true,
+        |me, count, bytes, r| { replica_saving::move_save(me, count, bytes, i, r, None, value) },
+    )
 }
 
 // Commit of a value to record i, on the timestamp of this version and tie-breaker, which an ask gave.
@@ -44,21 +44,16 @@ pub extern "C" fn cetskobi_commit(
 ) -> CetskobiAnswer
     ensures { Done (node_of me table.old store.old) table.old i (Commit (record { version = version; tie = tie })) value.now result table.new store.new }
 {
-    let who = export_numbers::replica_of(me);
-    let a = export_calls::begin(who, table, store.len(), i);
-    let Asked::Passed(r) = a else {
-        return export_calls::refused(a);
-    };
-    let count = export_records::count(table.len());
-    let t = Timestamp {
-        version: version,
-        tie: tie,
-    };
-    let m = replica_saving::move_commit(who, count, store.len(), i, r, t, value);
-    let out = export_calls::finish(table, i, m);
-    let answer = m.answer;
-    replica_outcome::stored(store, count, i, answer, value);
-    out
+    let t = Timestamp { version, tie };
+    storing(
+        me,
+        table,
+        store,
+        i,
+        value,
+        |_, _| true,
+        |me, count, bytes, r| { replica_saving::move_save(me, count, bytes, i, r, Some(t), value) },
+    )
 }
 
 // Replay of record i.
@@ -71,14 +66,9 @@ pub extern "C" fn cetskobi_replay(
 ) -> CetskobiAnswer
     ensures { Done (node_of me table.old store.now) table.old i Replay [] result table.new store.now }
 {
-    let who = export_numbers::replica_of(me);
-    let a = export_calls::begin(who, table, store.len(), i);
-    let Asked::Passed(r) = a else {
-        return export_calls::refused(a);
-    };
-    let count = export_records::count(table.len());
-    let m = replica_settling::replay(who, count, store.len(), i, r);
-    export_calls::finish(table, i, m)
+    quiet(me, table, store.len(), i, |me, count, bytes, r| {
+        replica_settling::replay(me, count, bytes, i, r)
+    })
 }
 
 // Validation of record i.
@@ -91,14 +81,9 @@ pub extern "C" fn cetskobi_validate(
 ) -> CetskobiAnswer
     ensures { Done (node_of me table.old store.now) table.old i Validate [] result table.new store.now }
 {
-    let who = export_numbers::replica_of(me);
-    let a = export_calls::begin(who, table, store.len(), i);
-    let Asked::Passed(r) = a else {
-        return export_calls::refused(a);
-    };
-    let count = export_records::count(table.len());
-    let m = replica_settling::validate(who, count, store.len(), i, r);
-    export_calls::finish(table, i, m)
+    quiet(me, table, store.len(), i, |me, count, bytes, r| {
+        replica_settling::validate(me, count, bytes, i, r)
+    })
 }
 
 // Resend of what record i last sent.
@@ -111,12 +96,7 @@ pub extern "C" fn cetskobi_resend(
 ) -> CetskobiAnswer
     ensures { Done (node_of me table.old store.now) table.old i Resend [] result table.new store.now }
 {
-    let who = export_numbers::replica_of(me);
-    let a = export_calls::begin(who, table, store.len(), i);
-    let Asked::Passed(r) = a else {
-        return export_calls::refused(a);
-    };
-    let count = export_records::count(table.len());
-    let m = replica_settling::resend(who, count, store.len(), i, r);
-    export_calls::finish(table, i, m)
+    quiet(me, table, store.len(), i, |me, count, bytes, r| {
+        replica_settling::resend(me, count, bytes, i, r)
+    })
 }
