@@ -12,7 +12,7 @@ use hermes::{Moved, Record, Refused, Replica, Timestamp};
 // What a question answers: the record, passed on, or its own number. So `?` after a question goes on after a yes, and ends at a no.
 pub type Asked = Result<Record, Refused>;
 
-// The record, field by field: as one copy the compiler takes its padding along, a fifth of an event's instructions.
+// The record, field by field: as one copy the compiler takes its padding along, ten to twenty instructions of most events.
 fn same(r: Record) -> Record
     ensures { result ≡ r }
 {
