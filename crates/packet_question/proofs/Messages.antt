@@ -18,7 +18,7 @@ use Rattle.packet_words.specs.Words.{fields_at, entries_from}
 use Rattle.packet_words.proofs.Places.{length-entries}
 use Rattle.packet_words.proofs.Fit.{good-message, fields-message}
 use Rattle.packet_words.proofs.ReadBack.{good-one, summed-more}
-use Rattle.packet_question.specs.declared.question.Asked.TheVariants.{Passed, Refused}
+use Rattle.std.specs.Prelude.{Some, None}
 use Rattle.packet_question.specs.Asking.{asked}
 
 good_more : (ms : List Entry) (k : ℕ) → k < length ms → all_good (take k ms) ≡ true → good (fields_for (get_or ms k no_entry) 0) ≡ true → all_good (take (suc k) ms) ≡ true
@@ -50,23 +50,23 @@ measured-none ms = record { below = omega arith; good = refl; exact = refl; smal
 
 -- a turn with message k, and the loop's two ends
 module _ (n : ℕ) (words : List ℕ) (sum k : ℕ) where
-  pub measured-more : k < n → good (fields_at words (7 * k) 0) ≡ true → Measured (entries_from n 0 words) sum k → Measured (entries_from n 0 words) (sum + get_or words (7 * k + 6) 0) (k + 1)
-  measured-more more g m =
+  pub measured-more : k < n → (len : ℕ) → (good (fields_at words (7 * k) 0) ≡ true) × (len ≡ get_or words (7 * k + 6) 0) → Measured (entries_from n 0 words) sum k → Measured (entries_from n 0 words) (sum + len) (k + 1)
+  measured-more more len (g, is) m =
       let ms = entries_from n 0 words in
       let l = within n words k more in
-      let len : get_or words (7 * k + 6) 0 ≡ (get_or ms k no_entry).len = sym (ap (λ (f : Fields). f.len) (fields-message n words k more 0 g)) in
+      let same : len ≡ (get_or ms k no_entry).len = is ∙ sym (ap (λ (f : Fields). f.len) (fields-message n words k more 0 g)) in
       record {
         below = omega arith;
         good = ap (λ (j : ℕ). all_good (take j ms)) (add-one k) ∙ good_more ms k l m.good (good-message n words k more ∙ g);
-        exact = (λ i. m.exact i + len i) ∙ sym (summed-more ms k l) ∙ ap (λ (j : ℕ). summed (take j ms)) (sym (add-one k));
-        small = omega (arith, m.small, good-parts (fields_at words (7 * k) 0) g);
+        exact = (λ i. m.exact i + same i) ∙ sym (summed-more ms k l) ∙ ap (λ (j : ℕ). summed (take j ms)) (sym (add-one k));
+        small = omega (arith, m.small, is, good-parts (fields_at words (7 * k) 0) g);
       }
 
-  pub measured-bad : k < n → good (fields_at words (7 * k) 0) ≡ false → Refused ≡ asked (entries_from n 0 words)
+  pub measured-bad : k < n → good (fields_at words (7 * k) 0) ≡ false → None ≡ asked (entries_from n 0 words)
   unfolding asked
   measured-bad more g = simp (bad-one (entries_from n 0 words) k (within n words k more) (good-message n words k more ∙ g))
 
-  pub measured-all : n ≤ k → Measured (entries_from n 0 words) sum k → Passed sum ≡ asked (entries_from n 0 words)
+  pub measured-all : n ≤ k → Measured (entries_from n 0 words) sum k → Some sum ≡ asked (entries_from n 0 words)
   unfolding asked
   measured-all end m =
       let e = take_all k (entries_from n 0 words) (rw (length-entries n 0 words) end) in

@@ -3,4 +3,4 @@
 
 mod question;
 
-pub use question::{Asked, ask};
+pub use question::ask;

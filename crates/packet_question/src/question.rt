@@ -1,66 +1,59 @@
 // Question 24 of the messages' fields, asked of their words.
-ghost use Rattle.std.specs.Prelude.{◌≡◌, ◌+◌, ◌*◌, ◌≤◌, length};
+ghost use Rattle.std.specs.Prelude.{◌≡◌, ◌+◌, ◌*◌, ◌<◌, ◌≤◌, MatchOption, false, length};
 ghost use Rattle.packet_format.specs.Entry.{good};
 ghost use Rattle.packet_words.specs.Words.{fields_at, entries_from, word_messages};
-ghost use Rattle.packet_question.specs.Asking.{asked};
+ghost use Rattle.packet_question.specs.Asking.{asked, BodyOf};
 
-use hermes::{Message, Record};
 use packet_format::Fields;
 use packet_words::WORDS;
 
-// Passed with the summed length of the bodies, or refused.
-#[derive(Clone, Copy)]
-pub enum Asked {
-    Passed(usize),
-    Refused,
+// A word as a byte, if it is one.
+fn byte(word: u32) -> Option<u8>
+    ensures { MatchOption result (255 < word) (λ b. b ≡ word) }
+{
+    u8::try_from(word).ok()
 }
 
-// Are the fields that stand at w as question 22 asks, each of them a word?
-#[tactic(auto, unfolding(packet_format::specs::Entry::good))]
-fn good_at(words: &[u32], w: usize) -> bool
+// The fields that stand at w, if each fits its place in an entry; a body's offset is none of them.
+fn fields_at(words: &[u32], w: usize) -> Option<Fields>
     requires { w + 7 ≤ length words.now }
-    ensures { result ≡ good (fields_at words.now w 0) }
+    ensures { MatchOption result (good (fields_at words.now w 0) ≡ false) (λ f. f ≡ fields_at words.now w 0) }
 {
-    let kind = words[w];
-    let len = words[w + 6];
-    if (Record::NUMBER_MAX as u32) < words[w + 1] {
-        return false;
-    }
-    if (Record::NUMBER_MAX as u32) < words[w + 5] {
-        return false;
-    }
-    if (Fields::INDEX_MAX as u32) < words[w + 3] {
-        return false;
-    }
-    if (Record::VALUE_MAX as u32) < len {
-        return false;
-    }
-    if kind == Message::INV as u32 {
-        return true;
-    }
-    (Message::INV as u32 <= kind) & (kind <= Message::VAL as u32) & (len == 0)
+    Some(Fields {
+        kind: byte(words[w])?,
+        sender: byte(words[w + 1])?,
+        epoch: words[w + 2],
+        index: words[w + 3] as usize,
+        version: words[w + 4],
+        tie: byte(words[w + 5])?,
+        offset: 0,
+        len: byte(words[w + 6])?,
+    })
+}
+
+// The length of the body of the message at w, if its fields are as question 22 asks.
+fn body_len(words: &[u32], w: usize) -> Option<usize>
+    requires { w + 7 ≤ length words.now }
+    ensures { BodyOf (fields_at words.now w 0) result }
+{
+    let f = fields_at(words, w)?;
+    f.good().then_some(f.len as usize)
 }
 
 // The question, of the first `count` messages.
-fn ask_first(words: &[u32], count: usize) -> Asked
+fn ask_first(words: &[u32], count: usize) -> Option<usize>
     requires { (count ≤ 64) × (7 * count ≤ length words.now) }
     ensures { result ≡ asked (entries_from count 0 words.now) }
 {
     let mut sum = 0;
-    let mut k = 0;
-    while k < count {
-        let w = WORDS * k;
-        if !good_at(words, w) {
-            return Asked::Refused;
-        }
-        sum = sum + words[w + 6] as usize;
-        k = k + 1;
+    for k in 0..count {
+        sum += body_len(words, WORDS * k)?;
     }
-    Asked::Passed(sum)
+    Some(sum)
 }
 
-// The question, of all messages that the words hold.
-pub fn ask(words: &[u32]) -> Asked
+// The question, of all messages that the words hold: the summed length of their bodies, if it says yes.
+pub fn ask(words: &[u32]) -> Option<usize>
     ensures { result ≡ asked (word_messages words.now) }
 {
     ask_first(words, packet_words::count_in(words.len()))
