@@ -41,12 +41,10 @@ fn put_contents(out: &mut [u8], words: &[u32], count: usize)
     ensures { out.new ≡ sets out.old 4 (table count 0 (entry_place count) words.now) }
 {
     let mut at = HEADER_BYTES + ENTRY_BYTES * count;
-    let mut j = 0;
-    while j < count {
+    for j in 0..count {
         let w = WORDS * j;
         put_entry(out, HEADER_BYTES + ENTRY_BYTES * j, words, w, at);
-        at = at + words[w + 6] as usize;
-        j = j + 1;
+        at += words[w + 6] as usize;
     }
 }
 
@@ -56,10 +54,10 @@ pub fn put_front(rule: Rule, words: &[u32], bodies: &[u8], out: &mut [u8])
 {
     let count = packet_words::count_in(words.len());
     let total = HEADER_BYTES + ENTRY_BYTES * count + bodies.len();
-    if (TOTAL_MAX < total) | (out.len() < total) {
+    if TOTAL_MAX < total || out.len() < total {
         return;
     }
-    out[0] = rule.number();
+    out[0] = u8::from(rule);
     out[1] = count as u8;
     put2(out, 2, total);
     put_contents(out, words, count);

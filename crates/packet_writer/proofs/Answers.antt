@@ -1,65 +1,63 @@
 -- The answer of a write from its two questions.
 use mathlib.Core.Path.{◌≡◌, refl, ap, sym, ◌∙◌}
-use mathlib.Core.Bool.{Bool, true, false, cond, ◌||◌}
+use mathlib.Core.Bool.{Bool, true, false, cond}
+use mathlib.Core.Logic.{◌⊎◌}
 use mathlib.Core.List.{List}
 use Prim.Native.Nat.{ℕ, ◌≤◌, ◌<◌}
-use native.Mathlib.Omega.{arith}
 use borrow.Author.Tests.{eq-eqb, ne_eqb, le-leb, lt-leb}
-use lib.Dec.{ltb}
 use lib.ListN.{length}
 use Rattle.packet_format.specs.declared.entry.Entry.{Entry}
-use Rattle.packet_format.specs.declared.answer.Written.TheVariants as answer
+use Rattle.hermes.specs.Answer.{no}
+use Rattle.std.specs.Prelude.{Err, Ok, Option, Some, None}
 use Rattle.packet_format.specs.Writing.{summed, total_of, all_good, question24, question25, write_refusal, packet_written}
 use Rattle.packet_format.proofs.Writing.{accepted}
 use Rattle.packet_contents.proofs.Tables.{crowded}
-use Rattle.packet_question.specs.declared.question.Asked.{Asked}
-use Rattle.packet_question.specs.declared.question.Asked.TheVariants.{Passed, Refused}
 use Rattle.packet_question.specs.Asking.{asked}
 
 -- what the first loop's answer tells
-pub passed : (es : List Entry) (r : Asked) (sum : ℕ) → r ≡ asked es → r ≡ Passed sum → (all_good es ≡ true) × (summed es ≡ sum)
+pub passed : (es : List Entry) (sum : ℕ) → Some sum ≡ asked es → (all_good es ≡ true) × (summed es ≡ sum)
 unfolding asked
-passed es r sum h p = go (all_good es) refl (sym h ∙ p)
+passed es sum h = go (all_good es) refl h
   where
-    go : (b : Bool) → all_good es ≡ b → cond b (Passed (summed es)) Refused ≡ Passed sum → (all_good es ≡ true) × (summed es ≡ sum)
+    go : (b : Bool) → all_good es ≡ b → Some sum ≡ cond b (Some (summed es)) None → (all_good es ≡ true) × (summed es ≡ sum)
     go true e q = (e, cc)
-    go false e q = let z : ◌≡◌ {A = ℕ} 0 1 = cc in absurd (omega arith)
+    go false e q = cc
 
-pub refused : (es : List Entry) (r : Asked) → r ≡ asked es → r ≡ Refused → all_good es ≡ false
+pub refused : (es : List Entry) → ◌≡◌ {A = Option ℕ} None (asked es) → all_good es ≡ false
 unfolding asked
-refused es r h p = go (all_good es) refl (sym h ∙ p)
+refused es h = go (all_good es) refl h
   where
-    go : (b : Bool) → all_good es ≡ b → cond b (Passed (summed es)) Refused ≡ Refused → all_good es ≡ false
-    go true e q = let z : ◌≡◌ {A = ℕ} 0 1 = cc in absurd (omega arith)
+    go : (b : Bool) → all_good es ≡ b → ◌≡◌ {A = Option ℕ} None (cond b (Some (summed es)) None) → all_good es ≡ false
+    go true e q = cc
     go false e q = e
 
 module _ (es : List Entry) (bodies : List ℕ) (room : ℕ) where
-  refused-24 : (question24 es bodies).yes ≡ false → answer.Refused 24 ≡ packet_written es bodies room
+  refused-24 : (question24 es bodies).yes ≡ false → Err (no 24) ≡ packet_written es bodies room
   unfolding packet_written write_refusal
   refused-24 a = simp a
 
-  pub empty : length es < 1 → answer.Refused 24 ≡ packet_written es bodies room
+  pub empty : length es < 1 → Err (no 24) ≡ packet_written es bodies room
   empty h = refused-24 (simp (lt-leb 1 (length es) h))
 
   module _ (a : 1 ≤ length es) (b : length es ≤ 64) where
-    pub bad : all_good es ≡ false → answer.Refused 24 ≡ packet_written es bodies room
+    pub bad : all_good es ≡ false → Err (no 24) ≡ packet_written es bodies room
     bad g = refused-24 (simp (le-leb _ _ a, le-leb _ _ b, g))
 
     module _ (g : all_good es ≡ true) where
-      pub uneven : (summed es ≡ length bodies → ⊥) → answer.Refused 24 ≡ packet_written es bodies room
+      pub uneven : (summed es ≡ length bodies → ⊥) → Err (no 24) ≡ packet_written es bodies room
       uneven n = refused-24 (simp (le-leb _ _ a, le-leb _ _ b, g, ne_eqb _ _ n))
 
       module _ (e : summed es ≡ length bodies) (total : ℕ) (t : total ≡ total_of (length es) bodies) where
-        refused-25 : (question25 (length es) bodies room).yes ≡ false → answer.Refused 25 ≡ packet_written es bodies room
+        refused-25 : (question25 (length es) bodies room).yes ≡ false → Err (no 25) ≡ packet_written es bodies room
         unfolding packet_written write_refusal
         refused-25 q = simp (le-leb _ _ a, le-leb _ _ b, g, eq-eqb _ _ e, q)
 
-        pub unroomy : (ltb 1400 total || ltb room total) ≡ true → answer.Refused 25 ≡ packet_written es bodies room
+        pub unroomy : (1400 < total) ⊎ (room < total) → Err (no 25) ≡ packet_written es bodies room
         unroomy h = refused-25 (rw (← t) (crowded total room h))
 
-        pub written-whole : total ≤ 1400 → total ≤ room → answer.Total total ≡ packet_written es bodies room
+        pub written-whole : total ≤ 1400 → total ≤ room → Ok total ≡ packet_written es bodies room
         written-whole s f =
-            ap answer.Total t
+            ap Ok t
             ∙ sym
             (accepted es bodies room
             (record { some = a; few = b; good = g; exact = e; short = rw t at s; fits = rw t at f }))

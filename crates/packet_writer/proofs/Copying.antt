@@ -1,18 +1,9 @@
--- A loop that copies bytes into the output.
-use mathlib.Core.Path.{◌≡◌, sym, ap, ◌∙◌}
-use mathlib.Core.List.{List, [], ◌∷◌}
-use Prim.Native.Nat.{ℕ, ◌+◌, ◌≤◌, ◌<◌}
-use native.Mathlib.Nat.{le_of_lt}
-use native.Mathlib.Numerals.{add-one}
-use lib.ListN.{length, take, get_or, set}
-use lib.Seq.{sets, take-suc, length-take-le, take_all}
-use Rattle.packet_contents.proofs.Stores.{sets_then}
+-- The bodies, copied into their part of the output.
+use Rattle.std.proofs.Common.{◌≡◌, ℕ, ◌+◌, ◌≤◌, List, length, take, drop, sym, ◌∙◌, arith, append_assoc}
+use Rattle.std.proofs.lemmas.List.Edits.{sets, sets-eq, paste_all}
+use Rattle.std.proofs.lemmas.Slice.{put_mid-paste}
+use borrow.Rule.Slice.PartMut.{put_mid}
 
--- a turn, and its end
-pub sets_more : (d o : List ℕ) (at : ℕ) (s : List ℕ) (k : ℕ) → k < length s → o ≡ sets d at (take k s) → set o (at + k) (get_or s k 0) ≡ sets d at (take (k + 1) s)
-sets_more d o at s k h eo =
-    sets_then d o at (at + k) (take k s) (get_or s k 0 ∷ []) eo (ap (λ (n : ℕ). at + n) (sym (length-take-le k s (le_of_lt h))))
-    ∙ ap (sets d at) (sym (take-suc s k 0 h) ∙ ap (λ (n : ℕ). take n s) (sym (add-one k)))
-
-pub sets-done : (d : List ℕ) (at : ℕ) (s : List ℕ) (k : ℕ) → length s ≤ k → sets d at (take k s) ≡ sets d at s
-sets-done d at s k h = ap (sets d at) (take_all k s h)
+pub copied : (out part bodies : List ℕ) (at k : ℕ) → part ≡ bodies → k ≡ length bodies → at + k ≤ length out → put_mid at k out part ≡ sets out at bodies
+copied out part bodies at k e n h =
+    put_mid-paste at k out part bodies (length bodies) e (sym n) (omega arith) ∙ paste_all out at bodies (length bodies) (omega arith) ∙ sym (append_assoc (take at out) bodies (drop (at + length bodies) out)) ∙ sym (sets-eq bodies out at (omega arith))
