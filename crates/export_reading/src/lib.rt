@@ -2,6 +2,7 @@
 #![tactic(auto)]
 
 mod asking;
+mod handing;
 mod reading;
 
 pub use asking::cetskobi_ask;

@@ -2,8 +2,9 @@
 ghost use Rattle.export_calls.specs.Calls.{node_of};
 ghost use Rattle.export_reading.specs.Reading.{ReadDone};
 
+use crate::handing::handed_out;
 use export_numbers::{CetskobiReading, CetskobiReplica};
-use replica_asking::Asked;
+use hermes::Refused;
 
 // Read of record i: its number, and the length of its part, which begins at 192 times i.
 #[unsafe(no_mangle)]
@@ -15,26 +16,11 @@ pub extern "C" fn cetskobi_read(
 ) -> CetskobiReading
     ensures { ReadDone (node_of me table.now store.now) i result }
 {
-    let who = export_numbers::replica_of(me);
-    let a = export_calls::begin(who, table, store.len(), i);
-    let Asked::Passed(r) = a else {
-        let no = export_calls::refused(a);
-        return CetskobiReading {
-            number: no.number,
-            len: 0,
-        };
-    };
-    let count = export_records::count(table.len());
-    let answer = replica_reading::read_number(who, count, store.len(), i, r);
-    let number = replica_outcome::number_of(answer);
-    if number != 0 {
-        return CetskobiReading {
-            number: number,
-            len: 0,
-        };
-    }
-    CetskobiReading {
-        number: 0,
-        len: r.len as usize,
+    match handed_out(me, table, store, i) {
+        Ok(r) => CetskobiReading {
+            number: 0,
+            len: r.len as usize,
+        },
+        Err(Refused(number)) => CetskobiReading { number, len: 0 },
     }
 }

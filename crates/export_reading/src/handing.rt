@@ -1,0 +1,25 @@
+// What a read and an ask share: they ask the same questions, and hand out of the same record.
+ghost use Rattle.export_calls.specs.Calls.{node_of};
+ghost use Rattle.export_reading.specs.Reading.{HandedOut};
+
+use export_calls::begin;
+use export_numbers::CetskobiReplica;
+use export_records::count;
+use hermes::{Record, Refused, Replica};
+
+// Record i, if it is handed out.
+#[inline(always)]
+pub(crate) fn handed_out(
+    me: CetskobiReplica,
+    table: &[u8],
+    store: &[u8],
+    i: usize,
+) -> Result<Record, Refused>
+    ensures { HandedOut (node_of me table.now store.now) i result }
+{
+    let me = Replica::from(me);
+    let r = begin(me, table, store.len(), i)?;
+    let count = count(table.len());
+    replica_reading::read_number(me, count, store.len(), i, r)?;
+    Ok(r)
+}
