@@ -6,8 +6,6 @@ ghost use Rattle.std.specs.Prelude.{◌≡◌, length};
 ghost use Rattle.play_game.specs.Play.{played_answer, output_of};
 ghost use Rattle.export_play.specs.Playing.{played_out};
 
-use play_game::Played;
-
 // The number of a script or an output beyond the player's limits. No question has it.
 const BEYOND: u8 = 255;
 
@@ -19,15 +17,17 @@ pub struct CetskobiPlayed {
     pub len: usize,
 }
 
-fn played_out(p: Played) -> CetskobiPlayed
-    ensures { result ≡ played_out p }
-{
-    match p {
-        Played::Printed(n) => CetskobiPlayed { number: 0, len: n },
-        Played::Refused => CetskobiPlayed {
-            number: BEYOND,
-            len: 0,
-        },
+impl From<Option<usize>> for CetskobiPlayed {
+    ghost from_gives = { λ printed played. played ≡ played_out printed };
+
+    fn from(printed: Option<usize>) -> CetskobiPlayed {
+        match printed {
+            Some(len) => CetskobiPlayed { number: 0, len },
+            None => CetskobiPlayed {
+                number: BEYOND,
+                len: 0,
+            },
+        }
     }
 }
 
@@ -37,6 +37,5 @@ pub extern "C" fn cetskobi_play(script: &[u8], out: &mut [u8]) -> CetskobiPlayed
     ensures { (result ≡ played_out (played_answer script.now (length out.old)))
         × (out.new ≡ output_of script.now out.old) }
 {
-    let p = play_game::play(script, out);
-    played_out(p)
+    play_game::play(script, out).into()
 }

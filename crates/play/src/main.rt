@@ -4,22 +4,14 @@
 ghost use Rattle.std.specs.Prelude.{◌≡◌, ℕ, ◌<◌, ◌≤◌, length, take, IfOk, OnErr};
 ghost use Rattle.std.specs.Io.KnownBytes.{Consumes, IsAtEnd};
 
-use play_game::Played;
 use std::io;
 use std::io::Read;
 
-// Room for the script.
-fn input() -> [u8; 65536]
-    ensures { 65536 ≡ length result }
+// So many zeros. In a function of its own, so that no proof of its caller computes an array of this size.
+fn zeros<const N: usize>() -> [u8; N]
+    ensures { N ≡ length result }
 {
-    [0; 65536]
-}
-
-// Room for whatever an input of 65,536 bytes can print.
-fn output() -> [u8; 1638402]
-    ensures { 1638402 ≡ length result }
-{
-    [0; 1638402]
+    [0; N]
 }
 
 // Reads until the buffer is full or the input ends. The answer is how many bytes stand at the buffer's front then. The reader's error ends it,
@@ -42,15 +34,12 @@ fn read_full<R: Read>(reader: &mut R, buf: &mut [u8]) -> io::Result<usize>
 }
 
 fn main(rt: HostRuntime) -> io::Result<()> {
-    let mut input = input();
+    // Room for the script, and for whatever it can print.
+    let mut input = zeros::<65536>();
+    let mut out = zeros::<1638402>();
     let n = read_full(&mut rt.stdin(), &mut input)?;
-    let mut out = output();
-    let played = play_game::play(&input[..n], &mut out);
-    let Played::Printed(to) = played else {
-        return Ok(());
-    };
-    if to <= out.len() {
-        return rt.write_all(&out[..to]);
+    match play_game::play(&input[..n], &mut out) {
+        Some(to) if to <= out.len() => rt.write_all(&out[..to]),
+        _ => Ok(()),
     }
-    Ok(())
 }

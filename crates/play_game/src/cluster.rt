@@ -43,7 +43,7 @@ fn keep(m: &Member, o: Outgoing, log: &mut Log) -> Option<u8>
     let (message, header) = o?;
     let body = replica_outgoing::body(o, m.held, &m.store);
     let n = log.append(message, header, body)?;
-    Some((n % 256) as u8)
+    Some(n as u8)
 }
 
 // `count` of the members are in play.
