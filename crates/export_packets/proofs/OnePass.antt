@@ -6,9 +6,8 @@ use mathlib.Core.Logic.{⊎_elim}
 use native.Mathlib.Omega.{arith}
 use lib.ListN.{length, take, drop}
 use Rattle.hermes_record.specs.declared.timestamp.Rule.{Rule}
-use Rattle.packet_format.specs.declared.answer.Fetched.{Fetched}
-use Rattle.packet_format.specs.declared.answer.Taken.{Taken}
-use Rattle.packet_format.specs.declared.answer.Taken.TheVariants.{Entry, Refused}
+use Rattle.packet_format.specs.Answer.{Fetched, Taken}
+use Rattle.std.specs.Prelude.{Err, Ok}
 use Rattle.packet_format.specs.Entry.{good}
 use Rattle.packet_format.specs.Reading.{walk}
 use Rattle.packet_format.specs.Accepting.{accept_refusal, accepted, take_refusal, taken, fetched_of, Refuses}
@@ -24,8 +23,8 @@ use Rattle.export_packets.proofs.RoundTrip.{packed-is-fetched, packed-for-others
 
 module _ (rule : Rule) (packet : List ℕ) (i : ℕ) where
   crosses : (t : Taken) → taken packet (accepted rule packet) i ≡ t → taken_out t ≡ fetched_out (fetched_of t)
-  crosses (Entry f) e = ap (fields_out 0) (sym (message-back f f.offset (good-parts f (taken-is-good rule packet i f e)).kind refl))
-  crosses (Refused k) e = refl
+  crosses (Ok f) e = ap (fields_out 0) (sym (message-back f f.offset (good-parts f (taken-is-good rule packet i f e)).kind refl))
+  crosses (Err k) e = refl
 
 pub one-pass : OnePass
 one-pass rule packet i = crosses rule packet i (taken packet (accepted rule packet) i) refl ∙ ap fetched_out (taken-is-fetched rule packet i)
@@ -43,8 +42,8 @@ pub nothing-outside : NothingOutside
 nothing-outside packet facts i z = within (taken packet (accepted_in facts) i) refl z
   where
     within : (t : Taken) → taken packet (accepted_in facts) i ≡ t → (taken_out t).number ≡ 0 → (taken_out t).at + (taken_out t).len ≤ length packet
-    within (Entry f) e z = taken-lies-within packet (accepted_in facts) i f e
-    within (Refused k) e z = omega arith
+    within (Ok f) e z = taken-lies-within packet (accepted_in facts) i f e
+    within (Err k) e z = omega arith
 
 -- what was packed: every message is within the count, and there are no others
 module _ (rule : Rule) (packet messages bodies : List ℕ) (f : Fetches rule packet messages bodies) where

@@ -9,9 +9,8 @@ use lib.ListN.{length, take, drop, get_or}
 use Rattle.hermes_record.specs.declared.timestamp.Rule.{Rule}
 use Rattle.packet_format.specs.declared.entry.Entry.{Entry}
 use Rattle.packet_format.specs.declared.entry.Fields.{Fields}
-use Rattle.packet_format.specs.declared.answer.Fetched.{Fetched}
-use Rattle.packet_format.specs.declared.answer.Fetched.TheVariants.{Found}
-use Rattle.packet_format.specs.declared.answer.Written.TheVariants.{Total}
+use Rattle.packet_format.specs.Answer.{Fetched}
+use Rattle.std.specs.Prelude.{Ok}
 use Rattle.packet_format.specs.Entry.{fields_of, entry_of, no_entry}
 use Rattle.packet_format.specs.Reading.{count_of, entry_place, packet_messages, fetch_refusal, fetched_as, fetched}
 use Rattle.packet_format.specs.Accepting.{Refuses}
@@ -29,11 +28,11 @@ use Rattle.export_packets.specs.RoundTrip.{PackedIsFetched, words_out, words_fro
 -- ---- what `cetskobi_pack` wrote, `cetskobi_fetch` reads
 
 -- number 0: a packet was written
-packed-total : (messages bodies out : List ℕ) → (pack_answer messages bodies out).number ≡ 0 → packed messages bodies (length out) ≡ Total (pack_answer messages bodies out).len
+packed-total : (messages bodies out : List ℕ) → (pack_answer messages bodies out).number ≡ 0 → packed messages bodies (length out) ≡ Ok (pack_answer messages bodies out).len
 unfolding packet_written
 packed-total messages bodies out = go (write_refusal (word_messages messages) bodies (length out)) (total_of (length (word_messages messages)) bodies)
   where
-    go : (k n : ℕ) → (written_out (written_as k n)).number ≡ 0 → written_as k n ≡ Total (written_out (written_as k n)).len
+    go : (k n : ℕ) → (written_out (written_as k n)).number ≡ 0 → written_as k n ≡ Ok (written_out (written_as k n)).len
     go zero n h = refl
     go (suc k) n h = absurd (omega arith)
 
@@ -76,11 +75,11 @@ packed-is-fetched rule messages bodies out h =
 
 -- number 0: a message was found
 fetched-found : (rule : Rule) (packet : List ℕ) (i : ℕ) → (fetch_answer rule packet i).number ≡ 0
-    → fetched rule packet i ≡ Found (entry_of (fields_of (drop (entry_place i) packet))) (fields_of (drop (entry_place i) packet)).offset
+    → fetched rule packet i ≡ Ok (entry_of (fields_of (drop (entry_place i) packet)), (fields_of (drop (entry_place i) packet)).offset)
 unfolding fetched
 fetched-found rule packet i = go (fetch_refusal rule packet i) (fields_of (drop (entry_place i) packet))
   where
-    go : (k : ℕ) (f : Fields) → (fetched_out (fetched_as k f)).number ≡ 0 → fetched_as k f ≡ Found (entry_of f) f.offset
+    go : (k : ℕ) (f : Fields) → (fetched_out (fetched_as k f)).number ≡ 0 → fetched_as k f ≡ Ok (entry_of f, f.offset)
     go zero f h = refl
     go (suc k) f h = absurd (omega arith)
 

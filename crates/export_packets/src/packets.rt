@@ -5,6 +5,7 @@ ghost use Rattle.export_packets.specs.Calls.{fetch_answer, accept_answer, take_a
 
 use export_fields::{CetskobiAccepted, CetskobiFetched, CetskobiWritten};
 use export_numbers::CetskobiSettings;
+use hermes::Settings;
 use packet_format::Taken;
 
 // Message i of a packet, read in a group with these settings.
@@ -16,9 +17,7 @@ pub extern "C" fn cetskobi_fetch(
 ) -> CetskobiFetched
     ensures { result ≡ fetch_answer (settings_of settings).rule packet.now i }
 {
-    let fixed = export_numbers::settings_of(settings);
-    let rule = fixed.rule;
-    export_fields::fetched_out(packet_reader::fetch(rule, packet, i))
+    packet_reader::fetch(Settings::from(settings).rule, packet, i).into()
 }
 
 // The facts of a packet, for all of its messages, in a group with these settings: questions 20, 27, 21 and 22.
@@ -26,9 +25,7 @@ pub extern "C" fn cetskobi_fetch(
 pub extern "C" fn cetskobi_accept(settings: CetskobiSettings, packet: &[u8]) -> CetskobiAccepted
     ensures { result ≡ accept_answer (settings_of settings).rule packet.now }
 {
-    let fixed = export_numbers::settings_of(settings);
-    let rule = fixed.rule;
-    export_fields::accepted_out(packet_reader::accept(rule, packet))
+    packet_reader::accept(Settings::from(settings).rule, packet).into()
 }
 
 // Message i of a packet by its facts, in constant time; whatever facts they are.
@@ -40,14 +37,13 @@ pub extern "C" fn cetskobi_fetch_accepted(
 ) -> CetskobiFetched
     ensures { result ≡ take_answer packet.now accepted i }
 {
-    let facts = export_fields::accepted_in(accepted);
     // A return in each case: the compiler then writes the numbers straight into the answer. Of two cases joined it carries all nine in registers first.
-    match packet_reader::take(packet, facts, i) {
-        Taken::Entry(f) => {
-            return export_fields::taken_out(Taken::Entry(f));
+    match packet_reader::take(packet, accepted.into(), i) {
+        Ok(fields) => {
+            return fields.into();
         }
-        Taken::Refused(k) => {
-            return export_fields::taken_out(Taken::Refused(k));
+        Err(no) => {
+            return Taken::Err(no).into();
         }
     }
 }
@@ -63,8 +59,5 @@ pub extern "C" fn cetskobi_pack(
     ensures { (result ≡ pack_answer messages.now bodies.now out.old)
         × (out.new ≡ pack_output (settings_of settings).rule messages.now bodies.now out.old) }
 {
-    let fixed = export_numbers::settings_of(settings);
-    let rule = fixed.rule;
-    let written = packet_writer::write(rule, messages, bodies, out);
-    export_fields::written_out(written)
+    packet_writer::write(Settings::from(settings).rule, messages, bodies, out).into()
 }
