@@ -1,2 +1,1 @@
--- What the proofs share.
 pub mod Receipt
