@@ -6,18 +6,25 @@ ghost use Rattle.export_calls.specs.Calls.{beginning, Finished};
 
 use export_decoding::SIZE;
 use export_numbers::CetskobiAnswer;
-use hermes::{Moved, Record, Refused, Replica};
+use hermes::{Moved, Record, Refused, Replica, Subject};
 use replica_asking::Asked;
 
 // Questions 1 to 4 for a table of so many bytes: two calls, so that the count is one value in each, and no choice of two.
 #[inline(always)]
-fn beforehand(me: Replica, len: usize, bytes: usize, i: usize, r: Record) -> Asked
-    ensures { result ≡ asked (beforehand me (count_of len) bytes i) r }
+fn beforehand(me: Replica, len: usize, bytes: usize, i: usize, found: Record) -> Asked
+    ensures { result ≡ asked (beforehand me (count_of len) bytes i) found }
 {
+    let none = Subject {
+        me,
+        count: 0,
+        index: i,
+        found,
+    };
     if len % SIZE == 0 {
-        replica_asking::beforehand(me, len / SIZE, bytes, i, r)
+        let count = len / SIZE;
+        replica_asking::beforehand(Subject { count, ..none }, bytes)
     } else {
-        replica_asking::beforehand(me, 0, bytes, i, r)
+        replica_asking::beforehand(none, bytes)
     }
 }
 

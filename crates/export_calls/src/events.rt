@@ -4,12 +4,11 @@ ghost use Rattle.export_calls.specs.Steps.{Quietly, Storing};
 use crate::calls::{begin, finish};
 use export_numbers::{CetskobiAnswer, CetskobiReplica};
 use export_records::count;
-use hermes::{Answer, Moved, Record, Replica};
+use hermes::{Answer, Moved, Replica, Subject};
 
-// An event on record i that leaves the store, of so many bytes, as it is. The step gets the identity, how many records and how many bytes of
-// store there are, and the record.
+// An event on record i that leaves the store, of so many bytes, as it is. The step gets the event's subject and how many bytes of store there are.
 #[inline(always)]
-pub fn quiet<F: FnOnce(Replica, usize, usize, Record) -> Moved>(
+pub fn quiet<F: FnOnce(Subject, usize) -> Moved>(
     me: CetskobiReplica,
     table: &mut [u8],
     bytes: usize,
@@ -21,21 +20,25 @@ pub fn quiet<F: FnOnce(Replica, usize, usize, Record) -> Moved>(
 {
     let me = Replica::from(me);
     match begin(me, table, bytes, i) {
-        Ok(r) => {
-            let m = step(me, count(table.len()), bytes, r);
+        Ok(found) => {
+            let count = count(table.len());
+            let s = Subject {
+                me,
+                count,
+                index: i,
+                found,
+            };
+            let m = step(s, bytes);
             finish(table, i, m)
         }
         Err(no) => Answer::Err(no).into(),
     }
 }
 
-// An event on record i that stores its value, where `takes` says so of the identity and the record. That is asked first, and the record's
+// An event on record i that stores its value, where `takes` says so of the subject. That is asked first, and the record's
 // bytes go back before the value goes into its place: then the compiler stores no byte of the record that stays as it was.
 #[inline(always)]
-pub fn storing<
-    T: FnOnce(Replica, Record) -> bool,
-    F: FnOnce(Replica, usize, usize, Record) -> Moved,
->(
+pub fn storing<T: FnOnce(Subject) -> bool, F: FnOnce(Subject, usize) -> Moved>(
     me: CetskobiReplica,
     table: &mut [u8],
     store: &mut [u8],
@@ -50,10 +53,16 @@ pub fn storing<
 {
     let me = Replica::from(me);
     match begin(me, table, store.len(), i) {
-        Ok(r) => {
+        Ok(found) => {
             let count = count(table.len());
-            let taken = takes(me, r);
-            let m = step(me, count, store.len(), r);
+            let s = Subject {
+                me,
+                count,
+                index: i,
+                found,
+            };
+            let taken = takes(s);
+            let m = step(s, store.len());
             if taken {
                 let answer = finish(table, i, m);
                 replica_outcome::stored(store, count, i, m.answer, value);

@@ -7,6 +7,7 @@ use Rattle.hermes_record.specs.declared.record.Record.{Record}
 use Rattle.hermes.specs.declared.message.Received.{Received}
 use Rattle.hermes.specs.declared.event.Settings.{Settings}
 use Rattle.hermes.specs.declared.event.Replica.{Replica}
+use Rattle.hermes.specs.declared.event.Subject.{Subject}
 use Rattle.hermes.specs.declared.event.Event.TheVariants.{Deliver}
 use Rattle.hermes.specs.declared.event.Moved.{Moved}
 use Rattle.hermes_record.specs.Order.{ties}
@@ -25,21 +26,21 @@ keeps : (who : Replica) (count i : ℕ) (r : Record) (store : List ℕ) (m : Rec
 keeps who count i r store m v true e = is-stored who count i r store m v e _ refl
 keeps who count i r store m v false e = is-kept who count i r store m v e
 
-pub stored_done : (me : CetskobiReplica) (before store : List ℕ) (i : ℕ) (v : List ℕ) (takes : Replica → Record → Bool → Type 0) (step : Step) (a : CetskobiAnswer) (bytes' store' : List ℕ)
+pub stored_done : (me : CetskobiReplica) (before store : List ℕ) (i : ℕ) (v : List ℕ) (takes : Subject → Bool → Type 0) (step : Step) (a : CetskobiAnswer) (bytes' store' : List ℕ)
     → Storing takes step me before store i v a bytes' store' → (m : Received)
-    → ((who : Replica) (r : Record) (b : Bool) → takes who r b → b ≡ stores who.settings r.timestamp m.message)
-    → ((who : Replica) (count : ℕ) (r : Record) (d : Moved) → step who count (length store) r d → d ≡ moved ties who count (length store) i r (Deliver m) v)
+    → ((s : Subject) (b : Bool) → takes s b → b ≡ stores s.me.settings s.found.timestamp m.message)
+    → ((s : Subject) (d : Moved) → step s (length store) d → d ≡ moved ties s.me s.count (length store) s.index s.found (Deliver m) v)
     → Done (node_of me before store) before i (Deliver m) v a bytes' store'
 stored_done me before store i v takes step a bytes' store' d m asks moves =
-    d.done (Deliver m) (λ who count r b d p q. rw (asks who r b p, moves who count r d q) (same-moved who count i r store m v, keeps who count i r store m v _ refl))
+    d.done (Deliver m) (λ s b d p q. rw (asks s b p, moves s d q) (same-moved s.me s.count s.index s.found store m v, keeps s.me s.count s.index s.found store m v _ refl))
 
 -- and the same of an ACK and a VAL, whose delivery stores nothing
 pub kept_done : (me : CetskobiReplica) (before : List ℕ) (n i : ℕ) (step : Step) (a : CetskobiAnswer) (bytes' : List ℕ) → Quietly step me before n i a bytes'
     → (store : List ℕ) (m : Received) (v : List ℕ) → ((t : Timestamp) × (m.message ≡ Ack t)) ⊎ ((t : Timestamp) × (m.message ≡ Val t)) → length store ≡ n
-    → ((who : Replica) (count : ℕ) (r : Record) (d : Moved) → step who count n r d → d ≡ moved ties who count n i r (Deliver m) v)
+    → ((s : Subject) (d : Moved) → step s n d → d ≡ moved ties s.me s.count n s.index s.found (Deliver m) v)
     → Done (node_of me before store) before i (Deliver m) v a bytes' store
 kept_done me before n i step a bytes' d store m v kind l moves =
-    d.done store (Deliver m) v l (λ who count r x p. ((rw l (moves who count r x (rw l at p))) ∙ same-moved who count i r store m v, is-kept who count i r store m v (none who.settings r.timestamp kind)))
+    d.done store (Deliver m) v l (λ s x p. ((rw l (moves s x (rw l at p))) ∙ same-moved s.me s.count s.index s.found store m v, is-kept s.me s.count s.index s.found store m v (none s.me.settings s.found.timestamp kind)))
   where
     none : (x : Settings) (now : Timestamp) → ((t : Timestamp) × (m.message ≡ Ack t)) ⊎ ((t : Timestamp) × (m.message ≡ Val t)) → stores x now m.message ≡ false
     none x now (inl (t, e)) = rw e

@@ -5,7 +5,7 @@ ghost use Rattle.export_calls.specs.Calls.{node_of, Done};
 
 use export_calls::{quiet, storing};
 use export_numbers::{CetskobiAnswer, CetskobiMessage, CetskobiReplica};
-use hermes::{Message, Received};
+use hermes::{Message, Received, Subject};
 use replica_delivery::{move_message, stores};
 
 // The kind is asked first: only an invalidation stores, and the compiler keeps the record in registers.
@@ -19,21 +19,13 @@ fn deliver(
 ) -> CetskobiAnswer
     ensures { Done (node_of me table.old store.old) table.old i (Deliver m) value.now result table.new store.new }
 {
+    let step = |s: Subject, bytes: usize| move_message(s, bytes, m, value);
     match m.message {
-        Message::Inv(_) => storing(
-            me,
-            table,
-            store,
-            i,
-            value,
-            |me, r| stores(me, r, m),
-            |me, count, bytes, r| move_message(me, count, bytes, i, r, m, value),
-        ),
-        Message::Ack(_) | Message::Val(_) => {
-            quiet(me, table, store.len(), i, |me, count, bytes, r| {
-                move_message(me, count, bytes, i, r, m, value)
-            })
+        Message::Inv(_) => {
+            let takes = |s: Subject| stores(s.me, s.found, m);
+            storing(me, table, store, i, value, takes, step)
         }
+        Message::Ack(_) | Message::Val(_) => quiet(me, table, store.len(), i, step),
     }
 }
 

@@ -2,8 +2,7 @@
 use Rattle.std.specs.Prelude.{ℕ, ◌≡◌, Option, None, Some, Bool, true, List, length}
 use Rattle.std.proofs.Common.{refl}
 use Rattle.hermes_record.specs.declared.timestamp.Timestamp.{Timestamp}
-use Rattle.hermes_record.specs.declared.record.Record.{Record}
-use Rattle.hermes.specs.declared.event.Replica.{Replica}
+use Rattle.hermes.specs.declared.event.Subject.{Subject}
 use Rattle.hermes.specs.declared.event.Event.{Event}
 use Rattle.hermes.specs.declared.event.Event.TheVariants.{Write, Commit}
 use Rattle.hermes.specs.declared.event.Moved.{Moved}
@@ -16,15 +15,15 @@ use Rattle.export_numbers.specs.declared.numbers.CetskobiAnswer.{CetskobiAnswer}
 use Rattle.export_calls.specs.Calls.{node_of, Done}
 use Rattle.export_calls.specs.Steps.{Step, Storing}
 
-module _ (me : CetskobiReplica) (before store : List ℕ) (i : ℕ) (v : List ℕ) (takes : Replica → Record → Bool → Type 0) (step : Step) (a : CetskobiAnswer) (bytes' store' : List ℕ) (d : Storing takes step me before store i v a bytes' store') where
+module _ (me : CetskobiReplica) (before store : List ℕ) (i : ℕ) (v : List ℕ) (takes : Subject → Bool → Type 0) (step : Step) (a : CetskobiAnswer) (bytes' store' : List ℕ) (d : Storing takes step me before store i v a bytes' store') where
   -- the value is always stored, and the record moves as by this event
   abbrev pub Saves : Event → Type 0
-  Saves e = ((who : Replica) (r : Record) (b : Bool) → takes who r b → b ≡ true)
-      × ((who : Replica) (count : ℕ) (r : Record) (m : Moved) → step who count (length store) r m → m ≡ moved ties who count (length store) i r e v)
+  Saves e = ((s : Subject) (b : Bool) → takes s b → b ≡ true)
+      × ((s : Subject) (m : Moved) → step s (length store) m → m ≡ moved ties s.me s.count (length store) s.index s.found e v)
 
   saved : (opened : Option Timestamp) → Saves (save_of opened) → Done (node_of me before store) before i (save_of opened) v a bytes' store'
   saved opened (always, moves) =
-      d.done (save_of opened) (λ who count r b m p q. rw (always who r b p, moves who count r m q) (save-moved who count i r store v opened, save-stored who count i r store v opened _ refl))
+      d.done (save_of opened) (λ s b m p q. rw (always s b p, moves s m q) (save-moved s.me s.count s.index s.found store v opened, save-stored s.me s.count s.index s.found store v opened _ refl))
 
   pub write_done : Saves Write → Done (node_of me before store) before i Write v a bytes' store'
   write_done s = saved None s

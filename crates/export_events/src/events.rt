@@ -8,6 +8,7 @@ ghost use Rattle.export_calls.specs.Calls.{node_of, Done};
 use export_calls::{quiet, storing};
 use export_numbers::{CetskobiAnswer, CetskobiReplica};
 use hermes::Timestamp;
+use replica_saving::move_save;
 
 // Write of a value to record i. A commit shares all but `opened`, and yet each has its own step: one with two callers would not be inlined.
 #[unsafe(no_mangle)]
@@ -26,8 +27,8 @@ pub extern "C" fn cetskobi_write(
         store,
         i,
         value,
-        |_, _| true,
-        |me, count, bytes, r| { replica_saving::move_save(me, count, bytes, i, r, None, value) },
+        |_| true,
+        |s, bytes| { move_save(s, bytes, None, value) },
     )
 }
 
@@ -51,8 +52,8 @@ pub extern "C" fn cetskobi_commit(
         store,
         i,
         value,
-        |_, _| true,
-        |me, count, bytes, r| { replica_saving::move_save(me, count, bytes, i, r, Some(t), value) },
+        |_| true,
+        |s, bytes| { move_save(s, bytes, Some(t), value) },
     )
 }
 
@@ -66,8 +67,8 @@ pub extern "C" fn cetskobi_replay(
 ) -> CetskobiAnswer
     ensures { Done (node_of me table.old store.now) table.old i Replay [] result table.new store.now }
 {
-    quiet(me, table, store.len(), i, |me, count, bytes, r| {
-        replica_settling::replay(me, count, bytes, i, r)
+    quiet(me, table, store.len(), i, |s, bytes| {
+        replica_settling::replay(s, bytes)
     })
 }
 
@@ -81,8 +82,8 @@ pub extern "C" fn cetskobi_validate(
 ) -> CetskobiAnswer
     ensures { Done (node_of me table.old store.now) table.old i Validate [] result table.new store.now }
 {
-    quiet(me, table, store.len(), i, |me, count, bytes, r| {
-        replica_settling::validate(me, count, bytes, i, r)
+    quiet(me, table, store.len(), i, |s, bytes| {
+        replica_settling::validate(s, bytes)
     })
 }
 
@@ -96,7 +97,7 @@ pub extern "C" fn cetskobi_resend(
 ) -> CetskobiAnswer
     ensures { Done (node_of me table.old store.now) table.old i Resend [] result table.new store.now }
 {
-    quiet(me, table, store.len(), i, |me, count, bytes, r| {
-        replica_settling::resend(me, count, bytes, i, r)
+    quiet(me, table, store.len(), i, |s, bytes| {
+        replica_settling::resend(s, bytes)
     })
 }

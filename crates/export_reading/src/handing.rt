@@ -5,7 +5,7 @@ ghost use Rattle.export_reading.specs.Reading.{HandedOut};
 use export_calls::begin;
 use export_numbers::CetskobiReplica;
 use export_records::count;
-use hermes::{Record, Refused, Replica};
+use hermes::{Record, Refused, Replica, Subject};
 
 // Record i, if it is handed out.
 #[inline(always)]
@@ -18,8 +18,13 @@ pub(crate) fn handed_out(
     ensures { HandedOut (node_of me table.now store.now) i result }
 {
     let me = Replica::from(me);
-    let r = begin(me, table, store.len(), i)?;
-    let count = count(table.len());
-    replica_reading::read_number(me, count, store.len(), i, r)?;
-    Ok(r)
+    let found = begin(me, table, store.len(), i)?;
+    let s = Subject {
+        me,
+        count: count(table.len()),
+        index: i,
+        found,
+    };
+    replica_reading::read_number(s, store.len())?;
+    Ok(found)
 }

@@ -19,6 +19,15 @@ pub struct Replica {
     pub settings: Settings,
 }
 
+// What an event is about: record `index` of replica `me`, which has `count` records; `found` is that record as the event finds it.
+#[derive(Clone, Copy)]
+pub struct Subject {
+    pub me: Replica,
+    pub count: usize,
+    pub index: usize,
+    pub found: Record,
+}
+
 // An event on one record. A write, a commit and an invalidation bring a value with them, beside the event; a commit also the
 // timestamp that an ask handed out.
 #[derive(Clone, Copy)]

@@ -5,6 +5,6 @@
 mod event;
 mod message;
 
-pub use event::{Admission, Answer, Event, Moved, Refused, Replica, Settings};
+pub use event::{Admission, Answer, Event, Moved, Refused, Replica, Settings, Subject};
 pub use hermes_record::{Record, Rule, State, Timestamp};
 pub use message::{Header, Message, Outgoing, Received};

@@ -6,7 +6,7 @@ ghost use Rattle.hermes.specs.Node.{index_of, apply, viewed};
 ghost use Rattle.hermes.specs.Run.{event};
 ghost use Rattle.play_member.specs.Member.{node_of, fresh_in, result_of};
 
-use hermes::{Answer, Event, Record, Replica, Rule, Settings};
+use hermes::{Answer, Event, Record, Replica, Rule, Settings, Subject};
 
 // A replica of one record, with its store.
 #[derive(Clone, Copy)]
@@ -42,7 +42,13 @@ impl Member {
     pub fn apply(&mut self, e: Event, value: &[u8]) -> Answer
         ensures { (result_of (Some result) self.new ≡ event (apply ties (node_of self.old) 0 e value.now)) × (index_of (sent_by result) ≡ 0) }
     {
-        let moved = replica_events::step(self.me, 1, 0, self.held, &mut self.store, e, value);
+        let s = Subject {
+            me: self.me,
+            count: 1,
+            index: 0,
+            found: self.held,
+        };
+        let moved = replica_events::step(s, &mut self.store, e, value);
         self.held = moved.after;
         moved.answer
     }

@@ -7,7 +7,7 @@ ghost use Rattle.hermes.specs.Guards.{ask, question1, question2, question3, ques
 ghost use Rattle.hermes.specs.Node.{start_questions};
 ghost use Rattle.replica_asking.specs.Cascade.{asked, beforehand, stopped_by};
 
-use hermes::{Moved, Record, Refused, Replica, Timestamp};
+use hermes::{Moved, Record, Refused, Replica, Subject, Timestamp};
 
 // What a question answers: the record, passed on, or its own number. So `?` after a question goes on after a yes, and ends at a no.
 pub type Asked = Result<Record, Refused>;
@@ -101,18 +101,18 @@ pub fn at_start(me: Replica, count: usize, bytes: usize, r: Record) -> Asked
 }
 
 // Questions 1 to 4, of every event on a record: they look at none.
-pub fn beforehand(me: Replica, count: usize, bytes: usize, i: usize, r: Record) -> Asked
-    ensures { result ≡ asked (beforehand me count bytes i) r }
+pub fn beforehand(s: Subject, bytes: usize) -> Asked
+    ensures { result ≡ asked (beforehand s.me s.count bytes s.index) s.found }
 {
-    let r = at_start(me, count, bytes, r)?;
-    question4(i, count, r)
+    let r = at_start(s.me, s.count, bytes, s.found)?;
+    question4(s.index, s.count, r)
 }
 
 // Questions 1 to 5, of every event.
 #[inline(always)]
-pub fn every(me: Replica, count: usize, bytes: usize, i: usize, r: Record) -> Asked
-    ensures { result ≡ asked (common me count bytes i r []) r }
+pub fn every(s: Subject, bytes: usize) -> Asked
+    ensures { result ≡ asked (common s.me s.count bytes s.index s.found []) s.found }
 {
-    let r = beforehand(me, count, bytes, i, r)?;
-    question5(me, r)
+    let r = beforehand(s, bytes)?;
+    question5(s.me, r)
 }

@@ -6,7 +6,7 @@ ghost use Rattle.hermes.specs.Event.{effect, moved, moved_by, inv_step};
 ghost use Rattle.hermes.specs.declared.event.Event.TheVariants.{Deliver};
 ghost use Rattle.replica_delivery.specs.Storing.{stores};
 
-use hermes::{Message, Moved, Received, Record, Replica, Timestamp};
+use hermes::{Message, Moved, Received, Record, Replica, Subject, Timestamp};
 
 // What an accepted invalidation makes of its record: its acknowledgement always leaves; only a greater timestamp is taken.
 fn take_inv(me: Replica, i: usize, r: Record, t: Timestamp, sender: u8, value: &[u8]) -> Moved
@@ -23,25 +23,17 @@ fn take_inv(me: Replica, i: usize, r: Record, t: Timestamp, sender: u8, value: &
 // A message, but for the store, which is of so many bytes. It is inlined, so that where the kind is known the compiler sees the questions and
 // the step of that kind alone, and keeps the record in registers.
 #[inline(always)]
-pub fn move_message(
-    me: Replica,
-    count: usize,
-    bytes: usize,
-    i: usize,
-    r: Record,
-    m: Received,
-    value: &[u8],
-) -> Moved
-    ensures { result ≡ moved ties me count bytes i r (Deliver m) value.now }
+pub fn move_message(s: Subject, bytes: usize, m: Received, value: &[u8]) -> Moved
+    ensures { result ≡ moved ties s.me s.count bytes s.index s.found (Deliver m) value.now }
 {
-    let a = replica_message::asks(me, count, bytes, i, r, m, value.len());
-    let Ok(r1) = a else {
-        return replica_asking::stopped(a, r);
+    let a = replica_message::asks(s, bytes, m, value.len());
+    let Ok(r) = a else {
+        return replica_asking::stopped(a, s.found);
     };
     match m.message {
-        Message::Inv(t) => take_inv(me, i, r1, t, m.sender, value),
-        Message::Ack(_) => replica_settling::acknowledge(me, i, r1, m.sender),
-        Message::Val(_) => replica_outcome::accepted(None, r1.validate()),
+        Message::Inv(t) => take_inv(s.me, s.index, r, t, m.sender, value),
+        Message::Ack(_) => replica_settling::acknowledge(s.me, s.index, r, m.sender),
+        Message::Val(_) => replica_outcome::accepted(None, r.validate()),
     }
 }
 
@@ -56,21 +48,13 @@ pub fn stores(me: Replica, r: Record, m: Received) -> bool
 }
 
 // A message, with the store.
-pub fn deliver(
-    me: Replica,
-    count: usize,
-    i: usize,
-    r: Record,
-    store: &mut [u8],
-    m: Received,
-    value: &[u8],
-) -> Moved
-    ensures { (result ≡ (effect ties me count i r store.old (Deliver m) value.now).moved)
-        × (store.new ≡ (effect ties me count i r store.old (Deliver m) value.now).store) }
+pub fn deliver(s: Subject, store: &mut [u8], m: Received, value: &[u8]) -> Moved
+    ensures { (result ≡ (effect ties s.me s.count s.index s.found store.old (Deliver m) value.now).moved)
+        × (store.new ≡ (effect ties s.me s.count s.index s.found store.old (Deliver m) value.now).store) }
 {
-    let moved = move_message(me, count, store.len(), i, r, m, value);
-    if stores(me, r, m) {
-        replica_outcome::stored(store, count, i, moved.answer, value);
+    let moved = move_message(s, store.len(), m, value);
+    if stores(s.me, s.found, m) {
+        replica_outcome::stored(store, s.count, s.index, moved.answer, value);
     }
     moved
 }

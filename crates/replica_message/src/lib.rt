@@ -8,7 +8,7 @@ ghost use Rattle.hermes.specs.declared.event.Event.TheVariants.{Deliver};
 ghost use Rattle.replica_asking.specs.Cascade.{asked};
 ghost use Rattle.replica_message.specs.Message.{of_message};
 
-use hermes::{Message, Received, Record, Replica};
+use hermes::{Message, Received, Record, Replica, Subject};
 use replica_asking::Asked;
 
 // Questions 10 to 12, of every message.
@@ -35,18 +35,10 @@ fn asks_kind(m: Received, r: Record) -> Asked
 
 // The questions of a message m that brings n bytes of value.
 #[inline(always)]
-pub fn asks(
-    me: Replica,
-    count: usize,
-    bytes: usize,
-    i: usize,
-    r: Record,
-    m: Received,
-    n: usize,
-) -> Asked
-    ensures { result ≡ asked (common me count bytes i r (own me r (Deliver m) n)) r }
+pub fn asks(s: Subject, bytes: usize, m: Received, n: usize) -> Asked
+    ensures { result ≡ asked (common s.me s.count bytes s.index s.found (own s.me s.found (Deliver m) n)) s.found }
 {
-    let r = replica_asking::every(me, count, bytes, i, r)?;
-    let r = asks_message(me, r, m, n)?;
+    let r = replica_asking::every(s, bytes)?;
+    let r = asks_message(s.me, r, m, n)?;
     asks_kind(m, r)
 }

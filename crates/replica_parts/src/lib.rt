@@ -7,4 +7,4 @@ mod reading;
 
 pub use asking::ask;
 pub use leaving::body;
-pub use reading::{read, read_number, record_at};
+pub use reading::{read, read_number, subject};

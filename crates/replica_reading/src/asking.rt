@@ -6,18 +6,12 @@ ghost use Rattle.hermes.specs.declared.event.Event.TheVariants.{Ask};
 ghost use Rattle.replica_reading.specs.Asking.{handed_by};
 
 use crate::reading::asks;
-use hermes::{Record, Refused, Replica, Timestamp};
+use hermes::{Refused, Subject, Timestamp};
 
-// An ask of record i, r: the record's timestamp, or the question that said no.
-pub fn ask(
-    me: Replica,
-    count: usize,
-    bytes: usize,
-    i: usize,
-    r: Record,
-) -> Result<Timestamp, Refused>
-    ensures { result ≡ handed_by (moved ties me count bytes i r Ask []).answer (ask_stamp me count bytes i r) }
+// An ask: the record's timestamp, or the question that said no.
+pub fn ask(s: Subject, bytes: usize) -> Result<Timestamp, Refused>
+    ensures { result ≡ handed_by (moved ties s.me s.count bytes s.index s.found Ask []).answer (ask_stamp s.me s.count bytes s.index s.found) }
 {
-    let r = asks(me, count, bytes, i, r)?;
+    let r = asks(s, bytes)?;
     Ok(r.timestamp)
 }

@@ -5,20 +5,12 @@ ghost use Rattle.hermes.specs.Event.{effect};
 ghost use Rattle.hermes.specs.declared.event.Event.TheVariants.{Commit};
 
 use crate::saving::save;
-use hermes::{Moved, Record, Replica, Timestamp};
+use hermes::{Moved, Subject, Timestamp};
 
-// A commit of a value to record i, r.
-pub fn commit(
-    me: Replica,
-    count: usize,
-    i: usize,
-    r: Record,
-    store: &mut [u8],
-    t: Timestamp,
-    value: &[u8],
-) -> Moved
-    ensures { (result ≡ (effect ties me count i r store.old (Commit t) value.now).moved)
-        × (store.new ≡ (effect ties me count i r store.old (Commit t) value.now).store) }
+// A commit of a value.
+pub fn commit(s: Subject, store: &mut [u8], t: Timestamp, value: &[u8]) -> Moved
+    ensures { (result ≡ (effect ties s.me s.count s.index s.found store.old (Commit t) value.now).moved)
+        × (store.new ≡ (effect ties s.me s.count s.index s.found store.old (Commit t) value.now).store) }
 {
-    save(me, count, i, r, store, Some(t), value)
+    save(s, store, Some(t), value)
 }

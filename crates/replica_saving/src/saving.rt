@@ -6,7 +6,7 @@ ghost use Rattle.hermes.specs.Guards.{question8, question9};
 ghost use Rattle.replica_asking.specs.Cascade.{asked};
 ghost use Rattle.replica_saving.specs.Saving.{first_of, save_of};
 
-use hermes::{Message, Moved, Record, Replica, Timestamp};
+use hermes::{Message, Moved, Record, Replica, Subject, Timestamp};
 use replica_asking::Asked;
 
 // Questions 7, 8 and 9, of a write; 26, 8 and 9, of a commit. A function of its own: the compiler then keeps the record in registers.
@@ -21,18 +21,10 @@ fn asks_own(opened: Option<Timestamp>, r: Record, n: usize) -> Asked
     replica_guards::question9(r)
 }
 
-fn asks(
-    me: Replica,
-    count: usize,
-    bytes: usize,
-    i: usize,
-    r: Record,
-    opened: Option<Timestamp>,
-    n: usize,
-) -> Asked
-    ensures { result ≡ asked (common me count bytes i r (own me r (save_of opened) n)) r }
+fn asks(s: Subject, bytes: usize, opened: Option<Timestamp>, n: usize) -> Asked
+    ensures { result ≡ asked (common s.me s.count bytes s.index s.found (own s.me s.found (save_of opened) n)) s.found }
 {
-    let r = replica_asking::every(me, count, bytes, i, r)?;
+    let r = replica_asking::every(s, bytes)?;
     asks_own(opened, r, n)
 }
 
@@ -48,39 +40,23 @@ fn saved(me: Replica, i: usize, r: Record, value: &[u8]) -> Moved
     )
 }
 
-// A save of a value to record i, r, but for the store, which is of so many bytes.
-pub fn move_save(
-    me: Replica,
-    count: usize,
-    bytes: usize,
-    i: usize,
-    r: Record,
-    opened: Option<Timestamp>,
-    value: &[u8],
-) -> Moved
-    ensures { result ≡ moved ties me count bytes i r (save_of opened) value.now }
+// A save of a value, but for the store, which is of so many bytes.
+pub fn move_save(s: Subject, bytes: usize, opened: Option<Timestamp>, value: &[u8]) -> Moved
+    ensures { result ≡ moved ties s.me s.count bytes s.index s.found (save_of opened) value.now }
 {
-    let a = asks(me, count, bytes, i, r, opened, value.len());
-    let Ok(r1) = a else {
-        return replica_asking::stopped(a, r);
+    let a = asks(s, bytes, opened, value.len());
+    let Ok(r) = a else {
+        return replica_asking::stopped(a, s.found);
     };
-    saved(me, i, r1, value)
+    saved(s.me, s.index, r, value)
 }
 
-// A save of a value to record i, r.
-pub(crate) fn save(
-    me: Replica,
-    count: usize,
-    i: usize,
-    r: Record,
-    store: &mut [u8],
-    opened: Option<Timestamp>,
-    value: &[u8],
-) -> Moved
-    ensures { (result ≡ (effect ties me count i r store.old (save_of opened) value.now).moved)
-        × (store.new ≡ (effect ties me count i r store.old (save_of opened) value.now).store) }
+// A save of a value.
+pub(crate) fn save(s: Subject, store: &mut [u8], opened: Option<Timestamp>, value: &[u8]) -> Moved
+    ensures { (result ≡ (effect ties s.me s.count s.index s.found store.old (save_of opened) value.now).moved)
+        × (store.new ≡ (effect ties s.me s.count s.index s.found store.old (save_of opened) value.now).store) }
 {
-    let m = move_save(me, count, store.len(), i, r, opened, value);
-    replica_outcome::stored(store, count, i, m.answer, value);
+    let m = move_save(s, store.len(), opened, value);
+    replica_outcome::stored(store, s.count, s.index, m.answer, value);
     m
 }

@@ -5,19 +5,12 @@ ghost use Rattle.hermes.specs.Event.{effect};
 ghost use Rattle.hermes.specs.declared.event.Event.TheVariants.{Write};
 
 use crate::saving::save;
-use hermes::{Moved, Record, Replica};
+use hermes::{Moved, Subject};
 
-// A write of a value to record i, r.
-pub fn write(
-    me: Replica,
-    count: usize,
-    i: usize,
-    r: Record,
-    store: &mut [u8],
-    value: &[u8],
-) -> Moved
-    ensures { (result ≡ (effect ties me count i r store.old Write value.now).moved)
-        × (store.new ≡ (effect ties me count i r store.old Write value.now).store) }
+// A write of a value.
+pub fn write(s: Subject, store: &mut [u8], value: &[u8]) -> Moved
+    ensures { (result ≡ (effect ties s.me s.count s.index s.found store.old Write value.now).moved)
+        × (store.new ≡ (effect ties s.me s.count s.index s.found store.old Write value.now).store) }
 {
-    save(me, count, i, r, store, None, value)
+    save(s, store, None, value)
 }

@@ -4,20 +4,23 @@ ghost use Rattle.hermes_record.specs.Order.{ties};
 ghost use Rattle.hermes.specs.Event.{moved, moved_by, completes, ack_step, validate_step, resent};
 ghost use Rattle.hermes.specs.declared.event.Event.TheVariants.{Replay, Validate, Resend};
 
-use hermes::{Message, Moved, Outgoing, Record, Replica, State, Timestamp};
+use hermes::{Message, Moved, Outgoing, Record, Replica, State, Subject, Timestamp};
+use replica_asking::{every, stopped};
 use replica_guards::{question15, question16, question17};
+use replica_outcome::accepted;
+use replica_outgoing::send;
 
-// A replay of record i, r.
-pub fn replay(me: Replica, count: usize, bytes: usize, i: usize, r: Record) -> Moved
-    ensures { result ≡ moved ties me count bytes i r Replay [] }
+// A replay.
+pub fn replay(s: Subject, bytes: usize) -> Moved
+    ensures { result ≡ moved ties s.me s.count bytes s.index s.found Replay [] }
 {
-    let a = replica_asking::every(me, count, bytes, i, r).and_then(|x| question16(me, x));
-    let Ok(r1) = a else {
-        return replica_asking::stopped(a, r);
+    let a = every(s, bytes).and_then(|r| question16(s.me, r));
+    let Ok(r) = a else {
+        return stopped(a, s.found);
     };
-    replica_outcome::accepted(
-        replica_outgoing::send(me, i, Message::Inv(r1.timestamp)),
-        r1.replay(me.number),
+    accepted(
+        send(s.me, s.index, Message::Inv(r.timestamp)),
+        r.replay(s.me.number),
     )
 }
 
@@ -25,21 +28,18 @@ pub fn replay(me: Replica, count: usize, bytes: usize, i: usize, r: Record) -> M
 fn validated(me: Replica, i: usize, r: Record) -> Moved
     ensures { result ≡ moved_by 0 r (validate_step me i r) }
 {
-    replica_outcome::accepted(
-        replica_outgoing::send(me, i, Message::Val(r.timestamp)),
-        r.validate(),
-    )
+    accepted(send(me, i, Message::Val(r.timestamp)), r.validate())
 }
 
-// A validation of record i, r.
-pub fn validate(me: Replica, count: usize, bytes: usize, i: usize, r: Record) -> Moved
-    ensures { result ≡ moved ties me count bytes i r Validate [] }
+// A validation.
+pub fn validate(s: Subject, bytes: usize) -> Moved
+    ensures { result ≡ moved ties s.me s.count bytes s.index s.found Validate [] }
 {
-    let a = replica_asking::every(me, count, bytes, i, r).and_then(|x| question15(me, x));
-    let Ok(r1) = a else {
-        return replica_asking::stopped(a, r);
+    let a = every(s, bytes).and_then(|r| question15(s.me, r));
+    let Ok(r) = a else {
+        return stopped(a, s.found);
     };
-    validated(me, i, r1)
+    validated(s.me, s.index, r)
 }
 
 // An accepted acknowledgement of record i, r: its sender is counted. With the last one of the view the record also becomes valid: what the
@@ -49,8 +49,8 @@ pub fn acknowledge(me: Replica, i: usize, r: Record, sender: u8) -> Moved
 {
     let counted = r.acknowledge(sender);
     match question15(me, counted) {
-        Ok(r1) => validated(me, i, r1),
-        Err(_) => replica_outcome::accepted(None, counted),
+        Ok(r) => validated(me, i, r),
+        Err(_) => accepted(None, counted),
     }
 }
 
@@ -59,19 +59,19 @@ fn again(me: Replica, i: usize, s: State, t: Timestamp) -> Outgoing
     ensures { result ≡ resent me i s t }
 {
     match s {
-        State::Valid => replica_outgoing::send(me, i, Message::Val(t)),
-        State::Write | State::Replay => replica_outgoing::send(me, i, Message::Inv(t)),
+        State::Valid => send(me, i, Message::Val(t)),
+        State::Write | State::Replay => send(me, i, Message::Inv(t)),
         State::Invalid | State::InvalidWrite => None,
     }
 }
 
-// A resend of what record i, r last sent.
-pub fn resend(me: Replica, count: usize, bytes: usize, i: usize, r: Record) -> Moved
-    ensures { result ≡ moved ties me count bytes i r Resend [] }
+// A resend of what the record last sent.
+pub fn resend(s: Subject, bytes: usize) -> Moved
+    ensures { result ≡ moved ties s.me s.count bytes s.index s.found Resend [] }
 {
-    let a = replica_asking::every(me, count, bytes, i, r).and_then(|x| question17(me, x));
-    let Ok(r1) = a else {
-        return replica_asking::stopped(a, r);
+    let a = every(s, bytes).and_then(|r| question17(s.me, r));
+    let Ok(r) = a else {
+        return stopped(a, s.found);
     };
-    replica_outcome::accepted(again(me, i, r1.state, r1.timestamp), r1)
+    accepted(again(s.me, s.index, r.state, r.timestamp), r)
 }

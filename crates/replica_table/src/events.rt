@@ -5,7 +5,7 @@ ghost use Rattle.hermes.specs.Node.{lent, apply};
 
 use hermes::{Answer, Event, Record, Replica};
 use replica_events::step;
-use replica_parts::record_at;
+use replica_parts::subject;
 
 // An event on record i. A write, a commit and a delivery bring the value's bytes. Of a number past the table's end question 4 says no, or one
 // before it.
@@ -21,7 +21,7 @@ pub fn apply(
         × ((table.new ≡ (apply ties (lent me table.old store.old) i e value.now).node.table)
         × (store.new ≡ (apply ties (lent me table.old store.old) i e value.now).node.store)) }
 {
-    let m = step(me, table.len(), i, record_at(table, i), store, e, value);
+    let m = step(subject(me, table, i), store, e, value);
     if i < table.len() {
         table[i] = m.after;
     }

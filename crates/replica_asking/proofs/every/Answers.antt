@@ -9,4 +9,4 @@ use Rattle.replica_asking.proofs.every.Goals as goal
 pub returns : goal.returns
 returns c =
     let v = c.args in
-    c.question5.ensures ∙ sym (then (beforehand v.me v.count v.bytes v.i) (λ (x : Record). question5 v.me x ∷ []) v.r _ (sym c.beforehand.ensures ∙ c.in_ok-r.was))
+    c.question5.ensures ∙ sym (then (beforehand v.s.me v.s.count v.bytes v.s.index) (λ (x : Record). question5 v.s.me x ∷ []) v.s.found _ (sym c.beforehand.ensures ∙ c.in_ok-r.was))

@@ -9,5 +9,5 @@ use Rattle.replica_message.proofs.asks.Goals as goal
 pub returns : goal.returns
 returns c = let v = c.args in
     c.asks_kind.ensures
-    ∙ sym (then (of_message v.me v.m v.n) (of_kind v.m.message v.m.sender) c.in_ok-r.r c.in_ok-r-2.r (sym c.asks_message.ensures ∙ c.in_ok-r-2.was))
-    ∙ sym (then (common v.me v.count v.bytes v.i v.r []) (λ x. own v.me x (Deliver v.m) v.n) v.r c.in_ok-r.r (sym c.every.ensures ∙ c.in_ok-r.was))
+    ∙ sym (then (of_message v.s.me v.m v.n) (of_kind v.m.message v.m.sender) c.in_ok-r.r c.in_ok-r-2.r (sym c.asks_message.ensures ∙ c.in_ok-r-2.was))
+    ∙ sym (then (common v.s.me v.s.count v.bytes v.s.index v.s.found []) (λ x. own v.s.me x (Deliver v.m) v.n) v.s.found c.in_ok-r.r (sym c.every.ensures ∙ c.in_ok-r.was))

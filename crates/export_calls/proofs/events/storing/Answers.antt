@@ -8,7 +8,7 @@ pub returns-then-taken : goal.returns-then-taken
 returns-then-taken g c = let w = c.args in
     let here = taken_here w.me w.table.now _ w.i _ _ _ _ c.from-me.ensures c.count-count.ensures c.begin.ensures c.in-Ok.is in
     record {
-      done = λ e stores. let (moves, keeps) = stores _ _ _ _ _ c.takes-taken.ensures c.step-m.ensures in
+      done = λ e stores. let (moves, keeps) = stores _ _ _ c.takes-taken.ensures c.step-m.ensures in
           done w.me w.table.now w.i _ _ _ here w.store.now e w.value.now _ _ _ _ (moves, c.stored.ensures ∙ (rw c.if-taken.true at keeps)) c.finish-answer.ensures;
     }
 
@@ -16,7 +16,7 @@ pub returns-else-taken : goal.returns-else-taken
 returns-else-taken g c = let w = c.args in
     let here = taken_here w.me w.table.now _ w.i _ _ _ _ c.from-me.ensures c.count-count.ensures c.begin.ensures c.in-Ok.is in
     record {
-      done = λ e stores. let (moves, keeps) = stores _ _ _ _ _ c.takes-taken.ensures c.step-m.ensures in
+      done = λ e stores. let (moves, keeps) = stores _ _ _ c.takes-taken.ensures c.step-m.ensures in
           done w.me w.table.now w.i _ _ _ here w.store.now e w.value.now _ _ _ _ (moves, rw c.if-taken.false at keeps) c.finish.ensures;
     }
 

@@ -4,7 +4,7 @@ use Rattle.export_delivery.proofs.Arriving.{stored_done, kept_done}
 use Rattle.export_delivery.proofs.delivery.deliver.Goals as goal
 
 pub returns-in-Inv : goal.returns-in-Inv
-returns-in-Inv c = stored_done _ _ _ _ _ _ _ _ _ _ c.storing.ensures c.args.m (λ who r b p. search rules) (λ who count r d p. search rules)
+returns-in-Inv c = stored_done _ _ _ _ _ _ _ _ _ _ c.storing.ensures c.args.m (λ s b p. search rules) (λ s d p. search rules)
 
 pub returns-in-Ack : goal.returns-in-Ack
-returns-in-Ack c = kept_done _ _ _ _ _ _ _ c.quiet.ensures _ c.args.m _ c.in-Ack.is refl (λ who count r d p. search rules)
+returns-in-Ack c = kept_done _ _ _ _ _ _ _ c.quiet.ensures _ c.args.m _ c.in-Ack.is refl (λ s d p. search rules)

@@ -4,4 +4,4 @@ use Rattle.export_events.proofs.Saved.{commit_done}
 use Rattle.export_events.proofs.events.cetskobi_commit.Goals as goal
 
 pub returns : goal.returns
-returns c = commit_done _ _ _ _ _ _ _ _ _ _ c.storing.ensures _ (λ who r b p. search rules, λ who count r m p. search rules)
+returns c = commit_done _ _ _ _ _ _ _ _ _ _ c.storing.ensures _ (λ s b p. search rules, λ s m p. search rules)

@@ -12,17 +12,17 @@ pub returns-in_default : goal.returns-in_default
 unfolding moved
 returns-in_default c = let v = c.args in
     c.stopped.ensures
-    ∙ stops v.me v.count v.bytes v.i v.r (Deliver v.m) (length v.value.now) _ c.in_default.field-0 (deliver_step ties v.me v.i v.r v.m.sender v.m.message v.value.now) c.asks-a.ensures c.in_default.is
+    ∙ stops v.s.me v.s.count v.bytes v.s.index v.s.found (Deliver v.m) (length v.value.now) _ c.in_default.field-0 (deliver_step ties v.s.me v.s.index v.s.found v.m.sender v.m.message v.value.now) c.asks-a.ensures c.in_default.is
 
 pub take_inv-requires : goal.take_inv-requires
-take_inv-requires c = let v = c.args in passed-short v.me v.count v.bytes v.i v.r v.m v.value.now _ c.asks-a.ensures c.in-Ok.r1 c.in-Ok.is c.in-Inv.t c.in-Inv.is
+take_inv-requires c = let v = c.args in passed-short v.s.me v.s.count v.bytes v.s.index v.s.found v.m v.value.now _ c.asks-a.ensures c.in-Ok.r c.in-Ok.is c.in-Inv.t c.in-Inv.is
 
 pub returns-in-Inv : goal.returns-in-Inv
-returns-in-Inv c = let v = c.args in does v.me v.count v.bytes v.i v.r v.m v.value.now _ c.asks-a.ensures c.in-Ok.r1 c.in-Ok.is (Inv c.in-Inv.t) c.in-Inv.is _ c.take_inv.ensures
+returns-in-Inv c = let v = c.args in does v.s.me v.s.count v.bytes v.s.index v.s.found v.m v.value.now _ c.asks-a.ensures c.in-Ok.r c.in-Ok.is (Inv c.in-Inv.t) c.in-Inv.is _ c.take_inv.ensures
 
 pub returns-in-Ack : goal.returns-in-Ack
-returns-in-Ack c = let v = c.args in does v.me v.count v.bytes v.i v.r v.m v.value.now _ c.asks-a.ensures c.in-Ok.r1 c.in-Ok.is (Ack c.in-Ack.field-0) c.in-Ack.is _ c.acknowledge.ensures
+returns-in-Ack c = let v = c.args in does v.s.me v.s.count v.bytes v.s.index v.s.found v.m v.value.now _ c.asks-a.ensures c.in-Ok.r c.in-Ok.is (Ack c.in-Ack.field-0) c.in-Ack.is _ c.acknowledge.ensures
 
 pub returns-in-Val : goal.returns-in-Val
 returns-in-Val c = let v = c.args in
-    does v.me v.count v.bytes v.i v.r v.m v.value.now _ c.asks-a.ensures c.in-Ok.r1 c.in-Ok.is (Val c.in-Val.field-0) c.in-Val.is _ (c.accepted.ensures ∙ rw c.validate.ensures)
+    does v.s.me v.s.count v.bytes v.s.index v.s.found v.m v.value.now _ c.asks-a.ensures c.in-Ok.r c.in-Ok.is (Val c.in-Val.field-0) c.in-Val.is _ (c.accepted.ensures ∙ rw c.validate.ensures)

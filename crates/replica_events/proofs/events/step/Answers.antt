@@ -10,15 +10,15 @@ pub returns-in-Read : goal.returns-in-Read
 returns-in-Read c =
     let v = c.args in
     elim c.in-Read.is [
-      | inl is ↦ rw (is, quiet ties v.me v.count v.i v.r v.store.now Read v.value.now tt) (c.read_event.ensures, refl)
-      | inr is ↦ rw (is, quiet ties v.me v.count v.i v.r v.store.now Ask v.value.now tt, moves-as-read ties v.me v.count (length v.store.now) v.i v.r) (c.read_event.ensures, refl)
+      | inl is ↦ rw (is, quiet ties v.s.me v.s.count v.s.index v.s.found v.store.now Read v.value.now tt) (c.read_event.ensures, refl)
+      | inr is ↦ rw (is, quiet ties v.s.me v.s.count v.s.index v.s.found v.store.now Ask v.value.now tt, moves-as-read ties v.s.me v.s.count (length v.store.now) v.s.index v.s.found) (c.read_event.ensures, refl)
     ]
 
 pub returns-in-Replay : goal.returns-in-Replay
-returns-in-Replay c = let v = c.args in rw (c.in-Replay.is, quiet ties v.me v.count v.i v.r v.store.now Replay v.value.now tt) (c.replay.ensures, refl)
+returns-in-Replay c = let v = c.args in rw (c.in-Replay.is, quiet ties v.s.me v.s.count v.s.index v.s.found v.store.now Replay v.value.now tt) (c.replay.ensures, refl)
 
 pub returns-in-Validate : goal.returns-in-Validate
-returns-in-Validate c = let v = c.args in rw (c.in-Validate.is, quiet ties v.me v.count v.i v.r v.store.now Validate v.value.now tt) (c.validate.ensures, refl)
+returns-in-Validate c = let v = c.args in rw (c.in-Validate.is, quiet ties v.s.me v.s.count v.s.index v.s.found v.store.now Validate v.value.now tt) (c.validate.ensures, refl)
 
 pub returns-in-Resend : goal.returns-in-Resend
-returns-in-Resend c = let v = c.args in rw (c.in-Resend.is, quiet ties v.me v.count v.i v.r v.store.now Resend v.value.now tt) (c.resend.ensures, refl)
+returns-in-Resend c = let v = c.args in rw (c.in-Resend.is, quiet ties v.s.me v.s.count v.s.index v.s.found v.store.now Resend v.value.now tt) (c.resend.ensures, refl)

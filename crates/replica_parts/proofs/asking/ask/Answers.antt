@@ -11,5 +11,5 @@ use Rattle.replica_parts.proofs.asking.ask.Goals as goal
 pub returns : goal.returns
 unfolding apply ask_hands
 returns c =
-    let a = c.args in let r = record_at a.table.now a.i in let e = rw c.record_at.ensures at c.ask.ensures in
+    let a = c.args in let r = record_at a.table.now a.i in let e = rw c.subject.ensures at c.ask.ensures in
     e ∙ sym (ap (λ (z : Effect). handed_by z.moved.answer (ask_stamp a.me (length a.table.now) (length a.store.now) a.i r)) (quiet ties a.me (length a.table.now) a.i r a.store.now Ask [] tt))

@@ -10,5 +10,5 @@ use Rattle.replica_parts.proofs.reading.read_number.Goals as goal
 pub returns : goal.returns
 unfolding apply
 returns c =
-    let a = c.args in let r = record_at a.table.now a.i in let e = rw c.record_at.ensures at c.read_number.ensures in
+    let a = c.args in let r = record_at a.table.now a.i in let e = rw c.subject.ensures at c.read_number.ensures in
     e ∙ sym (ap (λ (z : Effect). z.moved.answer) (quiet ties a.me (length a.table.now) a.i r a.store.now Read [] tt))

@@ -10,10 +10,10 @@ pub returns-in_err-r : goal.returns-in_err-r
 unfolding moved
 returns-in_err-r c = let v = c.args in
     let p = err_from_is_err_and c.from_residual.result c.from_residual.ensures.1 in
-    rw (p.1, p.2) (rw (refused-moved v.me v.count v.bytes v.i v.r Ask 0 c.in_err-r.field-0.0 (read_step v.r) (sym c.asks.ensures ∙ c.in_err-r.was)))
+    rw (p.1, p.2) (rw (refused-moved v.s.me v.s.count v.bytes v.s.index v.s.found Ask 0 c.in_err-r.field-0.0 (read_step v.s.found) (sym c.asks.ensures ∙ c.in_err-r.was)))
 
 pub returns : goal.returns
 unfolding moved ask_stamp
 returns c = let v = c.args in
     let yes = sym c.asks.ensures ∙ c.in_ok-r.was in
-    rw (accepted v.me v.count v.bytes v.i v.r Ask 0 c.in_ok-r.r yes, same-record v.me v.count v.bytes v.i v.r Ask 0 c.in_ok-r.r yes) refl
+    rw (accepted v.s.me v.s.count v.bytes v.s.index v.s.found Ask 0 c.in_ok-r.r yes, same-record v.s.me v.s.count v.bytes v.s.index v.s.found Ask 0 c.in_ok-r.r yes) refl

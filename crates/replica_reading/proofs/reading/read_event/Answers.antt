@@ -7,8 +7,8 @@ use Rattle.replica_reading.proofs.reading.read_event.Goals as goal
 
 pub returns-in_default : goal.returns-in_default
 unfolding moved
-returns-in_default c = let v = c.args in c.stopped.ensures ∙ stops v.me v.count v.bytes v.i v.r Read 0 _ c.in_default.field-0 (read_step v.r) c.asks-a.ensures c.in_default.is
+returns-in_default c = let v = c.args in c.stopped.ensures ∙ stops v.s.me v.s.count v.bytes v.s.index v.s.found Read 0 _ c.in_default.field-0 (read_step v.s.found) c.asks-a.ensures c.in_default.is
 
 pub returns : goal.returns
 unfolding moved
-returns c = let v = c.args in c.accepted.ensures ∙ goes v.me v.count v.bytes v.i v.r Read 0 _ c.in-Ok.r1 read_step c.asks-a.ensures c.in-Ok.is
+returns c = let v = c.args in c.accepted.ensures ∙ goes v.s.me v.s.count v.bytes v.s.index v.s.found Read 0 _ c.in-Ok.r read_step c.asks-a.ensures c.in-Ok.is

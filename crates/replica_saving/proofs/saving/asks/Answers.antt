@@ -11,5 +11,5 @@ use Rattle.replica_saving.proofs.saving.asks.Goals as goal
 pub returns : goal.returns
 returns c = let v = c.args in
     c.asks_own.ensures
-    ∙ sym (then (common v.me v.count v.bytes v.i v.r []) (λ x. first_of v.opened x ∷ question8 v.n ∷ question9 x ∷ []) v.r c.in_ok-r.r (sym c.every.ensures ∙ c.in_ok-r.was))
-    ∙ ap (λ (q : List Question). asked (common v.me v.count v.bytes v.i v.r q) v.r) (sym (saves-own v.me v.i v.r v.opened v.n))
+    ∙ sym (then (common v.s.me v.s.count v.bytes v.s.index v.s.found []) (λ x. first_of v.opened x ∷ question8 v.n ∷ question9 x ∷ []) v.s.found c.in_ok-r.r (sym c.every.ensures ∙ c.in_ok-r.was))
+    ∙ ap (λ (q : List Question). asked (common v.s.me v.s.count v.bytes v.s.index v.s.found q) v.s.found) (sym (saves-own v.s.me v.s.index v.s.found v.opened v.n))

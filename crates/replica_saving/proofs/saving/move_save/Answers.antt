@@ -11,15 +11,15 @@ pub returns-in_default : goal.returns-in_default
 unfolding moved
 returns-in_default c = let v = c.args in
     c.stopped.ensures
-    ∙ stops v.me v.count v.bytes v.i v.r (save_of v.opened) (length v.value.now) _ c.in_default.field-0 (step ties v.me v.i v.r (save_of v.opened) v.value.now) c.asks-a.ensures c.in_default.is
+    ∙ stops v.s.me v.s.count v.bytes v.s.index v.s.found (save_of v.opened) (length v.value.now) _ c.in_default.field-0 (step ties v.s.me v.s.index v.s.found (save_of v.opened) v.value.now) c.asks-a.ensures c.in_default.is
 
 pub saved-requires : goal.saved-requires
 saved-requires c = let v = c.args in
-    saves-fit v.me v.i v.r v.opened v.count v.bytes (length v.value.now)
-    (accepted v.me v.count v.bytes v.i v.r (save_of v.opened) (length v.value.now) c.in-Ok.r1 (sym c.asks-a.ensures ∙ c.in-Ok.is))
+    saves-fit v.s.me v.s.index v.s.found v.opened v.s.count v.bytes (length v.value.now)
+    (accepted v.s.me v.s.count v.bytes v.s.index v.s.found (save_of v.opened) (length v.value.now) c.in-Ok.r (sym c.asks-a.ensures ∙ c.in-Ok.is))
 
 pub returns : goal.returns
 unfolding moved
 returns c = let v = c.args in
-    rw (saves-step v.me v.i v.r v.opened v.value.now)
-    (c.saved.ensures ∙ goes v.me v.count v.bytes v.i v.r (save_of v.opened) (length v.value.now) _ c.in-Ok.r1 (λ x. write_step v.me v.i x v.value.now) c.asks-a.ensures c.in-Ok.is)
+    rw (saves-step v.s.me v.s.index v.s.found v.opened v.value.now)
+    (c.saved.ensures ∙ goes v.s.me v.s.count v.bytes v.s.index v.s.found (save_of v.opened) (length v.value.now) _ c.in-Ok.r (λ x. write_step v.s.me v.s.index x v.value.now) c.asks-a.ensures c.in-Ok.is)

@@ -1,0 +1,8 @@
+-- `export_events::events::cetskobi_resend` meets its contract.
+use Rattle.std.proofs.Common.{rules, refl}
+use Rattle.hermes.specs.declared.event.Event.TheVariants.{Resend}
+use Rattle.export_calls.proofs.Steps.{quiet_done}
+use Rattle.export_events.proofs.events.cetskobi_resend.Goals as goal
+
+pub returns : goal.returns
+returns c = quiet_done _ _ _ _ _ _ _ c.quiet.ensures _ Resend tt refl (λ s m p. search rules)
