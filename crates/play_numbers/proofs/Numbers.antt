@@ -13,9 +13,6 @@ use lib.Seq.{drop-cons}
 use Rattle.play_numbers.specs.Number.{digits, decimal, is_digit, more, word_number, Below}
 use Rattle.std.specs.Prelude.{Option, None, Some}
 
-zero_one : ◌≡◌ {A = ℕ} 0 1 → ⊥
-zero_one z = omega arith
-
 -- ---- digits of a number
 
 pub digits-enough : (f n : ℕ) → 1 ≤ f → n < 10 ^ f → digits (suc f) n ≡ digits f n
@@ -228,8 +225,8 @@ read_more limit v n (b ∷ s) h p e = go (is_digit b) refl (ltb (v * 10 + (b - 4
       where
         less : v * 10 + (b - 48) < limit → v * 10 + (b - 48) < 2 ^ 32
         less l = omega arith
-    go true ed false et r e = let z : ◌≡◌ {A = ℕ} 0 1 = cc in absurd (zero_one z)
-    go false ed t et r e = let z : ◌≡◌ {A = ℕ} 0 1 = cc in absurd (zero_one z)
+    go true ed false et r e = cc
+    go false ed t et r e = cc
 
 first : (b : ℕ) → is_digit b ≡ true → decimal (0 * 10 + (b - 48)) ≡ b ∷ []
 first b d =
@@ -250,16 +247,16 @@ from_first limit n b (c ∷ s) h d z e false et = let r = digit-range b d in let
 
 pub read-printed : (limit n : ℕ) (s : List ℕ) → limit ≤ 2 ^ 32 → word_number limit s ≡ Some n → s ≡ decimal n
 unfolding word_number more
-read-printed limit n [] h e = let z : ◌≡◌ {A = ℕ} 0 1 = cc in absurd (zero_one z)
+read-printed limit n [] h e = cc
 read-printed limit n (b ∷ s) h e = go (leb 1 (length (b ∷ s))) (eqb b 48) refl (leb 2 (length (b ∷ s))) refl (is_digit b) refl (ltb (0 * 10 + (b - 48)) limit) e
   where
     go : (a p : Bool) → eqb b 48 ≡ p → (q : Bool) → leb 2 (length (b ∷ s)) ≡ q → (d : Bool) → is_digit b ≡ d → (t : Bool)
         → cond a (cond (p && q) None (cond (d && t) (more limit (0 * 10 + (b - 48)) s) None)) None ≡ Some n → b ∷ s ≡ decimal n
-    go true true ep true eq d ed t e = let z : ◌≡◌ {A = ℕ} 0 1 = cc in absurd (zero_one z)
+    go true true ep true eq d ed t e = cc
     go true true ep false eq true ed true e = from_first limit n b s h ed (λ y. leb-false 2 (length (b ∷ s)) eq) e (ltb 0 (0 * 10 + (b - 48))) refl
-    go true true ep false eq true ed false e = let z : ◌≡◌ {A = ℕ} 0 1 = cc in absurd (zero_one z)
-    go true true ep false eq false ed t e = let z : ◌≡◌ {A = ℕ} 0 1 = cc in absurd (zero_one z)
+    go true true ep false eq true ed false e = cc
+    go true true ep false eq false ed t e = cc
     go true false ep q eq true ed true e = from_first limit n b s h ed (λ y. absurd (eqb-false b 48 ep y)) e (ltb 0 (0 * 10 + (b - 48))) refl
-    go true false ep q eq true ed false e = let z : ◌≡◌ {A = ℕ} 0 1 = cc in absurd (zero_one z)
-    go true false ep q eq false ed t e = let z : ◌≡◌ {A = ℕ} 0 1 = cc in absurd (zero_one z)
-    go false p ep q eq d ed t e = let z : ◌≡◌ {A = ℕ} 0 1 = cc in absurd (zero_one z)
+    go true false ep q eq true ed false e = cc
+    go true false ep q eq false ed t e = cc
+    go false p ep q eq d ed t e = cc

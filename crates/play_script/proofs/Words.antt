@@ -19,8 +19,8 @@ in-few (Some v) n h e = go (leb 2 v) e
   where
     go : (t : Bool) → cond t (Some v) None ≡ Some n → n < 5
     go true e = let q : v ≡ n = cc in omega arith
-    go false e = let z : ◌≡◌ {A = ℕ} 0 1 = cc in omega arith
-in-few None n h e = let z : ◌≡◌ {A = ℕ} 0 1 = cc in omega arith
+    go false e = cc
+in-few None n h e = cc
 
 pub size_few : (s : List ℕ) (n : ℕ) → size_of s ≡ Some n → n < 5
 unfolding size_of
@@ -28,7 +28,7 @@ size_few s n e = go (spaced s && same (word_of s) (codes "group")) e
   where
     go : (t : Bool) → cond t (size_in (word_number 5 (rest_of s))) None ≡ Some n → n < 5
     go true e = in-few (word_number 5 (rest_of s)) n (number-below 5 (rest_of s) (omega arith)) e
-    go false e = let z : ◌≡◌ {A = ℕ} 0 1 = cc in omega arith
+    go false e = cc
 
 -- the empty line is no line one
 pub size-empty : size_of [] ≡ None
