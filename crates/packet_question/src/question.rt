@@ -1,34 +1,33 @@
 // Question 24 of the messages' fields, asked of their words.
-ghost use Rattle.std.specs.Prelude.{◌≡◌, ◌+◌, ◌*◌, ◌<◌, ◌≤◌, MatchOption, false, length};
-ghost use Rattle.packet_format.specs.Entry.{good};
+ghost use Rattle.std.specs.Prelude.{◌≡◌, ◌+◌, ◌*◌, ◌≤◌, min, length};
 ghost use Rattle.packet_words.specs.Words.{fields_at, entries_from, word_messages};
-ghost use Rattle.packet_question.specs.Asking.{asked, BodyOf};
+ghost use Rattle.packet_question.specs.Asking.{asked, clipped, BodyOf};
 
 use packet_format::Fields;
 use packet_words::WORDS;
 
-// A word as a byte, if it is one.
-fn byte(word: u32) -> Option<u8>
-    ensures { MatchOption result (255 < word) (λ b. b ≡ word) }
+// A word as a byte; of one that is none 255, which is good in no field.
+fn byte(word: u32) -> u8
+    ensures { result ≡ min word 255 }
 {
-    u8::try_from(word).ok()
+    u8::try_from(word).unwrap_or(u8::MAX)
 }
 
-// The fields that stand at w, if each fits its place in an entry; a body's offset is none of them.
-fn fields_at(words: &[u32], w: usize) -> Option<Fields>
+// The fields that stand at w; a body's offset is none of them.
+fn fields_at(words: &[u32], w: usize) -> Fields
     requires { w + 7 ≤ length words.now }
-    ensures { MatchOption result (good (fields_at words.now w 0) ≡ false) (λ f. f ≡ fields_at words.now w 0) }
+    ensures { result ≡ clipped (fields_at words.now w 0) }
 {
-    Some(Fields {
-        kind: byte(words[w])?,
-        sender: byte(words[w + 1])?,
+    Fields {
+        kind: byte(words[w]),
+        sender: byte(words[w + 1]),
         epoch: words[w + 2],
         index: words[w + 3] as usize,
         version: words[w + 4],
-        tie: byte(words[w + 5])?,
+        tie: byte(words[w + 5]),
         offset: 0,
-        len: byte(words[w + 6])?,
-    })
+        len: byte(words[w + 6]),
+    }
 }
 
 // The length of the body of the message at w, if its fields are as question 22 asks.
@@ -36,7 +35,7 @@ fn body_len(words: &[u32], w: usize) -> Option<usize>
     requires { w + 7 ≤ length words.now }
     ensures { BodyOf (fields_at words.now w 0) result }
 {
-    let f = fields_at(words, w)?;
+    let f = fields_at(words, w);
     f.good().then_some(f.len as usize)
 }
 
