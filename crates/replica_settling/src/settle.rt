@@ -1,20 +1,30 @@
 // Replay, validate and resend, and the acknowledgement that settles a record.
-ghost use Rattle.std.specs.Prelude.{◌≡◌, []};
+ghost use Rattle.std.specs.Prelude.{◌≡◌, [], MatchResult};
 ghost use Rattle.hermes_record.specs.Order.{ties};
-ghost use Rattle.hermes.specs.Event.{moved, moved_by, completes, ack_step, validate_step, resent};
+ghost use Rattle.hermes.specs.Event.{common, moved, moved_by, completes, ack_step, validate_step, resent};
 ghost use Rattle.hermes.specs.declared.event.Event.TheVariants.{Replay, Validate, Resend};
+ghost use Rattle.replica_asking.specs.Cascade.{asked};
 
 use hermes::{Message, Moved, Outgoing, Record, Replica, State, Subject, Timestamp};
-use replica_asking::{every, stopped};
+use replica_asking::{Asked, every, stopped};
 use replica_guards::{question15, question16, question17};
 use replica_outcome::accepted;
 use replica_outgoing::send;
+
+// The questions of an event: those of every one, and then its own.
+fn asks<Q: FnOnce(Replica, Record) -> Asked>(s: Subject, bytes: usize, own: Q) -> Asked
+    requires { Q.IsAlwaysCallable own }
+    ensures { MatchResult (asked (common s.me s.count bytes s.index s.found []) s.found) (λ x. Q.post own s.me x result) (λ e. result ≡ Err e) }
+{
+    let r = every(s, bytes)?;
+    own(s.me, r)
+}
 
 // A replay.
 pub fn replay(s: Subject, bytes: usize) -> Moved
     ensures { result ≡ moved ties s.me s.count bytes s.index s.found Replay [] }
 {
-    let a = every(s, bytes).and_then(|r| question16(s.me, r));
+    let a = asks(s, bytes, question16);
     let Ok(r) = a else {
         return stopped(a, s.found);
     };
@@ -35,7 +45,7 @@ fn validated(me: Replica, i: usize, r: Record) -> Moved
 pub fn validate(s: Subject, bytes: usize) -> Moved
     ensures { result ≡ moved ties s.me s.count bytes s.index s.found Validate [] }
 {
-    let a = every(s, bytes).and_then(|r| question15(s.me, r));
+    let a = asks(s, bytes, question15);
     let Ok(r) = a else {
         return stopped(a, s.found);
     };
@@ -69,7 +79,7 @@ fn again(me: Replica, i: usize, s: State, t: Timestamp) -> Outgoing
 pub fn resend(s: Subject, bytes: usize) -> Moved
     ensures { result ≡ moved ties s.me s.count bytes s.index s.found Resend [] }
 {
-    let a = every(s, bytes).and_then(|r| question17(s.me, r));
+    let a = asks(s, bytes, question17);
     let Ok(r) = a else {
         return stopped(a, s.found);
     };
