@@ -10,8 +10,8 @@ use Rattle.hermes_record.specs.Order.{ties}
 use Rattle.hermes.specs.Kind.{known, message_of}
 use Rattle.hermes.specs.Node.{Node, apply}
 use Rattle.packet_format.specs.declared.entry.Fields.{Fields}
-use Rattle.packet_format.specs.declared.answer.Taken.{Taken}
-use Rattle.packet_format.specs.declared.answer.Taken.TheVariants.{Entry, Refused}
+use Rattle.packet_format.specs.Answer.{Taken}
+use Rattle.std.specs.Prelude.{Err, Ok}
 use Rattle.packet_format.specs.Entry.{entry_of}
 use Rattle.packet_format.specs.Reading.{fetched, body_of}
 use Rattle.packet_format.specs.Accepting.{accepted, taken, fetched_of}
@@ -35,18 +35,18 @@ pub own-receipt : (rule : Rule) (n : Node) (p : List ℕ) (i : ℕ) → taken_re
 own-receipt rule n p i = by (taken p (accepted rule p) i) refl ∙ ap (receipt_of ties n p) (taken-is-fetched rule p i)
   where
     by : (t : Taken) → taken p (accepted rule p) i ≡ t → taken_receipt n p t ≡ receipt_of ties n p (fetched_of t)
-    by (Entry f) e =
-        ap (λ (m : Received). apply ties n f.index (Deliver m) (body_of p (fetched_of (Entry f)))) (stands f (good-parts f (taken-is-good rule p i f e)).kind)
-    by (Refused k) e = refl
+    by (Ok f) e =
+        ap (λ (m : Received). apply ties n f.index (Deliver m) (body_of p (fetched_of (Ok f)))) (stands f (good-parts f (taken-is-good rule p i f e)).kind)
+    by (Err k) e = refl
 
 pub delivers-all : DeliversAll
 delivers-all me table store packet i r table' store' came = by (taken packet (accepted (group_rule me) packet) i) refl came
   where
     by : (t : Taken) → taken packet (accepted (group_rule me) packet) i ≡ t → Came (node_of me table store) table packet t r table' store' → AsFetched me table store packet i r table' store'
-    by (Entry f) e c =
+    by (Ok f) e c =
         let same = sym (taken-is-fetched (group_rule me) packet i) ∙ ap fetched_of e in
         let d = rw (stands f (good-parts f (taken-is-good (group_rule me) packet i f e)).kind) at c.done in
         record { arrived = rw same (record { answer = d.answer; bytes = d.bytes; table = d.table; store = d.store }); message = rw same c.message }
-    by (Refused k) e c =
+    by (Err k) e c =
         let same = sym (taken-is-fetched (group_rule me) packet i) ∙ ap fetched_of e in
         record { arrived = rw same (record { answer = c.done.0; bytes = c.done.1; table = ap table_of c.done.1; store = c.done.2 }); message = rw same c.message }

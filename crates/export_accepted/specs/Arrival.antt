@@ -1,11 +1,9 @@
 -- 02, Wish 4: what an exported delivery from an accepted packet does.
-use Rattle.std.specs.Prelude.{◌≡◌, List, ℕ}
+use Rattle.std.specs.Prelude.{◌≡◌, List, ℕ, Err, Ok}
 use Rattle.hermes.specs.declared.event.Event.TheVariants.{Deliver}
-use Rattle.hermes.specs.declared.event.Answer.TheVariants as answer
+use Rattle.packet_format.specs.Answer.{Taken}
 use Rattle.hermes_record.specs.Order.{ties}
 use Rattle.hermes.specs.Node.{Node, Outcome, apply}
-use Rattle.packet_format.specs.declared.answer.Taken.{Taken}
-use Rattle.packet_format.specs.declared.answer.Taken.TheVariants.{Entry, Refused}
 use Rattle.packet_format.specs.Reading.{body_of}
 use Rattle.packet_format.specs.Accepting.{fetched_of}
 use Rattle.export_numbers.specs.declared.numbers.CetskobiAnswer.{CetskobiAnswer}
@@ -16,18 +14,18 @@ use Rattle.export_accepted.specs.declared.accepted.CetskobiArrival.{CetskobiArri
 
 -- which message came, with the answer to its delivery; zeros where there was none
 abbrev pub arrival_of : Taken → CetskobiAnswer → CetskobiArrival
-arrival_of (Entry f) a = record { answer = a; epoch = f.epoch; sender = f.sender; index = f.index }
-arrival_of (Refused k) a = record { answer = a; epoch = 0; sender = 0; index = 0 }
+arrival_of (Ok f) a = record { answer = a; epoch = f.epoch; sender = f.sender; index = f.index }
+arrival_of (Err e) a = record { answer = a; epoch = 0; sender = 0; index = 0 }
 
 -- the delivery of an entry with its bytes, as of a message from elsewhere; a refused taking gives its number and changes nothing
 abbrev pub Delivered : Node → List ℕ → List ℕ → Taken → CetskobiAnswer → List ℕ → List ℕ → Type 0
-Delivered n before p (Entry f) a bytes' store' = Done n before f.index (Deliver (received_in (numbers_of f))) (body_of p (fetched_of (Entry f))) a bytes' store'
-Delivered n before p (Refused k) a bytes' store' = (a ≡ answer_out (answer.Refused k)) × (bytes' ≡ before) × (store' ≡ n.store)
+Delivered n before p (Ok f) a bytes' store' = Done n before f.index (Deliver (received_in (numbers_of f))) (body_of p (fetched_of (Ok f))) a bytes' store'
+Delivered n before p (Err e) a bytes' store' = (a ≡ answer_out (Err e)) × (bytes' ≡ before) × (store' ≡ n.store)
 
 -- the same as an event: what it comes to
 abbrev pub taken_receipt : Node → List ℕ → Taken → Outcome
-taken_receipt n p (Entry f) = apply ties n f.index (Deliver (received_in (numbers_of f))) (body_of p (fetched_of (Entry f)))
-taken_receipt n p (Refused k) = record { answer = answer.Refused k; node = n }
+taken_receipt n p (Ok f) = apply ties n f.index (Deliver (received_in (numbers_of f))) (body_of p (fetched_of (Ok f)))
+taken_receipt n p (Err e) = record { answer = Err e; node = n }
 
 -- the delivery, and which message it was
 pub record Came (n : Node) (before p : List ℕ) (t : Taken) (r : CetskobiArrival) (bytes' store' : List ℕ) : Type 0 where

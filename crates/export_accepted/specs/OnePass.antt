@@ -1,7 +1,6 @@
 -- 02, Wish 4: the delivery of a whole packet in one pass is that of each of its messages by itself.
-use Rattle.std.specs.Prelude.{◌≡◌, List, ℕ}
-use Rattle.packet_format.specs.declared.answer.Fetched.{Fetched}
-use Rattle.packet_format.specs.declared.answer.Fetched.TheVariants.{Found, Refused}
+use Rattle.std.specs.Prelude.{◌≡◌, List, ℕ, Err, Ok}
+use Rattle.packet_format.specs.Answer.{Fetched}
 use Rattle.packet_format.specs.Reading.{fetched}
 use Rattle.packet_format.specs.Accepting.{accepted, taken}
 use Rattle.export_numbers.specs.declared.numbers.CetskobiReplica.{CetskobiReplica}
@@ -14,8 +13,8 @@ use Rattle.export_accepted.specs.Arrival.{Came}
 
 -- which message a fetch found: whose it is, of which epoch, and about which record; also where its delivery is refused
 abbrev pub arrival_for : Fetched → CetskobiAnswer → CetskobiArrival
-arrival_for (Found e at) a = record { answer = a; epoch = e.header.epoch; sender = e.header.sender; index = e.header.index }
-arrival_for (Refused k) a = record { answer = a; epoch = 0; sender = 0; index = 0 }
+arrival_for (Ok (e, at)) a = record { answer = a; epoch = e.header.epoch; sender = e.header.sender; index = e.header.index }
+arrival_for (Err e) a = record { answer = a; epoch = 0; sender = 0; index = 0 }
 
 -- a delivery that did what `cetskobi_deliver_packet` does of message i, to answer, table and store, and that tells which message it was
 pub record AsFetched (me : CetskobiReplica) (table store packet : List ℕ) (i : ℕ) (r : CetskobiArrival) (table' store' : List ℕ) : Type 0 where

@@ -4,14 +4,15 @@ ghost use Rattle.export_fields.specs.Answers.{accepted_in};
 ghost use Rattle.export_calls.specs.Calls.{node_of};
 ghost use Rattle.export_accepted.specs.Arrival.{Came};
 
+use export_arrival::numbers_of;
+use export_delivery::cetskobi_deliver;
 use export_fields::CetskobiAccepted;
-use export_numbers::{CetskobiAnswer, CetskobiMessage, CetskobiReplica};
+use export_numbers::{CetskobiAnswer, CetskobiReplica};
 use hermes::Answer;
-use packet_format::Taken;
 
-// The answer to the delivery of a packet's message; and which message it was, also where its delivery was refused.
+// The answer to the delivery of a packet's message; and which message it was, also where its delivery was refused. Zeros where there was none.
 #[repr(C)]
-#[derive(Clone, Copy)]
+#[derive(Clone, Copy, Default)]
 pub struct CetskobiArrival {
     pub answer: CetskobiAnswer,
     pub epoch: u32,
@@ -31,36 +32,20 @@ pub extern "C" fn cetskobi_deliver_accepted(
 ) -> CetskobiArrival
     ensures { Came (node_of me table.old store.old) table.old packet.now (taken packet.now (accepted_in accepted) i) result table.new store.new }
 {
-    let facts = export_fields::accepted_in(accepted);
-    let taken = packet_reader::take(packet, facts, i);
+    let taken = packet_reader::take(packet, accepted.into(), i);
     match taken {
-        Taken::Entry(f) => {
-            let message = CetskobiMessage {
-                kind: f.kind,
-                sender: f.sender,
-                tie: f.tie,
-                epoch: f.epoch,
-                version: f.version,
-            };
+        Ok(f) => {
             let value = packet_reader::body_taken(packet, taken);
-            let answer = export_delivery::cetskobi_deliver(
-                me, table, store, f.index, message, value,
-            );
             CetskobiArrival {
-                answer: answer,
+                answer: cetskobi_deliver(me, table, store, f.index, numbers_of(f), value),
                 epoch: f.epoch,
                 sender: f.sender,
                 index: f.index,
             }
         }
-        Taken::Refused(k) => {
-            let answer = export_numbers::answer_out(Answer::Refused(k));
-            CetskobiArrival {
-                answer: answer,
-                epoch: 0,
-                sender: 0,
-                index: 0,
-            }
-        }
+        Err(no) => CetskobiArrival {
+            answer: Answer::Err(no).into(),
+            ..CetskobiArrival::default()
+        },
     }
 }

@@ -1,11 +1,10 @@
 -- What an exported delivery from a packet does.
-use Rattle.std.specs.Prelude.{ℕ, ◌≡◌, List}
+use Rattle.std.specs.Prelude.{ℕ, ◌≡◌, List, Err, Ok}
 use Rattle.hermes.specs.declared.event.Event.TheVariants.{Deliver}
 use Rattle.hermes_record.specs.Order.{ties}
 use Rattle.hermes.specs.Node.{Node, effect_of}
 use Rattle.packet_format.specs.declared.entry.Fields.{Fields}
-use Rattle.packet_format.specs.declared.answer.Fetched.{Fetched}
-use Rattle.packet_format.specs.declared.answer.Fetched.TheVariants.{Found, Refused}
+use Rattle.packet_format.specs.Answer.{Fetched}
 use Rattle.packet_format.specs.Reading.{body_of}
 use Rattle.packet_event.specs.Arrival.{received_of, receipt_of}
 use Rattle.export_records.specs.Layout.{table_of}
@@ -20,9 +19,9 @@ numbers_of f = record { kind = f.kind; sender = f.sender; tie = f.tie; epoch = f
 
 -- the bytes after the delivery of what a fetch from the packet p answered
 abbrev pub bytes_arrived : Node → List ℕ → List ℕ → Fetched → List ℕ
-bytes_arrived n before p (Found e at) =
-    bytes_after (effect_of ties n e.header.index (Deliver (received_of e)) (body_of p (Found e at))).moved before e.header.index
-bytes_arrived n before p (Refused k) = before
+bytes_arrived n before p (Ok (e, at)) =
+    bytes_after (effect_of ties n e.header.index (Deliver (received_of e)) (body_of p (Ok (e, at)))).moved before e.header.index
+bytes_arrived n before p (Err e) = before
 
 -- the answer, the bytes, the table that they hold, and the store after it
 pub record Arrived (n : Node) (before p : List ℕ) (f : Fetched) (a : CetskobiAnswer) (bytes' store' : List ℕ) : Type 0 where

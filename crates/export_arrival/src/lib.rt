@@ -3,5 +3,5 @@
 
 mod arrival;
 
-pub use arrival::cetskobi_deliver_packet;
+pub use arrival::{cetskobi_deliver_packet, numbers_of};
 pub use export_numbers::{CetskobiAnswer, CetskobiReplica};

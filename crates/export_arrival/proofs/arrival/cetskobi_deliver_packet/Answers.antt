@@ -1,12 +1,8 @@
 -- `export_arrival::arrival::cetskobi_deliver_packet` meets its contract.
-use mathlib.Core.Path.{ap, ◌∙◌}
-use Rattle.hermes.specs.declared.event.Settings.{Settings}
-use Rattle.packet_format.specs.Reading.{fetched}
-use Rattle.export_numbers.specs.Crossing.{group_rule}
 use Rattle.export_arrival.proofs.Arrivals.{found}
 use Rattle.export_arrival.proofs.arrival.cetskobi_deliver_packet.Goals as goal
 
-pub returns-in-Found : goal.returns-in-Found
-returns-in-Found c =
-    let v = c.args in
-    found v.me v.table.now v.store.now v.packet.now v.i (group_rule v.me) _ (c.fetch-fetched.ensures ∙ ap (λ (x : Settings). fetched x.rule v.packet.now v.i) c.settings_of-settings.ensures) _ _ _ _ _ _ _ c.in-Found.is c.fields_for-f.ensures c.body-value.ensures c.cetskobi_deliver.ensures
+pub returns-in-Ok : goal.returns-in-Ok
+returns-in-Ok c = let w = c.args in
+    found w.me w.table.now w.store.now w.packet.now w.i _ _ c.from.ensures c.fetch-fetched.ensures _ _ c.in-Ok.is
+    _ _ _ c.fields-fields.ensures c.numbers_of.ensures c.body-value.ensures _ _ _ c.cetskobi_deliver.ensures
