@@ -8,7 +8,8 @@ use export_numbers::{CetskobiAnswer, CetskobiMessage, CetskobiReplica};
 use hermes::{Message, Received, Subject};
 use replica_delivery::{move_message, stores};
 
-// The kind is asked first: only an invalidation stores, and the compiler keeps the record in registers.
+// The kind is asked first, and each has a step of its own: only an invalidation stores, and one step that is called for all of them is not
+// inlined, so that the record goes through memory and a delivery takes twice the instructions.
 fn deliver(
     me: CetskobiReplica,
     table: &mut [u8],
@@ -19,13 +20,20 @@ fn deliver(
 ) -> CetskobiAnswer
     ensures { Done (node_of me table.old store.old) table.old i (Deliver m) value.now result table.new store.new }
 {
-    let step = |s: Subject, bytes: usize| move_message(s, bytes, m, value);
     match m.message {
         Message::Inv(_) => {
             let takes = |s: Subject| stores(s.me, s.found, m);
+            let step = |s: Subject, bytes: usize| move_message(s, bytes, m, value);
             storing(me, table, store, i, value, takes, step)
         }
-        Message::Ack(_) | Message::Val(_) => quiet(me, table, store.len(), i, step),
+        Message::Ack(_) => {
+            let step = |s: Subject, bytes: usize| move_message(s, bytes, m, value);
+            quiet(me, table, store.len(), i, step) // an ACK's
+        }
+        Message::Val(_) => {
+            let step = |s: Subject, bytes: usize| move_message(s, bytes, m, value);
+            quiet(me, table, store.len(), i, step) // a VAL's
+        }
     }
 }
 
