@@ -23,10 +23,6 @@ cut f = record {
   len = f.len % 256;
 }
 
--- the first half of an entry
-abbrev pub half : Fields → List ℕ
-half f = f.kind ∷ f.sender ∷ be 4 f.epoch ++ be 2 f.index
-
 -- the contents table of n messages, whose words begin at w, and whose bodies at `at`
 unfoldable pub table : ℕ → ℕ → ℕ → List ℕ → List ℕ
 table zero w at words = []

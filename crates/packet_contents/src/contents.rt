@@ -4,34 +4,26 @@ ghost use Rattle.std.proofs.lemmas.List.Edits.{sets};
 ghost use Rattle.packet_format.specs.Entry.{entry_bytes};
 ghost use Rattle.packet_format.specs.Reading.{entry_place};
 ghost use Rattle.packet_words.specs.Words.{fields_at};
-ghost use Rattle.packet_contents.specs.Front.{cut, half, table, fronted};
+ghost use Rattle.packet_contents.specs.Front.{cut, table, fronted};
 
-use crate::output::{put2, put4};
+use crate::output::put;
 use hermes_record::Rule;
 use packet_format::{ENTRY_BYTES, HEADER_BYTES, TOTAL_MAX};
 use packet_words::WORDS;
 
-// The first half of an entry.
+// The 16 bytes of an entry, whose body begins at `at`: of each word the low bytes that its field has room for.
 // Each word is read just before it is stored: the compiler then makes one store of its bytes.
-fn put_half(out: &mut [u8], pos: usize, words: &[u32], w: usize)
-    requires { (w + 7 ≤ length words.now) × (pos + 16 ≤ length out.old) }
-    ensures { out.new ≡ sets out.old pos (half (cut (fields_at words.now w 0))) }
-{
-    out[pos] = (words[w] % 256) as u8;
-    out[pos + 1] = (words[w + 1] % 256) as u8;
-    put4(out, pos + 2, words[w + 2]);
-    put2(out, pos + 6, (words[w + 3] % 65536) as usize);
-}
-
-// The 16 bytes of an entry, whose body begins at `at`.
 fn put_entry(out: &mut [u8], pos: usize, words: &[u32], w: usize, at: usize)
     requires { (w + 7 ≤ length words.now) × (pos + 16 ≤ length out.old) }
     ensures { out.new ≡ sets out.old pos (entry_bytes (cut (fields_at words.now w at))) }
 {
-    put_half(out, pos, words, w);
-    put4(out, pos + 8, words[w + 4]);
+    out[pos] = (words[w] % 256) as u8;
+    out[pos + 1] = (words[w + 1] % 256) as u8;
+    put(out, pos + 2, words[w + 2].to_be_bytes());
+    put(out, pos + 6, ((words[w + 3] % 65536) as u16).to_be_bytes());
+    put(out, pos + 8, words[w + 4].to_be_bytes());
     out[pos + 12] = (words[w + 5] % 256) as u8;
-    put2(out, pos + 13, at % 65536);
+    put(out, pos + 13, ((at % 65536) as u16).to_be_bytes());
     out[pos + 15] = (words[w + 6] % 256) as u8;
 }
 
@@ -59,6 +51,6 @@ pub fn put_front(rule: Rule, words: &[u32], bodies: &[u8], out: &mut [u8])
     }
     out[0] = u8::from(rule);
     out[1] = count as u8;
-    put2(out, 2, total);
+    put(out, 2, (total as u16).to_be_bytes());
     put_contents(out, words, count);
 }

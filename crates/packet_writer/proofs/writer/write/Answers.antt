@@ -9,7 +9,7 @@ use Rattle.packet_format.specs.Writing.{total_of, packet_bytes, output_of}
 use Rattle.packet_words.specs.Words.{word_messages}
 use Rattle.packet_words.proofs.Places.{counted}
 use mathlib.Core.Logic.{◌⊎◌, inl, inr}
-use Rattle.packet_writer.proofs.Copying.{copied}
+use Rattle.packet_contents.proofs.Stores.{copied}
 use Rattle.packet_writer.proofs.Messages.{packet-stored}
 use Rattle.packet_writer.proofs.Answers.{passed, refused, empty, bad, uneven, unroomy, written-whole}
 use Rattle.packet_writer.proofs.writer.write.Goals as goal
