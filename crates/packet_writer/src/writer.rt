@@ -28,6 +28,6 @@ pub fn write(rule: Rule, words: &[u32], bodies: &[u8], out: &mut [u8]) -> Writte
         return Err(Refused(25));
     }
     put_front(rule, words, bodies, out);
-    out[start..total].copy_from_slice(bodies);
+    hermes_record::copy(bodies, &mut out[start..total]);
     Ok(total)
 }

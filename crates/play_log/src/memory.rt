@@ -33,7 +33,7 @@ impl Envelope {
         ensures { logged_of result ≡ logged_as message header body.now }
     {
         let mut bytes = [0; 192];
-        bytes[..body.len()].copy_from_slice(body);
+        hermes_record::copy(body, &mut bytes[..body.len()]);
         Envelope {
             sender: header.sender,
             epoch: header.epoch,

@@ -4,6 +4,7 @@ ghost use Rattle.hermes.specs.Store.{place};
 ghost use Rattle.replica_outcome.specs.Placing.{room, placed, stored_for};
 
 use hermes::{Answer, Record};
+use hermes_record::copy;
 
 // The comparisons of questions 2, 4, and 8 or 12. After them the compiler drops these.
 fn has_room(count: usize, bytes: usize, i: usize, n: usize) -> bool
@@ -23,7 +24,7 @@ fn put(store: &mut [u8], i: usize, value: &[u8])
 {
     let at = Record::VALUE_MAX * i;
     store[at..at + Record::VALUE_MAX].fill(0);
-    store[at..at + value.len()].copy_from_slice(value);
+    copy(value, &mut store[at..at + value.len()]);
 }
 
 // The value goes into the 192 bytes of record i of count, and zeros after it. Without room for it the store stays as it is.

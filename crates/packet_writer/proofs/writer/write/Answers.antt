@@ -68,6 +68,6 @@ returns c =
     record {
       answer = written-whole es _ _ (omega arith) (omega arith) p.0 (p.1 ∙ c.if-sum-bodies.false) _ t c.if-total-gt-TOTAL_MAX.false c.if-out-total.false;
       output =
-          packet-stored c.args.rule words c.args.out.now c.put_front.new.out _ bodies c.count_in-count.result c.count_in-count.ensures n p.0 (p.1 ∙ c.if-sum-bodies.false) (omega arith) (omega arith) c.put_front.ensures (copied c.put_front.new.out c.copy_from_slice.new.self bodies start (start + sum - start) c.copy_from_slice.ensures.after (omega arith) (omega (arith, c.put_front.auto.out, c.if-out-total.false)))
+          packet-stored c.args.rule words c.args.out.now c.put_front.new.out _ bodies c.count_in-count.result c.count_in-count.ensures n p.0 (p.1 ∙ c.if-sum-bodies.false) (omega arith) (omega arith) c.put_front.ensures (copied c.put_front.new.out c.copy.new.to bodies start (start + sum - start) (c.copy.ensures.whole (omega arith)) (omega arith) (omega (arith, c.put_front.auto.out, c.if-out-total.false)))
           ∙ ap (λ (k : ℕ). packet_bytes c.args.rule es bodies ++ drop k c.args.out.now) (sym u);
     }
