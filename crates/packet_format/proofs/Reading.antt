@@ -80,11 +80,6 @@ pub header-yes : (p : List ℕ) → Header p → (question20 p).yes ≡ true
 header-yes p h =
     simp (le-leb _ _ h.long, h.first, le-leb _ _ h.some, le-leb _ _ h.few, eq-eqb _ _ h.total, le-leb _ _ h.short)
 
--- the last five parts are asked once there are 4 bytes
-pub header-rest : (p : List ℕ) (total : ℕ) → 4 ≤ length p → total ≡ num (window p 2 2)
-    → ((eqb (rule_in p) 1 || eqb (rule_in p) 2) && leb 1 (count_of p) && leb (count_of p) 64 && eqb total (length p) && leb (length p) 1400) ≡ (question20 p).yes
-header-rest p total h e = simp (le-leb _ _ h, e)
-
 -- ---- the answer of a fetch
 
 module _ (rule : Rule) (p : List ℕ) (i : ℕ) where

@@ -1,16 +1,15 @@
 -- The walk of the contents table, turn by turn.
-use mathlib.Core.Path.{◌≡◌, sym, ap, ◌∙◌}
+use mathlib.Core.Path.{◌≡◌, sym, ◌∙◌}
 use mathlib.Core.Bool.{true, false, ◌&&◌}
 use mathlib.Core.List.{List}
 use Prim.Native.Nat.{ℕ, ◌+◌, ◌-◌, ◌≤◌, ◌<◌}
-use native.Mathlib.Nat.{sub-zero}
 use native.Mathlib.Omega.{arith}
 use lib.Dec.{eqb}
 use lib.ListN.{length, take, drop}
 use Rattle.std.proofs.lemmas.Bool.{and_parts}
 use Rattle.packet_format.specs.declared.entry.Fields.{Fields}
 use Rattle.packet_format.specs.Entry.{fields_of, good}
-use Rattle.packet_format.specs.Reading.{count_of, entry_place, question20, question22, walk}
+use Rattle.packet_format.specs.Reading.{count_of, entry_place, question20, question22}
 use Rattle.hermes_record.specs.declared.timestamp.Rule.{Rule}
 use Rattle.hermes.specs.Answer.{no}
 use Rattle.packet_format.proofs.Reading.{header, turn, walk-done, fetch-22}
@@ -18,15 +17,6 @@ use Rattle.packet_format.proofs.Accepting.{accept-22}
 use Rattle.packet_format.proofs.Entries.{good-parts}
 use Rattle.packet_reader.specs.Opening.{Passed, Turned}
 use Rattle.packet_reader.specs.Walking.{Table, Walked}
-
--- before the first entry
-pub walked_none : (p : List ℕ) → Table p → Walked p 0 (entry_place (count_of p))
-walked_none p t =
-    record {
-      below = omega arith;
-      small = omega (arith, t.few);
-      rest = ap (λ (n : ℕ). walk n (drop 4 p) (entry_place (count_of p)) (length p)) (sym (sub-zero (count_of p)));
-    }
 
 -- entry k, read from the part that begins at its place
 module _ (p : List ℕ) (k at : ℕ) (w : Walked p k at) (more : k < count_of p) (f : Fields) (reads : f ≡ fields_of (take (length p - entry_place k) (drop (entry_place k) p))) where
