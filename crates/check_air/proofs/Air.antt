@@ -13,11 +13,10 @@ use Rattle.hermes_record.specs.declared.record.State.{State}
 use Rattle.hermes_record.specs.declared.record.State.TheVariants as state
 use Rattle.hermes.specs.declared.message.Message.{Message}
 use Rattle.hermes.specs.declared.message.Message.TheVariants.{Inv, Ack, Val}
-use Rattle.hermes.specs.declared.message.Outgoing.{Outgoing}
-use Rattle.hermes.specs.declared.message.Outgoing.TheVariants.{None, Sent}
+use Rattle.packet_format.specs.Answer.{Fetched}
+use Rattle.hermes.specs.Answer.{Outgoing, Answer}
+use Rattle.std.specs.Prelude.{Err, None, Ok, Some}
 use Rattle.hermes.specs.declared.event.Replica.{Replica}
-use Rattle.hermes.specs.declared.event.Answer.{Answer}
-use Rattle.hermes.specs.declared.event.Answer.TheVariants.{Accepted, Refused}
 use Rattle.hermes.specs.declared.event.Event.{Event}
 use Rattle.hermes.specs.declared.event.Event.TheVariants.{Read, Ask, Write, Commit, Replay, Deliver, Validate, Resend}
 use Rattle.hermes_record.specs.Order.{ties, later}
@@ -29,8 +28,6 @@ use Rattle.hermes.specs.Node.{Node, Outcome, record_of, leaving, apply}
 use Rattle.hermes.specs.Run.{Logged, logged}
 use Rattle.hermes.proofs.Apply.{Applied, refused, accepted, applied}
 use Rattle.packet_format.specs.declared.entry.Entry.{Entry}
-use Rattle.packet_format.specs.declared.answer.Fetched.{Fetched}
-use Rattle.packet_format.specs.declared.answer.Fetched.TheVariants.{Found}
 use Rattle.packet_format.specs.Reading.{entry_place, fetched, body_of}
 use Rattle.packet_words.specs.ReadBack.{many_in, word, said_by, body_from, ReadsAs}
 use Rattle.export_packets.proofs.RoundTrip.{packed-reads}
@@ -52,7 +49,7 @@ use Rattle.check_air.specs.Air.{Sending, seven_of, words_sent, bodies_sent, Call
 -- the message that leaves an event of `me` on record i
 abbrev Headed : Replica → ℕ → Outgoing → Type 0
 Headed me i None = Unit
-Headed me i (Sent m h) = h ≡ record { sender = me.number; epoch = me.epoch; index = i }
+Headed me i (Some (m, h)) = h ≡ record { sender = me.number; epoch = me.epoch; index = i }
 
 module _ (me : Replica) (i : ℕ) (r : Record) (v : List ℕ) where
   again : (s : State) (t : Timestamp) → Headed me i (resent me i s t)
@@ -100,15 +97,15 @@ some_left x e = let q : ◌≡◌ {A = ℕ} 0 1 = ap length e in omega arith
 
 crosses : (me : Replica) (i : ℕ) (n : Node) (x : Logged) (a : Answer) → Headed me i (sent_by a) → logged [] n (sent_by a) ≡ x ∷ [] → Crosses me i a n x
 unfolding first
-crosses me i n x (Accepted None) h e = absurd (some_left x e)
-crosses me i n x (Accepted (Sent m d)) h e =
-    let q : record { header = d; message = m; body = leaving (Sent m d) n.table n.store } ≡ x = ap (first x) e in
+crosses me i n x (Ok None) h e = absurd (some_left x e)
+crosses me i n x (Ok (Some (m, d))) h e =
+    let q : record { header = d; message = m; body = leaving (Some (m, d)) n.table n.store } ≡ x = ap (first x) e in
     record {
       answer = ap (λ (y : Logged). message_out y.message) q;
       header = sym (ap (λ (y : Logged). y.header) q) ∙ h;
       body = sym (ap (λ (y : Logged). y.body) q);
     }
-crosses me i n x (Refused k) h e = absurd (some_left x e)
+crosses me i n x (Err k) h e = absurd (some_left x e)
 
 -- the same of a call, by its contract
 module _ (x : Logged) (s : Sending) (c : Called x s) where
@@ -202,8 +199,8 @@ module _ (before after : List Sending) (s : Sending) (x : Logged) (c : Called x 
   body-said = rw (word_at before after s 6, body-place before (s ∷ after)) (body_at before after s) ∙ bytes_left x s c
 
 -- what a fetch found is delivered with its bytes
-delivers : (n : Node) (table p : List ℕ) (e : Entry) (at : ℕ) (v : List ℕ) (a : CetskobiAnswer) (table' store' : List ℕ) → body_of p (Found e at) ≡ v
-    → Arrived n table p (Found e at) a table' store' → Done n table e.header.index (Deliver (received_of e)) v a table' store'
+delivers : (n : Node) (table p : List ℕ) (e : Entry) (at : ℕ) (v : List ℕ) (a : CetskobiAnswer) (table' store' : List ℕ) → body_of p (Ok (e, at)) ≡ v
+    → Arrived n table p (Ok (e, at)) a table' store' → Done n table e.header.index (Deliver (received_of e)) v a table' store'
 delivers n table p e at v a table' store' brings h =
     rw (sym brings) (record { answer = h.answer; bytes = h.bytes; table = h.table; store = h.store })
 
@@ -213,19 +210,19 @@ reads rule ss packet p = rw p.front (packed-reads rule (words_sent ss) (bodies_s
 
 module _ (rule : Rule) (before after : List Sending) (s : Sending) (x : Logged) (packet : List ℕ) (c : Called x s) (p : Packed rule (before ++ s ∷ after) packet) where
   -- what the packet's reader finds
-  pub found_left : (at : ℕ) × (fetched rule packet (length before) ≡ Found (entry_left x) at) × (body_of packet (Found (entry_left x) at) ≡ x.body)
+  pub found_left : (at : ℕ) × (fetched rule packet (length before) ≡ Ok (entry_left x, at)) × (body_of packet (Ok (entry_left x, at)) ≡ x.body)
   found_left =
       let ss = before ++ s ∷ after in
       let r : ReadsAs rule packet (words_sent ss) (bodies_sent ss) = reads rule ss packet p in
       let k : length before < many_in (words_sent ss) = omega (arith, length-words ss, length-append before (s ∷ after)) in
       let at = entry_place (many_in (words_sent ss)) + body_from (words_sent ss) (length before) in
-      let found : fetched rule packet (length before) ≡ Found (entry_left x) at = r.message (length before) k ∙ ap (λ (e : Entry). Found e at) (said before after s x c) in
+      let found : fetched rule packet (length before) ≡ Ok (entry_left x, at) = r.message (length before) k ∙ ap (λ (e : Entry). Ok (e, at)) (said before after s x c) in
       (at, found, sym (ap (body_of packet) found) ∙ r.body (length before) k ∙ body-said before after s x c)
 
 pub through-the-air : ThroughTheAir
 through-the-air before after s x packet me c p table store table' store' a h =
     let (at, found, brings) = found_left (group_rule me) before after s x packet c p in
-    let arrived : Arrived (node_of me table store) table packet (Found (entry_left x) at) a table' store' =
+    let arrived : Arrived (node_of me table store) table packet (Ok (entry_left x, at)) a table' store' =
     subst (λ (f : Fetched). Arrived (node_of me table store) table packet f a table' store') found h in
     delivers (node_of me table store) table packet (entry_left x) at x.body a table' store' brings arrived
 

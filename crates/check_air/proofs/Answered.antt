@@ -7,12 +7,10 @@ use native.Mathlib.Omega.{arith}
 use native.Mathlib.Decide.{dec_lt}
 use lib.ListN.{length, take, drop}
 use borrow.Author.Tests.{lt-ltb, le-ltb}
-use Rattle.hermes.specs.declared.message.Outgoing.TheVariants.{None}
+use Rattle.packet_format.specs.Answer.{Fetched, Taken}
+use Rattle.hermes.specs.Answer.{Answer, Admission}
+use Rattle.std.specs.Prelude.{Err, None, Ok}
 use Rattle.hermes_record.specs.declared.timestamp.Rule.{Rule}
-use Rattle.hermes.specs.declared.event.Answer.{Answer}
-use Rattle.hermes.specs.declared.event.Answer.TheVariants.{Accepted, Refused}
-use Rattle.hermes.specs.declared.event.Admission.{Admission}
-use Rattle.hermes.specs.declared.event.Admission.TheVariants as admission
 use Rattle.hermes.specs.declared.event.Event.{Event}
 use Rattle.hermes.specs.declared.event.Event.TheVariants.{Read, Ask, Write, Commit, Replay, Deliver, Validate, Resend}
 use Rattle.hermes.specs.declared.event.Moved.{Moved}
@@ -23,10 +21,6 @@ use Rattle.hermes.specs.Event.{answer_of, refusal, step, effect, part_of, read_p
 use Rattle.hermes.specs.Node as hermes
 use Rattle.hermes.specs.Node.{record_at, record_of, effect_of, apply, viewed, admission_number}
 use Rattle.hermes.specs.Run.{Logged}
-use Rattle.packet_format.specs.declared.answer.Fetched.{Fetched}
-use Rattle.packet_format.specs.declared.answer.Fetched.TheVariants as fetch
-use Rattle.packet_format.specs.declared.answer.Taken.{Taken}
-use Rattle.packet_format.specs.declared.answer.Taken.TheVariants as take
 use Rattle.packet_format.specs.Reading.{fetched, body_of}
 use Rattle.packet_format.specs.Accepting.{accepted, taken, fetched_of}
 use Rattle.packet_format.proofs.Accepting.{taken-is-fetched}
@@ -51,12 +45,12 @@ use Rattle.check_air.proofs.Callers.{number-out, is_found}
 
 -- the bytes after an event hold the table after it
 after-bytes : (m : Moved) (a : Answer) (bytes : List ℕ) (i : ℕ) → m.answer ≡ a → table_of (bytes_after m bytes i) ≡ table_after m (table_of bytes) i
-after-bytes m (Accepted o) bytes i e = go (dec_lt i (count_of (length bytes)))
+after-bytes m (Ok o) bytes i e = go (dec_lt i (count_of (length bytes)))
   where
     go : Dec (i < count_of (length bytes)) → table_of (bytes_after m bytes i) ≡ table_after m (table_of bytes) i
     go (yes l) = rw (e, lt-ltb i (count_of (length bytes)) l) (rw e at (settled-table m o bytes i e l))
     go (no n) = rw (e, le-ltb i (count_of (length bytes)) (omega arith)) (rw e at (settled-nowhere m o bytes i e (omega arith)))
-after-bytes m (Refused k) bytes i e = rw e
+after-bytes m (Err k) bytes i e = rw e
 
 pub after_table : (l : Laptop) (i : ℕ) (e : Event) (v : List ℕ) → table_of (after_event l i e v).table ≡ (apply ties (node l) i e v).node.table
 unfolding apply effect
@@ -80,8 +74,8 @@ arrives l p i = (answer_out a, record { answer = refl; bytes = refl; table = go 
     a = (receipt_of ties (node l) p (fetched (group_rule l.me) p i)).answer
 
     go : (f : Fetched) → table_of (bytes_arrived (node l) l.table p f) ≡ (receipt_of ties (node l) p f).node.table
-    go (fetch.Found e at) = after_table l e.header.index (Deliver (received_of e)) (body_of p (fetch.Found e at))
-    go (fetch.Refused k) = refl
+    go (Ok (e, at)) = after_table l e.header.index (Deliver (received_of e)) (body_of p (Ok (e, at)))
+    go (Err k) = refl
 
 -- and by facts
 takes : (l : Laptop) (p : List ℕ) (a : CetskobiAccepted) (i : ℕ)
@@ -89,10 +83,10 @@ takes : (l : Laptop) (p : List ℕ) (a : CetskobiAccepted) (i : ℕ)
 takes l p a i = by (taken p (accepted_in a) i)
   where
     by : (t : Taken) → (r : CetskobiArrival) × Came (node l) l.table p t r (after_taken l p t).table (after_taken l p t).store × (r.answer.number ≡ event.number_of (taken_receipt (node l) p t).answer) × ((after_taken l p t).me ≡ l.me)
-    by (take.Entry f) =
-        let (x, d, q, same) = moves l f.index (Deliver (received_in (numbers_of f))) (body_of p (fetched_of (take.Entry f))) in
-        (arrival_of (take.Entry f) x, record { message = refl; done = d }, q, same)
-    by (take.Refused k) = (arrival_of (take.Refused k) (answer_out (Refused k)), record { message = refl; done = (refl, refl, refl) }, refl, refl)
+    by (Ok f) =
+        let (x, d, q, same) = moves l f.index (Deliver (received_in (numbers_of f))) (body_of p (fetched_of (Ok f))) in
+        (arrival_of (Ok f) x, record { message = refl; done = d }, q, same)
+    by (Err r) = (arrival_of (Err r) (answer_out (Err r)), record { message = refl; done = (refl, refl, refl) }, refl, refl)
 
 -- a part as long as it is
 pub own-length : (n : ℕ) (xs : List ℕ) → take (length (take n xs)) xs ≡ take n xs
@@ -139,8 +133,8 @@ views l epoch set = (admission_out a l.me, refl, said a, refl)
     zeros (suc k) = refl
 
     said : (a : Admission) → (admission_out a l.me).number ≡ event.number_of (answer_of (admission_number a) None)
-    said (admission.Admitted x) = refl
-    said (admission.Refused k) = sym (zeros k)
+    said (Ok x) = refl
+    said (Err k) = sym (zeros k.0)
 
 pub every-call-answers : EveryCallAnswers
 every-call-answers (read i) l = reads l i
@@ -160,8 +154,8 @@ untaken : (rule : Rule) (p : List ℕ) (i : ℕ) → Broken rule p i → Untaken
 untaken rule p i h = by (taken p (accepted rule p) i) refl
   where
     by : (t : Taken) → taken p (accepted rule p) i ≡ t → Untaken p (accept_answer rule p) i
-    by (take.Entry f) e = absurd (omega (arith, ap is_found (sym (ap fetched_of e) ∙ taken-is-fetched rule p i ∙ h.refused)))
-    by (take.Refused k) e = record { number = k; refused = e }
+    by (Ok f) e = absurd (omega (arith, ap is_found (sym (ap fetched_of e) ∙ taken-is-fetched rule p i ∙ h.refused)))
+    by (Err k) e = record { number = k.0; refused = e }
 
 -- a packet for the other rule is refused by 27
 for-others : (other rule : Rule) (log : List Logged) (p : List ℕ) (i : ℕ) → other ≢ rule → FromAir other log p i → Broken rule p i

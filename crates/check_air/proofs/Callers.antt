@@ -10,16 +10,14 @@ use lib.Dec.{eqb}
 use lib.ListN.{length}
 use lib.Seq.{set-get_or}
 use borrow.Author.Tests.{eqb-true}
-use Rattle.hermes.specs.declared.event.Answer.{Answer}
-use Rattle.hermes.specs.declared.event.Answer.TheVariants.{Accepted, Refused}
-use Rattle.hermes.specs.declared.event.Admission.{Admission}
-use Rattle.hermes.specs.declared.event.Admission.TheVariants as admission
+use Rattle.packet_format.specs.Answer.{Fetched, Taken}
+use Rattle.hermes.specs.Answer.{Answer, Admission, Outgoing, no}
+use Rattle.std.specs.Prelude.{Err, None, Ok, Some}
+use Rattle.hermes.specs.declared.event.Refused.{Refused}
 use Rattle.hermes.specs.declared.event.Replica.{Replica}
 use Rattle.hermes.specs.declared.event.Settings.{Settings}
 use Rattle.hermes.specs.declared.event.Event.{Event}
 use Rattle.hermes.specs.declared.event.Event.TheVariants.{Read, Write, Commit, Replay, Deliver, Validate, Resend}
-use Rattle.hermes.specs.declared.message.Outgoing.{Outgoing}
-use Rattle.hermes.specs.declared.message.Outgoing.TheVariants.{None, Sent}
 use Rattle.hermes.specs.declared.message.Message.{Message}
 use Rattle.hermes.specs.declared.message.Message.TheVariants.{Inv, Ack, Val}
 use Rattle.hermes_record.specs.declared.record.Record.{Record}
@@ -41,11 +39,7 @@ use Rattle.hermes.specs.Agreement.{FreshStart, Started, AsIssued, Entries, IsAcc
 use Rattle.hermes.proofs.Apply.{Applied, refused, accepted, applied, its_own}
 use Rattle.hermes.proofs.Agreement.{agreement}
 use Rattle.hermes.proofs.Asking.{as_read_lem}
-use Rattle.packet_format.specs.declared.answer.Fetched.{Fetched}
-use Rattle.packet_format.specs.declared.answer.Fetched.TheVariants as fetch
 use Rattle.packet_format.specs.declared.entry.Fields.{Fields}
-use Rattle.packet_format.specs.declared.answer.Taken.{Taken}
-use Rattle.packet_format.specs.declared.answer.Taken.TheVariants as take
 use Rattle.packet_format.specs.Reading.{fetched, body_of}
 use Rattle.packet_format.specs.Accepting as format
 use Rattle.packet_format.specs.Accepting.{taken, fetched_of}
@@ -88,8 +82,8 @@ no_number (x ∷ log) = no_number log
 
 -- the entry of a delivery by facts: that of log number j, or of a message that there is not
 abbrev taken-action : List Logged → ℕ → Taken → Action
-taken-action log j (take.Entry g) = run.deliver j
-taken-action log j (take.Refused k) = run.deliver (length log)
+taken-action log j (Ok g) = run.deliver j
+taken-action log j (Err k) = run.deliver (length log)
 
 -- the entry of a call
 pub action : (issued : ℕ → ℕ) (log : List Logged) (rule : Rule) (c : Call) → Fair issued log rule c → Action
@@ -122,8 +116,8 @@ as-issued issued log rule (deliver_packet p i) (inr f) = tt
 as-issued issued log rule (deliver_accepted p a i) (inl (packing, f)) = by (taken p (accepted_in a) i)
   where
     by : (t : Taken) → AsIssued issued (taken-action log (log-number f.message log f.earlier).0 t)
-    by (take.Entry g) = tt
-    by (take.Refused k) = tt
+    by (Ok g) = tt
+    by (Err k) = tt
 as-issued issued log rule (deliver_accepted p a i) (inr f) = tt
 as-issued issued log rule (validate i) f = tt
 as-issued issued log rule (resend i) f = tt
@@ -145,8 +139,8 @@ sent-does log n x m o e =
     event-does log n (run.deliver (log-number x log m).0) o (ap (λ (f : Found). run.delivery ties f n) (log-number x log m).1 ∙ ap run.event (sym e))
 
 -- what is refused for itself is the entry of a message that there is not
-nothing-does : (log : List Logged) (n : Node) (k : ℕ) (o : Outcome) → o ≡ record { answer = Refused k; node = n } → Does log n (run.deliver (length log)) o
-nothing-does log n k o e = record {
+nothing-does : (log : List Logged) (n : Node) (r : Refused) (o : Outcome) → o ≡ record { answer = Err r; node = n } → Does log n (run.deliver (length log)) o
+nothing-does log n r o e = record {
   leaves = ap (λ (r : Result). node_after r n) nothing ∙ sym (ap (λ (x : Outcome). x.node) e);
   logs = ap (λ (r : Result). log_after r log) nothing ∙ sym (ap (log_of log) e);
 }
@@ -164,12 +158,12 @@ unknown-shape kind version tie n e = rw e (go (eqb kind inv) (eqb kind ack))
     go false false = refl
 
 unknown-refused : (n : Node) (i : ℕ) (m : CetskobiMessage) (v : List ℕ) → known m.kind ≡ false
-    → (k : ℕ) × (apply ties n i (Deliver (received_in m)) v ≡ record { answer = Refused k; node = n })
+    → (r : Refused) × (apply ties n i (Deliver (received_in m)) v ≡ record { answer = Err r; node = n })
 unknown-refused n i m v e = go (applied ties n i (Deliver (received_in m)) v)
   where
     go : Applied ties n i (Deliver (received_in m)) v (apply ties n i (Deliver (received_in m)) v)
-        → (k : ℕ) × (apply ties n i (Deliver (received_in m)) v ≡ record { answer = Refused k; node = n })
-    go (refused k z p) = (suc k, p)
+        → (r : Refused) × (apply ties n i (Deliver (received_in m)) v ≡ record { answer = Err r; node = n })
+    go (refused k z p) = (no (suc k), p)
     go (accepted y c p) = absurd (false≢true (sym (unknown-shape m.kind m.version m.tie (length v) e) ∙ (its_own n i (Deliver (received_in m)) v y).1.1.0))
 
 -- a packet brings the message that left
@@ -181,19 +175,19 @@ carried rule log n p i f =
 
 -- a message is found, or there is none
 abbrev pub is_found : Fetched → ℕ
-is_found (fetch.Found e at) = 1
-is_found (fetch.Refused k) = 0
+is_found (Ok (e, at)) = 1
+is_found (Err k) = 0
 
 -- so does one that left, by whatever facts it is taken
-carried-taken : (rule : Rule) (log : List Logged) (n : Node) (p : List ℕ) (a : CetskobiAccepted) (i : ℕ) (f : FromAir rule log p i) (g : Fields) → taken p (accepted_in a) i ≡ take.Entry g
-    → taken_receipt n p (take.Entry g) ≡ apply ties n f.message.header.index (Deliver (received f.message)) f.message.body
+carried-taken : (rule : Rule) (log : List Logged) (n : Node) (p : List ℕ) (a : CetskobiAccepted) (i : ℕ) (f : FromAir rule log p i) (g : Fields) → taken p (accepted_in a) i ≡ Ok g
+    → taken_receipt n p (Ok g) ≡ apply ties n f.message.header.index (Deliver (received f.message)) f.message.body
 carried-taken rule log n p a i f g e = own (taken p (format.accepted rule p) i) refl ∙ own-receipt rule n p i ∙ carried rule log n p i f
   where
-    own : (t : Taken) → taken p (format.accepted rule p) i ≡ t → taken_receipt n p (take.Entry g) ≡ taken_receipt n p (taken p (format.accepted rule p) i)
-    own (take.Entry h) e' = ap (λ (x : Fields). taken_receipt n p (take.Entry x)) (taken-alike p (accepted_in a) (format.accepted rule p) i g h e e') ∙ sym (ap (taken_receipt n p) e')
-    own (take.Refused k) e' =
+    own : (t : Taken) → taken p (format.accepted rule p) i ≡ t → taken_receipt n p (Ok g) ≡ taken_receipt n p (taken p (format.accepted rule p) i)
+    own (Ok h) e' = ap (λ (x : Fields). taken_receipt n p (Ok x)) (taken-alike p (accepted_in a) (format.accepted rule p) i g h e e') ∙ sym (ap (taken_receipt n p) e')
+    own (Err r) e' =
         let finds = found_left rule f.before f.after f.sending f.message p f.called f.packed in
-        let no_such : fetched rule p i ≡ fetch.Refused k = sym (taken-is-fetched rule p i) ∙ ap fetched_of e' in
+        let no_such : fetched rule p i ≡ Err r = sym (taken-is-fetched rule p i) ∙ ap fetched_of e' in
         absurd (omega (arith, ap is_found (sym no_such ∙ ap (fetched rule p) f.place ∙ finds.1)))
 
 module _ (issued : ℕ → ℕ) (log : List Logged) where
@@ -205,15 +199,15 @@ module _ (issued : ℕ → ℕ) (log : List Logged) where
   does (commit i version tie v) n f = event-does log n (run.commit i (record { version = version; tie = tie }) v) _ refl
   does (replay i) n f = event-does log n (run.replay i) _ refl
   does (deliver i m v) n (inl f) = sent-does log n f.message f.earlier (outcome (deliver i m v) n) (rw (f.index, f.same, f.bytes))
-  does (deliver i m v) n (inr f) = let (k, e) = unknown-refused n i m v f in nothing-does log n k (outcome (deliver i m v) n) e
+  does (deliver i m v) n (inr f) = let (r, e) = unknown-refused n i m v f in nothing-does log n r (outcome (deliver i m v) n) e
   does (deliver_packet p i) n (inl f) = sent-does log n f.message f.earlier (receipt ties n p i) (carried n.me.settings.rule log n p i f)
-  does (deliver_packet p i) n (inr f) = nothing-does log n f.number (receipt ties n p i) (ap (receipt_of ties n p) f.refused)
+  does (deliver_packet p i) n (inr f) = nothing-does log n (no f.number) (receipt ties n p i) (ap (receipt_of ties n p) f.refused)
   does (deliver_accepted p a i) n (inl (packing, f)) = by (taken p (accepted_in a) i) refl
     where
       by : (t : Taken) → taken p (accepted_in a) i ≡ t → Does log n (taken-action log (log-number f.message log f.earlier).0 t) (taken_receipt n p t)
-      by (take.Entry g) e = sent-does log n f.message f.earlier (taken_receipt n p (take.Entry g)) (carried-taken packing log n p a i f g e)
-      by (take.Refused k) e = nothing-does log n k (taken_receipt n p (take.Refused k)) refl
-  does (deliver_accepted p a i) n (inr f) = nothing-does log n f.number (taken_receipt n p (taken p (accepted_in a) i)) (ap (taken_receipt n p) f.refused)
+      by (Ok g) e = sent-does log n f.message f.earlier (taken_receipt n p (Ok g)) (carried-taken packing log n p a i f g e)
+      by (Err r) e = nothing-does log n r (taken_receipt n p (Err r)) refl
+  does (deliver_accepted p a i) n (inr f) = nothing-does log n (no f.number) (taken_receipt n p (taken p (accepted_in a) i)) (ap (taken_receipt n p) f.refused)
   does (validate i) n f = event-does log n (run.validate i) _ refl
   does (resend i) n f = event-does log n (run.resend i) _ refl
   does (view epoch set) n f = event-does log n (run.view epoch set) _ refl
@@ -237,8 +231,8 @@ reads n i = go (applied ties n i Read [])
     go (accepted y c p) = ap (λ (o : Outcome). o.node) p ∙ ap (λ (t : List Record). record { me = n.me; table = t; store = n.store }) (set-get_or n.table i (fresh_record 0))
 
 receipt-keeps : (n : Node) (p : List ℕ) (f : Fetched) → (receipt_of ties n p f).node.me ≡ n.me
-receipt-keeps n p (fetch.Found e at) = keeps-me n e.header.index (Deliver (received_of e)) (body_of p (fetch.Found e at))
-receipt-keeps n p (fetch.Refused k) = refl
+receipt-keeps n p (Ok (e, at)) = keeps-me n e.header.index (Deliver (received_of e)) (body_of p (Ok (e, at)))
+receipt-keeps n p (Err k) = refl
 
 -- an identity that went out comes back: its rule has a number
 pub replica-back : (x : Replica) → replica_of (identity_of x) ≡ x
@@ -249,8 +243,8 @@ replica-back x = ap (λ (r : Rule). record { number = x.number; epoch = x.epoch;
     back Lower = refl
 
 admits : (a : Admission) (me : CetskobiReplica) → replica_of (admission_out a me).replica ≡ identity a (replica_of me)
-admits (admission.Admitted x) me = replica-back x
-admits (admission.Refused k) me = refl
+admits (Ok x) me = replica-back x
+admits (Err k) me = refl
 
 pub lands : (c : Call) (l l' : Laptop) (number : ℕ) → Returns c l number l' → node l' ≡ (outcome c (node l)).node
 unfolding viewed receipt
@@ -266,8 +260,8 @@ lands (deliver_packet p i) l l' number (a, d, q, same) =
 lands (deliver_accepted p a i) l l' number (r, d, q, same) = by (taken p (accepted_in a) i) d.done
   where
     by : (t : Taken) → Delivered (node l) l.table p t r.answer l'.table l'.store → node l' ≡ (taken_receipt (node l) p t).node
-    by (take.Entry g) z = moves l l' g.index (Deliver (received_in (numbers_of g))) (body_of p (fetched_of (take.Entry g))) r.answer.number (r.answer, z, refl, same)
-    by (take.Refused k) (s, t, u) = λ j. record { me = replica_of (same j); table = table_of (t j); store = u j }
+    by (Ok g) z = moves l l' g.index (Deliver (received_in (numbers_of g))) (body_of p (fetched_of (Ok g))) r.answer.number (r.answer, z, refl, same)
+    by (Err k) (s, t, u) = λ j. record { me = replica_of (same j); table = table_of (t j); store = u j }
 lands (validate i) l l' number r = moves l l' i Validate [] number r
 lands (resend i) l l' number r = moves l l' i Resend [] number r
 lands (view epoch set) l l' number (a, e, q, same) =
@@ -284,11 +278,11 @@ pub record Match (g : Group) (h : Hut) : Type 0 where
 
 -- the number of an answer crosses as it is
 pub number-out : (a : Answer) → (answer_out a).number ≡ number_of a
-number-out (Accepted None) = refl
-number-out (Accepted (Sent (Inv t) h)) = refl
-number-out (Accepted (Sent (Ack t) h)) = refl
-number-out (Accepted (Sent (Val t) h)) = refl
-number-out (Refused k) = refl
+number-out (Ok None) = refl
+number-out (Ok (Some (Inv t, h))) = refl
+number-out (Ok (Some (Ack t, h))) = refl
+number-out (Ok (Some (Val t, h))) = refl
+number-out (Err k) = refl
 
 module _ (member : ℕ → Bool) (issued : ℕ → ℕ) where
   abbrev pub entry : (h : Hut) (s : Turn) → Fair issued h.log (group_rule (h.at s.who).me) s.call → Entry
@@ -381,9 +375,9 @@ module _ (issued : ℕ → ℕ) (log : List Logged) (rule : Rule) (i : ℕ) wher
 -- a VAL has number 1, all else 0
 valued : Outgoing → ℕ
 valued None = 0
-valued (Sent (Inv t) h) = 0
-valued (Sent (Ack t) h) = 0
-valued (Sent (Val t) h) = 1
+valued (Some (Inv t, h)) = 0
+valued (Some (Ack t, h)) = 0
+valued (Some (Val t, h)) = 1
 
 -- entry a, of a laptop n with this log, delivers an ACK of record i that completes the view
 record LastAck (log : List Logged) (n : Node) (i : ℕ) (a : Action) : Type 0 where
@@ -415,9 +409,9 @@ module _ (n : Node) (i : ℕ) (t : Timestamp) where
   step-last k sender (Val s) v e = absurd (omega (arith, ap valued e))
 
   -- nothing leaves a refusal
-  silent : (k : ℕ) → sent_by (Refused k) ≡ send n.me i (Val t) → ⊥
+  silent : (r : Refused) → sent_by (Err r) ≡ send n.me i (Val t) → ⊥
   unfolding valued
-  silent k e = omega (arith, ap valued e)
+  silent r e = omega (arith, ap valued e)
 
   module _ (log : List Logged) where
     sent-last : (x : Logged) (m : Memᴰ x log) (o : Outcome) → o ≡ apply ties n x.header.index (Deliver (received x)) x.body → sent_by o.answer ≡ send n.me i (Val t)
@@ -429,7 +423,7 @@ module _ (n : Node) (i : ℕ) (t : Timestamp) where
 
         go : Applied ties n x.header.index (Deliver (received x)) x.body (apply ties n x.header.index (Deliver (received x)) x.body)
             → LastAck log n i (run.deliver (log-number x log m).0)
-        go (refused k z p) = absurd (silent (suc k) (ap (λ (z : Outcome). sent_by z.answer) (sym p) ∙ out))
+        go (refused k z p) = absurd (silent (no (suc k)) (ap (λ (z : Outcome). sent_by z.answer) (sym p) ∙ out))
         go (accepted y c p) =
             let (at, (s, is), last) = step-last x.header.index x.header.sender x.message x.body (ap (λ (z : Outcome). sent_by z.answer) (sym p) ∙ out) in
             record {
@@ -456,28 +450,28 @@ module _ (n : Node) (i : ℕ) (t : Timestamp) where
     call-last issued (resend _) f d e = absurd d
     call-last issued (view _ _) f d e = absurd d
     call-last issued (deliver j m v) (inl f) d e = sent-last f.message f.earlier (outcome (deliver j m v) n) (rw (f.index, f.same, f.bytes)) e
-    call-last issued (deliver j m v) (inr f) d e = let (k, q) = unknown-refused n j m v f in absurd (silent k (ap (λ (z : Outcome). sent_by z.answer) (sym q) ∙ e))
+    call-last issued (deliver j m v) (inr f) d e = let (r, q) = unknown-refused n j m v f in absurd (silent r (ap (λ (z : Outcome). sent_by z.answer) (sym q) ∙ e))
     call-last issued (deliver_packet p j) (inl f) d e = sent-last f.message f.earlier (receipt ties n p j) (carried n.me.settings.rule log n p j f) e
     call-last issued (deliver_accepted p a j) (inl (packing, f)) d e = by (taken p (accepted_in a) j) refl e
       where
         by : (x : Taken) → taken p (accepted_in a) j ≡ x → sent_by (taken_receipt n p x).answer ≡ send n.me i (Val t) → LastAck log n i (taken-action log (log-number f.message log f.earlier).0 x)
-        by (take.Entry g) q e = sent-last f.message f.earlier (taken_receipt n p (take.Entry g)) (carried-taken packing log n p a j f g q) e
-        by (take.Refused k) q e = absurd (silent k e)
+        by (Ok g) q e = sent-last f.message f.earlier (taken_receipt n p (Ok g)) (carried-taken packing log n p a j f g q) e
+        by (Err r) q e = absurd (silent r e)
     call-last issued (deliver_accepted p a j) (inr f) d e =
-        absurd (silent f.number (ap (λ (z : Outcome). sent_by z.answer) (sym (ap (taken_receipt n p) f.refused)) ∙ e))
-    call-last issued (deliver_packet p j) (inr f) d e = absurd (silent f.number (ap (λ (z : Outcome). sent_by z.answer) (sym (ap (receipt_of ties n p) f.refused)) ∙ e))
+        absurd (silent (no f.number) (ap (λ (z : Outcome). sent_by z.answer) (sym (ap (taken_receipt n p) f.refused)) ∙ e))
+    call-last issued (deliver_packet p j) (inr f) d e = absurd (silent (no f.number) (ap (λ (z : Outcome). sent_by z.answer) (sym (ap (receipt_of ties n p) f.refused)) ∙ e))
 
 -- ---- the start
 
 -- an accepted start admits the identity that it answers
 admitted : (k set : ℕ) (settings : Settings) (table : List Record) (store : List ℕ) (old : CetskobiReplica) → (admission_out (start k set settings table store).admission old).number ≡ 0
-    → (start k set settings table store).admission ≡ admission.Admitted (replica_of (admission_out (start k set settings table store).admission old).replica)
+    → (start k set settings table store).admission ≡ Ok (replica_of (admission_out (start k set settings table store).admission old).replica)
 unfolding start
 admitted k set settings table store old e = go (start_refusal k set settings (length table) (length store)) e
   where
     go : (q : ℕ) → (admission_out (begin q (newcomer k set settings) table store).admission old).number ≡ 0
-        → (begin q (newcomer k set settings) table store).admission ≡ admission.Admitted (replica_of (admission_out (begin q (newcomer k set settings) table store).admission old).replica)
-    go zero e = ap admission.Admitted (sym (replica-back (newcomer k set settings)))
+        → (begin q (newcomer k set settings) table store).admission ≡ Ok (replica_of (admission_out (begin q (newcomer k set settings) table store).admission old).replica)
+    go zero e = ap Ok (sym (replica-back (newcomer k set settings)))
     go (suc q) e = absurd (omega arith)
 
 -- the run's group of the callers' laptops
@@ -495,7 +489,7 @@ begins count issued settings k l b = subst (λ (x : Settings). FreshStart count 
       table = table;
       store = b.store;
       records = length-table b.table ∙ b.records;
-      accepted = admitted k (issued 0) (settings_of b.given) table b.store old zero-said ∙ ap (λ (x : CetskobiReplica). admission.Admitted (replica_of x)) me;
+      accepted = admitted k (issued 0) (settings_of b.given) table b.store old zero-said ∙ ap (λ (x : CetskobiReplica). Ok (replica_of x)) me;
       table_after = b.started.table;
       store_after = b.started.store;
     })

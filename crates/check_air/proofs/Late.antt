@@ -33,11 +33,9 @@ use Rattle.hermes.proofs.Guards.{slot-fits}
 use Rattle.hermes.proofs.Steps.{next-version}
 use Rattle.hermes.proofs.Store.{slot-elsewhere, value-slot}
 use Rattle.hermes.proofs.Apply.{step_of, done, first-five, its_own, Applied, refused, accepted, applied}
-use Rattle.packet_format.specs.declared.answer.Fetched.{Fetched}
-use Rattle.packet_format.specs.declared.answer.Fetched.TheVariants as fetch
+use Rattle.packet_format.specs.Answer.{Fetched, Taken}
+use Rattle.std.specs.Prelude.{Err, Ok}
 use Rattle.packet_format.specs.Reading.{fetched, body_of}
-use Rattle.packet_format.specs.declared.answer.Taken.{Taken}
-use Rattle.packet_format.specs.declared.answer.Taken.TheVariants as take
 use Rattle.packet_format.specs.Accepting.{taken, fetched_of}
 use Rattle.export_fields.specs.Answers.{accepted_in}
 use Rattle.export_arrival.specs.Arrival.{numbers_of}
@@ -166,12 +164,12 @@ view_fixes n epoch set = go (ℕ_discrete (number_of (viewed n epoch set).answer
 
 module _ (i : ℕ) where
   receipt-since : (n : Node) (p : List ℕ) (f : Fetched) → Since i n (receipt_of ties n p f).node
-  receipt-since n p (fetch.Found e at) = event-since i n e.header.index (Deliver (received_of e)) (body_of p (fetch.Found e at))
-  receipt-since n p (fetch.Refused k) = since-refl i n
+  receipt-since n p (Ok (e, at)) = event-since i n e.header.index (Deliver (received_of e)) (body_of p (Ok (e, at)))
+  receipt-since n p (Err k) = since-refl i n
 
   taken-since : (n : Node) (p : List ℕ) (t : Taken) → Since i n (taken_receipt n p t).node
-  taken-since n p (take.Entry f) = event-since i n f.index (Deliver (received_in (numbers_of f))) (body_of p (fetched_of (take.Entry f)))
-  taken-since n p (take.Refused k) = since-refl i n
+  taken-since n p (Ok f) = event-since i n f.index (Deliver (received_in (numbers_of f))) (body_of p (fetched_of (Ok f)))
+  taken-since n p (Err k) = since-refl i n
 
   call-since : (c : Call) (n : Node) → Since i n (outcome c n).node
   unfolding viewed receipt

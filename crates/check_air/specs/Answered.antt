@@ -1,6 +1,6 @@
 -- Every call may follow, and on every laptop has its answer: `Fair` and `Returns` of `Callers` can be met, and this is by what. And `Finishes`
 -- leaves no validation out.
-use Rattle.std.specs.Prelude.{ℕ, ◌≡◌, false, ◌≢◌, List, [], length}
+use Rattle.std.specs.Prelude.{ℕ, ◌≡◌, false, ◌≢◌, List, [], length, Err, Ok}
 use Rattle.hermes_record.specs.declared.timestamp.Timestamp.{Timestamp}
 use Rattle.hermes_record.specs.declared.timestamp.Rule.{Rule}
 use Rattle.hermes.specs.declared.message.Message.TheVariants.{Val}
@@ -13,8 +13,8 @@ use Rattle.hermes.specs.Event.{send, sent_by}
 use Rattle.hermes.specs.Node as hermes
 use Rattle.hermes.specs.Node.{Node, apply, effect_of}
 use Rattle.hermes.specs.Run.{Logged}
-use Rattle.packet_format.specs.declared.answer.Taken.{Taken}
-use Rattle.packet_format.specs.declared.answer.Taken.TheVariants.{Entry, Refused}
+use Rattle.hermes.specs.Answer.{no}
+use Rattle.packet_format.specs.Answer.{Taken}
 use Rattle.packet_format.specs.Reading.{fetched, body_of}
 use Rattle.packet_format.specs.Accepting.{taken, fetched_of}
 use Rattle.packet_event.specs.Arrival.{receipt}
@@ -52,8 +52,8 @@ after_event l i e v = record {
 
 -- the laptop after the delivery of what was taken
 abbrev pub after_taken : Laptop → List ℕ → Taken → Laptop
-after_taken l p (Entry f) = after_event l f.index (Deliver (received_in (numbers_of f))) (body_of p (fetched_of (Entry f)))
-after_taken l p (Refused k) = l
+after_taken l p (Ok f) = after_event l f.index (Deliver (received_in (numbers_of f))) (body_of p (fetched_of (Ok f)))
+after_taken l p (Err k) = l
 
 -- the laptop after a call
 abbrev pub after_call : Call → Laptop → Laptop
@@ -91,7 +91,7 @@ pub record AnyCall (issued : ℕ → ℕ) (log : List Logged) (rule : Rule) : Ty
   pub others : (other : Rule) (p : List ℕ) (i : ℕ) → other ≢ rule → FromAir other log p i → Fair issued log rule (deliver_packet p i)
   pub broken : (p : List ℕ) (i : ℕ) → Broken rule p i → Fair issued log rule (deliver_packet p i)
   pub accepted : (packing : Rule) (p : List ℕ) (a : CetskobiAccepted) (i : ℕ) → FromAir packing log p i → Fair issued log rule (deliver_accepted p a i)
-  pub foreign : (p : List ℕ) (a : CetskobiAccepted) (i k : ℕ) → taken p (accepted_in a) i ≡ Refused k → Fair issued log rule (deliver_accepted p a i)
+  pub foreign : (p : List ℕ) (a : CetskobiAccepted) (i k : ℕ) → taken p (accepted_in a) i ≡ Err (no k) → Fair issued log rule (deliver_accepted p a i)
   pub unaccepted : (p : List ℕ) (i : ℕ) → Broken rule p i → Fair issued log rule (deliver_accepted p (accept_answer rule p) i)
   pub validations : (i : ℕ) → Fair issued log rule (validate i)
   pub resends : (i : ℕ) → Fair issued log rule (resend i)

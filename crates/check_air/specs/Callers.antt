@@ -1,5 +1,5 @@
 -- Demand 3 of the exported functions: every list of calls on the laptops of a group, each as its function's contract says, and nothing known of them but that.
-use Rattle.std.specs.Prelude.{ℕ, ◌<◌, ◌≡◌, Bool, true, false, cond, ◌⊎◌, eqb, length}
+use Rattle.std.specs.Prelude.{ℕ, ◌<◌, ◌≡◌, Bool, true, false, cond, ◌⊎◌, eqb, length, Err}
 use mathlib.Core.List.{List, [], ◌∷◌, ◌++◌, Memᴰ}
 use Rattle.hermes_record.specs.declared.timestamp.Timestamp.{Timestamp}
 use Rattle.hermes_record.specs.declared.timestamp.Rule.{Rule}
@@ -15,8 +15,7 @@ use Rattle.hermes.specs.Node as hermes
 use Rattle.hermes.specs.Node.{Node, Outcome, record_of, apply, viewed}
 use Rattle.hermes.specs.Run.{Logged, received, logged}
 use Rattle.hermes.specs.Agreement.{Shows, Sees, Alike}
-use Rattle.packet_format.specs.declared.answer.Fetched.TheVariants.{Refused}
-use Rattle.packet_format.specs.declared.answer.Taken.TheVariants as take
+use Rattle.hermes.specs.Answer.{no}
 use Rattle.packet_format.specs.Reading.{fetched}
 use Rattle.packet_format.specs.Accepting.{taken}
 use Rattle.packet_event.specs.Arrival.{receipt}
@@ -152,12 +151,12 @@ pub record FromAir (rule : Rule) (log : List Logged) (p : List ℕ) (i : ℕ) : 
 -- a packet of which the reader of a group with this rule refuses message i, that of another station say (02, Wish 6); its number
 pub record Broken (rule : Rule) (p : List ℕ) (i : ℕ) : Type 0 where
   pub number : ℕ
-  pub refused : fetched rule p i ≡ Refused number
+  pub refused : fetched rule p i ≡ Err (no number)
 
 -- facts by which message i of the packet is refused: those of a broken packet, say, or of one with fewer messages
 pub record Untaken (p : List ℕ) (a : CetskobiAccepted) (i : ℕ) : Type 0 where
   pub number : ℕ
-  pub refused : taken p (accepted_in a) i ≡ take.Refused number
+  pub refused : taken p (accepted_in a) i ≡ Err (no number)
 
 -- numbers and bytes of a message that left
 pub record AsNumbers (log : List Logged) (i : ℕ) (m : CetskobiMessage) (v : List ℕ) : Type 0 where
