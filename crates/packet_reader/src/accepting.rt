@@ -59,6 +59,6 @@ pub fn body_taken(packet: &[u8], taken: Taken) -> &[u8]
 {
     match taken {
         Ok(f) => part(packet, f.offset, f.len as usize),
-        Err(_) => &[],
+        Err(_) => &packet[..0],
     }
 }

@@ -34,7 +34,7 @@ pub fn body(packet: &[u8], fetched: Fetched) -> &[u8]
 {
     match fetched {
         Ok((entry, at)) => part(packet, at, entry.len as usize),
-        Err(_) => &[],
+        Err(_) => &packet[..0],
     }
 }
 
@@ -42,6 +42,6 @@ pub fn body(packet: &[u8], fetched: Fetched) -> &[u8]
 pub(crate) fn part(packet: &[u8], start: usize, len: usize) -> &[u8]
     ensures { result.now ≡ take len (drop start packet.now) }
 {
-    let rest = packet.get(start..).unwrap_or(&[]);
+    let rest = packet.get(start..).unwrap_or(&packet[..0]);
     rest.get(..len).unwrap_or(rest)
 }
