@@ -33,10 +33,12 @@ Wish 6|that a packet for one rule is refused by 27 in a group with the other|pac
 Wish 6|the same, as C calls the functions|export_packets.OnePass.OtherRule|crates/export_packets/proofs/OnePass.antt:other-rule
 END
 
-grep -nE '^(pub )?(struct|enum) ' crates/*/src/*.rt >"$dir/types"
+grep -nE '^(pub )?(struct|enum|type) ' crates/*/src/*.rt >"$dir/types"
 # the kit's text is in the folder rattle/ beside its first page; without it its lines are not counted
 guide=$(rt doc 2>/dev/null) && kit=$(cd "$(dirname "$guide")/rattle" 2>/dev/null && pwd) || kit=''
 [ -d "$kit/logic" ] || kit=''
+# Option and Result are types of the kit
+if [ -n "$kit" ]; then grep -nE '^pub enum (Option|Result)<' "$kit"/core/src/*.rt >>"$dir/types"; fi
 
 count() { LC_ALL=C awk -v roots="$dir/roots" -v types="$dir/types" -v kit="$kit" "$@" -f tests/trust/reading.awk -f tests/trust/counting.awk; }
 

@@ -1,7 +1,7 @@
 # What a statement rests on: the definitions that it names, those that they name, and so on down, the types of src/ among them, and the names
 # of the kit where that ends. tests/trust.sh hands in, after reading.awk,
 #   roots   a file of lines ROW|LABEL|STATEMENT ..|PROOF.., each word of STATEMENT as CRATE.MODULE.NAME, or FILE.rt for what the file exports
-#   types   a file of lines FILE:NUMBER:DECLARATION, every struct and enum of the crates
+#   types   a file of lines FILE:NUMBER:DECLARATION, every struct, enum and alias of the crates, and those of the kit that they and specs/ name
 #   kit     the kit's folder, or nothing
 #   mode    table, kit, or read with the number of a row in `row`
 
@@ -39,7 +39,11 @@ function tally(row,  target, parts, n, i, list, seen, line) {
     for (target in reached_all) {
         if (row && !((row, target) in reached)) continue
         split(target, parts, " ")
-        if (parts[1] == "type") { t_types++; t_type_lines += split(type_lines[target], list, " "); continue }
+        if (parts[1] == "type") {
+            n = split(type_lines[target], list, " ")
+            if (parts[2] in crates) { t_types++; t_type_lines += n } else if (n) { t_kit++; t_kit_lines += n }
+            continue
+        }
         if (parts[1] != "def") continue
         n = split(lines[parts[2]], list, " ")
         if (parts[2] in contract) { t_functions++; t_function_lines += n; continue }
@@ -85,6 +89,12 @@ function proved(text,  n, i, w, parts, out) {
     for (i = 1; i <= n; i++) { split(w[i], parts, ":"); out = out (out == "" ? "" : ", ") "[`" parts[2] "`](../" parts[1] ")" }
     return out == "" ? "each function's own, by `rt`" : out
 }
+# the module of the kit in which antt has a type of its src/
+function declaring(crate, name,  file) {
+    file = declared[crate, name]
+    sub(/^.*\/src\//, "", file); sub(/\.rt$/, "", file); gsub(/\//, ".", file)
+    return "Rattle." crate ".specs.declared" (file == "" ? "" : "." file)
+}
 # a bar within a table
 function escaped(text,  n, i, parts, out) {
     n = split(text, parts, "|")
@@ -99,10 +109,11 @@ BEGIN {
     while ((getline line < "crates.txt") > 0) if (line ~ /^[a-z]/) crates[substr(line, 1, index(line, ":") - 1)] = 1
     while ((getline line < types) > 0) {
         split(line, p, ":")
-        split(p[1], q, "/")
-        sub(/^(pub )?(struct|enum) +/, "", p[3]); match(p[3], /^[A-Za-z0-9_]+/)
+        crate = p[1]
+        sub(/\/src\/.*$/, "", crate); sub(/^.*\//, "", crate)
+        sub(/^(pub )?(struct|enum|type) +/, "", p[3]); match(p[3], /^[A-Za-z0-9_]+/)
         name = substr(p[3], 1, RLENGTH)
-        declared[q[2], name] = p[1]; declared_at[q[2], name] = p[2]
+        declared[crate, name] = p[1]; declared_at[crate, name] = p[2]
     }
     while ((getline line < roots) > 0) {
         split(line, p, "|")
@@ -134,6 +145,7 @@ BEGIN {
             for (i = 1; i <= m; i++) {
                 split(w[i], q, " ")
                 if (q[1] == "kit") { used[q[2]] = used[q[2]] ((q[2], q[3]) in once ? "" : " " q[3]); once[q[2], q[3]] = 1 }
+                if (q[1] == "type" && !(q[2] in crates) && !((q[2], q[3]) in once)) { once[q[2], q[3]] = 1; module = declaring(q[2], q[3]); used[module] = used[module] " " q[3] }
                 if (q[1] == "def" && is_kit(def_module[q[2]])) { module = def_module[q[2]]; name = def_name[q[2]]; if (!((module, name) in once)) { once[module, name] = 1; used[module] = used[module] " " name } }
             }
         }
@@ -162,14 +174,16 @@ BEGIN {
             if (p[1] == "kit") continue
             key = p[1] == "def" ? def_module[p[2]] : target
             if (p[1] == "def" && is_kit(key) && !(key in source)) continue
-            if (!(key in listed)) { listed[key] = 1; where[++k] = (is_kit(key) ? "2 " : p[1] == "type" ? "1 " : "0 ") key }
+            if (!(key in listed)) { listed[key] = 1; where[++k] = (is_kit(key) || p[1] == "type" && !(p[2] in crates) ? "2 " : p[1] == "type" ? "1 " : "0 ") key }
             wanted[key] = wanted[key] " " (p[1] == "def" ? lines[p[2]] : type_lines[target])
         }
         sorted(where, k)
         for (i = 1; i <= k; i++) {
             key = substr(where[i], 3)
             file = source[key]
-            if (is_kit(key)) file = "the kit: " key
+            split(key, p, " ")
+            if (p[1] == "type" && !(p[2] in crates)) file = "the kit: " declaring(p[2], p[3])
+            else if (is_kit(key)) file = "the kit: " key
             if (i > 1) print ""
             if (file != heading) print "==== " file
             heading = file

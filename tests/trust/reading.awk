@@ -364,6 +364,8 @@ function study_type(key,  parts, crate, name, file, first, line, number, text, m
     studied_type[key] = 1
     split(key, parts, " ")
     crate = parts[2]; name = parts[3]
+    # where there is no kit, a type of its own is not counted
+    if (kit == "" && !(crate in crates)) return
     if (!((crate, name) in declared)) { fail("the type " name " of " crate " is not declared in crates/, and is not counted"); return }
     file = declared[crate, name]; first = declared_at[crate, name]
     source[key] = file
@@ -377,14 +379,17 @@ function study_type(key,  parts, crate, name, file, first, line, number, text, m
         if (text == "") continue
         if (text ~ /^ *ghost /) fail(file ": what " name " says of its ghost fields is not counted")
         type_lines[key] = type_lines[key] " " number
-        more = more " " (number > first && text ~ /:/ ? substr(text, index(text, ":")) : text ~ /\(/ ? substr(text, index(text, "(")) : "")
+        more = more " " (number > first && text ~ /:/ ? substr(text, index(text, ":")) : text ~ /^(pub )?type / ? substr(text, index(text, "=")) : text ~ /\(/ ? substr(text, index(text, "(")) : "")
         if (text ~ /^[}]/ || (number == first && text ~ /[;}]$/)) done = 1
     }
     close(file)
+    # those of the kit name no type but their parameters
+    if (!(crate in crates)) return
     gsub(/[^A-Za-z0-9_]/, " ", more)
     n = split(more, w, " ")
     for (i = 1; i <= n; i++) if (w[i] ~ /^[A-Z]/) {
         if ((text = type_in(file, w[i], crate)) != "") needs[key] = needs[key] "\n" text
+        else if (w[i] ~ /^(Option|Result)$/) needs[key] = needs[key] "\ntype core " w[i]
         else fail(file ": the type " w[i] " of " name " is not found")
     }
 }
