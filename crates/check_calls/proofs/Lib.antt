@@ -1,2 +1,0 @@
--- What is proved of a start for its proof in calls/.
-pub mod Held
