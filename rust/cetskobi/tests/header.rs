@@ -304,32 +304,32 @@ fn states() -> BTreeMap<String, usize> {
     states.map(|s| (upper(s), s.number().into())).collect()
 }
 
+/// The cases of an enum of a Rattle text.
+fn cases<'a>(text: &'a str, name: &str) -> Vec<&'a str> {
+    let (_, rest) = text.split_once(&format!("pub enum {name} {{")).expect("it");
+    let (cases, _) = rest.split_once('}').expect("its end");
+    let lines = cases.lines().map(str::trim);
+    lines.filter_map(|line| line.strip_suffix(',')).collect()
+}
+
 /// The numbers that the engine has for the rules.
 #[test]
 fn rules_are_the_engines() {
     let source = source("hermes_record");
-    let numbers = source.lines().filter_map(|line| {
-        let (name, number) = line
-            .trim()
-            .strip_prefix("pub const ")?
-            .split_once(": u8 = ")?;
-        Some((name.to_owned(), number.strip_suffix(';')?.parse().ok()?))
+    let numbers = cases(&source, "Rule").into_iter().map(|case| {
+        let (name, number) = case.split_once(" = ").expect("a number");
+        (upper(name), number.parse().expect("a plain number"))
     });
     let numbers: BTreeMap<String, u8> = numbers.collect();
-    for rule in Rule::ALL {
-        assert_eq!(numbers.get(&upper(rule)), Some(&rule.number()));
-    }
+    let rules = Rule::ALL.iter().map(|r| (upper(r), r.number()));
+    assert_eq!(numbers, rules.collect());
 }
 
-/// The numbers that the engine puts into a record's byte 0.
+/// The numbers that the engine puts into a record's byte 0: those of the states' places.
 #[test]
 fn states_are_the_engines() {
-    let source = source("export_storing");
-    let codes = source.lines().filter_map(|line| {
-        let (state, code) = line.trim().strip_prefix("State::")?.split_once(" => ")?;
-        let code = code.strip_suffix(',')?.parse().ok()?;
-        Some((upper(state), code))
-    });
+    let source = source("hermes_record");
+    let codes = cases(&source, "State").into_iter().map(upper).zip(0..);
     let codes: BTreeMap<String, usize> = codes.collect();
     assert_eq!(codes, states());
 }
