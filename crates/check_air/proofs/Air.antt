@@ -88,24 +88,16 @@ record Crosses (me : Replica) (i : ℕ) (a : Answer) (n : Node) (x : Logged) : T
   header : x.header ≡ record { sender = me.number; epoch = me.epoch; index = i }
   body : x.body ≡ leaving (sent_by a) n.table n.store
 
-first : Logged → List Logged → Logged
-first d [] = d
-first d (x ∷ xs) = x
-
-some_left : (x : Logged) → ◌≡◌ {A = List Logged} [] (x ∷ []) → ⊥
-some_left x e = let q : ◌≡◌ {A = ℕ} 0 1 = ap length e in omega arith
-
 crosses : (me : Replica) (i : ℕ) (n : Node) (x : Logged) (a : Answer) → Headed me i (sent_by a) → logged [] n (sent_by a) ≡ x ∷ [] → Crosses me i a n x
-unfolding first
-crosses me i n x (Ok None) h e = absurd (some_left x e)
+crosses me i n x (Ok None) h e = absurd (cc)
 crosses me i n x (Ok (Some (m, d))) h e =
-    let q : record { header = d; message = m; body = leaving (Some (m, d)) n.table n.store } ≡ x = ap (first x) e in
+    let q : record { header = d; message = m; body = leaving (Some (m, d)) n.table n.store } ≡ x = cc in
     record {
       answer = ap (λ (y : Logged). message_out y.message) q;
       header = sym (ap (λ (y : Logged). y.header) q) ∙ h;
       body = sym (ap (λ (y : Logged). y.body) q);
     }
-crosses me i n x (Err k) h e = absurd (some_left x e)
+crosses me i n x (Err k) h e = absurd (cc)
 
 -- the same of a call, by its contract
 module _ (x : Logged) (s : Sending) (c : Called x s) where

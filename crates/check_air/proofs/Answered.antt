@@ -6,8 +6,10 @@ use mathlib.Core.Logic.{inl, inr, ◌≢◌}
 use native.Mathlib.Omega.{arith}
 use native.Mathlib.Decide.{dec_lt}
 use lib.ListN.{length, take, drop}
+use Rattle.std.proofs.lemmas.List.{length-take, take_min}
 use borrow.Author.Tests.{lt-ltb, le-ltb}
 use Rattle.packet_format.specs.Answer.{Fetched, Taken}
+use Rattle.hermes.specs.Answer as answer
 use Rattle.hermes.specs.Answer.{Answer, Admission}
 use Rattle.std.specs.Prelude.{Err, None, Ok}
 use Rattle.hermes_record.specs.declared.timestamp.Rule.{Rule}
@@ -41,7 +43,7 @@ use Rattle.export_numbers.specs.Crossing.{group_rule}
 use Rattle.check_air.specs.Air.{words_sent, bodies_sent}
 use Rattle.check_air.specs.Callers.{Laptop, node, FromAir, read, ask, write, commit, replay, deliver, deliver_packet, deliver_accepted, validate, resend, view, Moves, Returns, Broken, Untaken, validates, acknowledges}
 use Rattle.check_air.specs.Answered.{call_number, ask_answer, after_event, after_taken, after_call, EveryCallMayFollow, EveryCallFinishes, EveryCallAnswers}
-use Rattle.check_air.proofs.Callers.{number-out, is_found}
+use Rattle.check_air.proofs.Callers.{number-out}
 
 -- the bytes after an event hold the table after it
 after-bytes : (m : Moved) (a : Answer) (bytes : List ℕ) (i : ℕ) → m.answer ≡ a → table_of (bytes_after m bytes i) ≡ table_after m (table_of bytes) i
@@ -90,9 +92,7 @@ takes l p a i = by (taken p (accepted_in a) i)
 
 -- a part as long as it is
 pub own-length : (n : ℕ) (xs : List ℕ) → take (length (take n xs)) xs ≡ take n xs
-own-length zero xs = refl
-own-length (suc n) [] = refl
-own-length (suc n) (x ∷ xs) = ap (λ (l : List ℕ). x ∷ l) (own-length n xs)
+own-length n xs = rw length-take (take_min n xs)
 
 -- what is handed out lies in the store, or is empty
 handed_out : (i n : ℕ) (store : List ℕ) (k : ℕ) → take (length (part_of k (value_at i n store))) (drop (192 * i) store) ≡ part_of k (value_at i n store)
@@ -154,7 +154,7 @@ untaken : (rule : Rule) (p : List ℕ) (i : ℕ) → Broken rule p i → Untaken
 untaken rule p i h = by (taken p (accepted rule p) i) refl
   where
     by : (t : Taken) → taken p (accepted rule p) i ≡ t → Untaken p (accept_answer rule p) i
-    by (Ok f) e = absurd (omega (arith, ap is_found (sym (ap fetched_of e) ∙ taken-is-fetched rule p i ∙ h.refused)))
+    by (Ok f) e = let found : ◌≡◌ {A = Fetched} (fetched_of (Ok f)) (Err (answer.no h.number)) = sym (ap fetched_of e) ∙ taken-is-fetched rule p i ∙ h.refused in absurd (cc)
     by (Err k) e = record { number = k.0; refused = e }
 
 -- a packet for the other rule is refused by 27

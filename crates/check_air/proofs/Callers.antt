@@ -18,6 +18,7 @@ use Rattle.hermes.specs.declared.event.Replica.{Replica}
 use Rattle.hermes.specs.declared.event.Settings.{Settings}
 use Rattle.hermes.specs.declared.event.Event.{Event}
 use Rattle.hermes.specs.declared.event.Event.TheVariants.{Read, Write, Commit, Replay, Deliver, Validate, Resend}
+use Rattle.hermes.specs.declared.message.Header.{Header}
 use Rattle.hermes.specs.declared.message.Message.{Message}
 use Rattle.hermes.specs.declared.message.Message.TheVariants.{Inv, Ack, Val}
 use Rattle.hermes_record.specs.declared.record.Record.{Record}
@@ -60,7 +61,7 @@ use Rattle.export_accepted.specs.Arrival.{Delivered, taken_receipt}
 use Rattle.export_numbers.specs.Crossing.{group_rule}
 use Rattle.export_accepted.proofs.OnePass.{own-receipt}
 use Rattle.check_air.specs.Callers.{Laptop, node, Call, read, ask, write, commit, replay, deliver, deliver_packet, deliver_accepted, validate, resend, view, Moves, Returns, Hut, Turn, outcome, log_of, next, after, FromAir, Fair, Follows, Begun, AllBegun, laptop, Delivers, Finishes, validates, acknowledges, CallsAgree, CalledDemand3}
-use Rattle.check_air.proofs.Air.{found_left}
+use Rattle.check_air.proofs.Air.{entry_left, found_left}
 
 -- ---- the log
 
@@ -173,11 +174,6 @@ carried rule log n p i f =
     let (at, finds, brings) = found_left rule f.before f.after f.sending f.message p f.called f.packed in
     ap (λ (j : ℕ). receipt_of ties n p (fetched rule p j)) f.place ∙ ap (receipt_of ties n p) finds ∙ ap (apply ties n f.message.header.index (Deliver (received f.message))) brings
 
--- a message is found, or there is none
-abbrev pub is_found : Fetched → ℕ
-is_found (Ok (e, at)) = 1
-is_found (Err k) = 0
-
 -- so does one that left, by whatever facts it is taken
 carried-taken : (rule : Rule) (log : List Logged) (n : Node) (p : List ℕ) (a : CetskobiAccepted) (i : ℕ) (f : FromAir rule log p i) (g : Fields) → taken p (accepted_in a) i ≡ Ok g
     → taken_receipt n p (Ok g) ≡ apply ties n f.message.header.index (Deliver (received f.message)) f.message.body
@@ -186,9 +182,10 @@ carried-taken rule log n p a i f g e = own (taken p (format.accepted rule p) i) 
     own : (t : Taken) → taken p (format.accepted rule p) i ≡ t → taken_receipt n p (Ok g) ≡ taken_receipt n p (taken p (format.accepted rule p) i)
     own (Ok h) e' = ap (λ (x : Fields). taken_receipt n p (Ok x)) (taken-alike p (accepted_in a) (format.accepted rule p) i g h e e') ∙ sym (ap (taken_receipt n p) e')
     own (Err r) e' =
-        let finds = found_left rule f.before f.after f.sending f.message p f.called f.packed in
+        let (at, finds, brings) = found_left rule f.before f.after f.sending f.message p f.called f.packed in
         let no_such : fetched rule p i ≡ Err r = sym (taken-is-fetched rule p i) ∙ ap fetched_of e' in
-        absurd (omega (arith, ap is_found (sym no_such ∙ ap (fetched rule p) f.place ∙ finds.1)))
+        let found : fetched rule p i ≡ Ok (entry_left f.message, at) = ap (fetched rule p) f.place ∙ finds in
+        absurd (cc)
 
 module _ (issued : ℕ → ℕ) (log : List Logged) where
   does : (c : Call) (n : Node) (f : Fair issued log n.me.settings.rule c) → Does log n (action issued log n.me.settings.rule c f) (outcome c n)
@@ -372,13 +369,6 @@ module _ (issued : ℕ → ℕ) (log : List Logged) (rule : Rule) (i : ℕ) wher
 
 -- ---- a delivery with which a VAL leaves is that of a last ACK
 
--- a VAL has number 1, all else 0
-valued : Outgoing → ℕ
-valued None = 0
-valued (Some (Inv t, h)) = 0
-valued (Some (Ack t, h)) = 0
-valued (Some (Val t, h)) = 1
-
 -- entry a, of a laptop n with this log, delivers an ACK of record i that completes the view
 record LastAck (log : List Logged) (n : Node) (i : ℕ) (a : Action) : Type 0 where
   number : ℕ
@@ -392,26 +382,28 @@ record LastAck (log : List Logged) (n : Node) (i : ℕ) (a : Action) : Type 0 wh
   accepted : IsAccepted (perform ties a log n)
 
 module _ (n : Node) (i : ℕ) (t : Timestamp) where
+  -- a message that is sent as that VAL is it
+  sent-val : (m : Message) (h : Header) → ◌≡◌ {A = Outgoing} (Some (m, h)) (send n.me i (Val t)) → m ≡ Val t
+  sent-val m h e = let q : ◌≡◌ {A = Message × Header} (m, h) (Val t, record { sender = n.me.number; epoch = n.me.epoch; index = i }) = cc in ap (λ (x : Message × Header). x.0) q
+
   -- what the step of a message sends is that VAL, and so the message is an ACK and completes the view
   step-last : (k sender : ℕ) (m : Message) (v : List ℕ) → (deliver_step ties n.me k (record_of k n) sender m v).sent ≡ send n.me i (Val t)
       → (k ≡ i) × ((s : Timestamp) × (m ≡ Ack s)) × (completes n.me (record_of k n) sender ≡ true)
-  unfolding valued
-  step-last k sender (Inv s) v e = absurd (omega (arith, ap valued e, none (later (under ties n.me.settings) s (record_of k n).timestamp)))
+  step-last k sender (Inv s) v e = absurd (none (later (under ties n.me.settings) s (record_of k n).timestamp) e)
     where
-      none : (b : Bool) → valued (inv_step b n.me k (record_of k n) s sender v).sent ≡ 0
-      none true = refl
-      none false = refl
+      none : (b : Bool) → (inv_step b n.me k (record_of k n) s sender v).sent ≡ send n.me i (Val t) → ⊥
+      none true e = let q : Ack s ≡ Val t = sent-val (Ack s) _ e in cc
+      none false e = let q : Ack s ≡ Val t = sent-val (Ack s) _ e in cc
   step-last k sender (Ack s) v e = go (completes n.me (record_of k n) sender) e
     where
       go : (c : Bool) → (ack_step c n.me k (record_of k n) sender).sent ≡ send n.me i (Val t) → (k ≡ i) × ((s' : Timestamp) × (Ack s ≡ Ack s')) × (c ≡ true)
       go true e = (ap index_of e, (s, refl), refl)
-      go false e = absurd (omega (arith, ap valued e))
-  step-last k sender (Val s) v e = absurd (omega (arith, ap valued e))
+      go false e = absurd (cc)
+  step-last k sender (Val s) v e = absurd (cc)
 
   -- nothing leaves a refusal
   silent : (r : Refused) → sent_by (Err r) ≡ send n.me i (Val t) → ⊥
-  unfolding valued
-  silent r e = omega (arith, ap valued e)
+  silent r e = cc
 
   module _ (log : List Logged) where
     sent-last : (x : Logged) (m : Memᴰ x log) (o : Outcome) → o ≡ apply ties n x.header.index (Deliver (received x)) x.body → sent_by o.answer ≡ send n.me i (Val t)

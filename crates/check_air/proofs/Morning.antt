@@ -108,47 +108,35 @@ acknowledged = after_event written 0 (Deliver (received ack_logged)) []
 abbrev struck : Laptop
 struck = after_call (callers.view 1 3) acknowledged
 
-called-inv : Called inv_logged inv
+called : Called inv_logged inv × Called ack_logged ack × Called val_logged val
 unfolding has size lowest within others_in with later same_timestamp padded place refusal effect start apply view viewed good entry_bytes walk fetch_refusal fetched accept_refusal accepted take_refusal taken summed contents packet_bytes all_good write_refusal packet_written output_of entry_in word_messages receipt decode table_of
-called-inv = call inv_logged inv (fresh 0) Write (65 ∷ 49 ∷ []) (record { who = refl; answer = refl; bytes = refl; there = refl; leaves = refl })
-
-called-ack : Called ack_logged ack
-unfolding has size lowest within others_in with later same_timestamp padded place refusal effect start apply view viewed good entry_bytes walk fetch_refusal fetched accept_refusal accepted take_refusal taken summed contents packet_bytes all_good write_refusal packet_written output_of entry_in word_messages receipt decode table_of
-called-ack = call ack_logged ack (fresh 1) (Deliver (received inv_logged)) (65 ∷ 49 ∷ []) (record { who = refl; answer = refl; bytes = refl; there = refl; leaves = refl })
-
-called-val : Called val_logged val
-unfolding has size lowest within others_in with later same_timestamp padded place refusal effect start apply view viewed good entry_bytes walk fetch_refusal fetched accept_refusal accepted take_refusal taken summed contents packet_bytes all_good write_refusal packet_written output_of entry_in word_messages receipt decode table_of
-called-val = call val_logged val struck Validate [] (record { who = refl; answer = refl; bytes = refl; there = refl; leaves = refl })
+called = (
+  call inv_logged inv (fresh 0) Write (65 ∷ 49 ∷ []) (record { who = refl; answer = refl; bytes = refl; there = refl; leaves = refl }),
+  call ack_logged ack (fresh 1) (Deliver (received inv_logged)) (65 ∷ 49 ∷ []) (record { who = refl; answer = refl; bytes = refl; there = refl; leaves = refl }),
+  call val_logged val struck Validate [] (record { who = refl; answer = refl; bytes = refl; there = refl; leaves = refl }),
+)
 
 -- packed together
 packs : (ss : List Sending) → (pack_answer (words_sent ss) (bodies_sent ss) (replicate 60 0)).number ≡ 0 → Packed Lower ss (packet_of ss)
 packs ss e = record { out = replicate 60 0; accepted = e; front = refl }
 
-inv-packed : Packed Lower (inv ∷ inv ∷ []) (packet_of (inv ∷ inv ∷ []))
+packed : Packed Lower (inv ∷ inv ∷ []) (packet_of (inv ∷ inv ∷ [])) × Packed Lower (inv ∷ ack ∷ []) (packet_of (inv ∷ ack ∷ [])) × Packed Lower (val ∷ []) (packet_of (val ∷ []))
 unfolding has size lowest within others_in with later same_timestamp padded place refusal effect start apply view viewed good entry_bytes walk fetch_refusal fetched accept_refusal accepted take_refusal taken summed contents packet_bytes all_good write_refusal packet_written output_of entry_in word_messages receipt decode table_of
-inv-packed = packs (inv ∷ inv ∷ []) refl
-
-ack-packed : Packed Lower (inv ∷ ack ∷ []) (packet_of (inv ∷ ack ∷ []))
-unfolding has size lowest within others_in with later same_timestamp padded place refusal effect start apply view viewed good entry_bytes walk fetch_refusal fetched accept_refusal accepted take_refusal taken summed contents packet_bytes all_good write_refusal packet_written output_of entry_in word_messages receipt decode table_of
-ack-packed = packs (inv ∷ ack ∷ []) refl
-
-val-packed : Packed Lower (val ∷ []) (packet_of (val ∷ []))
-unfolding has size lowest within others_in with later same_timestamp padded place refusal effect start apply view viewed good entry_bytes walk fetch_refusal fetched accept_refusal accepted take_refusal taken summed contents packet_bytes all_good write_refusal packet_written output_of entry_in word_messages receipt decode table_of
-val-packed = packs (val ∷ []) refl
+packed = (packs (inv ∷ inv ∷ []) refl, packs (inv ∷ ack ∷ []) refl, packs (val ∷ []) refl)
 
 -- what a delivery rests on: the three messages in their packets, the VAL as numbers, a broken packet
 inv-came : FromAir Lower (inv_logged ∷ []) (packet_of (inv ∷ inv ∷ [])) 0
-inv-came = record { message = inv_logged; earlier = Memᴰ.head refl; sending = inv; called = called-inv; before = []; after = inv ∷ []; packed = inv-packed; place = refl }
+inv-came = record { message = inv_logged; earlier = Memᴰ.head refl; sending = inv; called = called.0; before = []; after = inv ∷ []; packed = packed.0; place = refl }
 
 ack-came : FromAir Lower (inv_logged ∷ ack_logged ∷ []) (packet_of (inv ∷ ack ∷ [])) 1
 ack-came = record {
   message = ack_logged;
   earlier = Memᴰ.tail (Memᴰ.head refl);
   sending = ack;
-  called = called-ack;
+  called = called.1;
   before = inv ∷ [];
   after = [];
-  packed = ack-packed;
+  packed = packed.1;
   place = refl;
 }
 
@@ -163,7 +151,7 @@ val-earlier : Memᴰ val_logged log
 val-earlier = Memᴰ.tail (Memᴰ.tail (Memᴰ.head refl))
 
 val-came : FromAir Lower log (packet_of (val ∷ [])) 0
-val-came = record { message = val_logged; earlier = val-earlier; sending = val; called = called-val; before = []; after = []; packed = val-packed; place = refl }
+val-came = record { message = val_logged; earlier = val-earlier; sending = val; called = called.2; before = []; after = []; packed = packed.2; place = refl }
 
 val-numbers : AsNumbers log 0 val_numbers []
 val-numbers = record { message = val_logged; earlier = val-earlier; index = refl; same = refl; bytes = refl }
@@ -229,33 +217,31 @@ asked : Hands (node asker) (callers.ask 0) 0 a1 (65 ∷ 49 ∷ [])
 unfolding has size lowest within others_in with later same_timestamp padded place refusal effect ask_stamp ask_hands start apply view viewed good entry_bytes walk fetch_refusal fetched accept_refusal accepted take_refusal taken summed contents packet_bytes all_good write_refusal packet_written output_of entry_in word_messages receipt decode table_of
 asked = callers-opened.asks (record { number = 0; tie = 0; version = 1; len = 2 }) refl (subst (AskDone (node asker) 0) answered (asks asker 0)) refl refl refl
 
--- its commits
-saves : CallsApart morning (take 19 morning) (take 2 (drop 20 morning)) asking (committing 22)
+-- its commits, and its next read
+apart : CallsApart morning (take 19 morning) (take 2 (drop 20 morning)) asking (committing 22)
+    × CallsApart morning (take 19 morning) (take 4 (drop 20 morning)) asking (committing 24)
+    × CallsApart morning (take 19 morning) [] asking (turn (after hut (take 20 morning)) (by 1 (callers.read 0)))
 unfolding has size lowest within others_in with later same_timestamp padded place refusal effect ask_stamp ask_hands start apply view viewed good entry_bytes walk fetch_refusal fetched accept_refusal accepted take_refusal taken summed contents packet_bytes all_good write_refusal packet_written output_of entry_in word_messages receipt decode table_of
-saves = record { rest = drop 23 morning; split = refl; one = refl }
-
-late : CallsApart morning (take 19 morning) (take 4 (drop 20 morning)) asking (committing 24)
-unfolding has size lowest within others_in with later same_timestamp padded place refusal effect ask_stamp ask_hands start apply view viewed good entry_bytes walk fetch_refusal fetched accept_refusal accepted take_refusal taken summed contents packet_bytes all_good write_refusal packet_written output_of entry_in word_messages receipt decode table_of
-late = record { rest = drop 25 morning; split = refl; one = refl }
-
-rereads : CallsApart morning (take 19 morning) [] asking (turn (after hut (take 20 morning)) (by 1 (callers.read 0)))
-unfolding has size lowest within others_in with later same_timestamp padded place refusal effect ask_stamp ask_hands start apply view viewed good entry_bytes walk fetch_refusal fetched accept_refusal accepted take_refusal taken summed contents packet_bytes all_good write_refusal packet_written output_of entry_in word_messages receipt decode table_of
-rereads = record { rest = drop 21 morning; split = refl; one = refl }
+apart = (
+  record { rest = drop 23 morning; split = refl; one = refl },
+  record { rest = drop 25 morning; split = refl; one = refl },
+  record { rest = drop 21 morning; split = refl; one = refl },
+)
 
 opened : CallsOpened new_settings hut morning
 opened = called-asking three 1 issued new_settings hut begun morning followed
 
 kept : ((record_of 0 (laptop hut (take 22 morning) 1)).timestamp ≡ a1) × Shows (laptop hut (take 22 morning) 1) 0 × Alike 0 (laptop hut (take 22 morning) 1) (laptop hut (take 19 morning) 1)
 unfolding has size lowest within others_in with later same_timestamp padded place refusal effect ask_stamp ask_hands start apply view viewed good entry_bytes walk fetch_refusal fetched accept_refusal accepted take_refusal taken summed contents packet_bytes all_good write_refusal packet_written output_of entry_in word_messages receipt decode table_of
-kept = opened.kept 0 (take 19 morning) (take 2 (drop 20 morning)) asking (committing 22) saves a1 (65 ∷ 49 ∷ []) (66 ∷ []) asked refl refl (take 2 (drop 20 morning)) [] refl
+kept = opened.kept 0 (take 19 morning) (take 2 (drop 20 morning)) asking (committing 22) apart.0 a1 (65 ∷ 49 ∷ []) (66 ∷ []) asked refl refl (take 2 (drop 20 morning)) [] refl
 
 newer : later (under ties new_settings) (record_of 0 (laptop hut (take 24 morning) 1)).timestamp a1 ≡ true
 unfolding has size lowest within others_in with later same_timestamp padded place refusal effect ask_stamp ask_hands start apply view viewed good entry_bytes walk fetch_refusal fetched accept_refusal accepted take_refusal taken summed contents packet_bytes all_good write_refusal packet_written output_of entry_in word_messages receipt decode table_of
-newer = opened.newer 0 (take 19 morning) (take 4 (drop 20 morning)) asking (committing 24) late a1 (65 ∷ 49 ∷ []) (66 ∷ []) asked refl refl
+newer = opened.newer 0 (take 19 morning) (take 4 (drop 20 morning)) asking (committing 24) apart.1 a1 (65 ∷ 49 ∷ []) (66 ∷ []) asked refl refl
 
 one-text : (text : List ℕ) → Hands (laptop hut (take 20 morning) 1) (callers.read 0) 0 a1 text → text ≡ 65 ∷ 49 ∷ []
 unfolding has size lowest within others_in with later same_timestamp padded place refusal effect ask_stamp ask_hands start apply view viewed good entry_bytes walk fetch_refusal fetched accept_refusal accepted take_refusal taken summed contents packet_bytes all_good write_refusal packet_written output_of entry_in word_messages receipt decode table_of
-one-text text x = sym ((opened.forward 0 (take 19 morning) [] asking (turn (after hut (take 20 morning)) (by 1 (callers.read 0))) rereads a1 a1 (65 ∷ 49 ∷ []) text asked x).1 refl)
+one-text text x = sym ((opened.forward 0 (take 19 morning) [] asking (turn (after hut (take 20 morning)) (by 1 (callers.read 0))) apart.2 a1 a1 (65 ∷ 49 ∷ []) text asked x).1 refl)
 
 pub morning-holds : Morning
 unfolding has size lowest within others_in with later same_timestamp padded place refusal effect start apply view viewed good entry_bytes walk fetch_refusal fetched accept_refusal accepted take_refusal taken summed contents packet_bytes all_good write_refusal packet_written output_of entry_in word_messages receipt decode table_of
@@ -271,11 +257,11 @@ morning-holds = record {
   by_validate = record { split = refl; finishes = validates refl; number = refl; then = refl; shown = refl };
   by_ack = record { split = refl; finishes = acknowledges tt (record { version = 2; tie = 1 }) refl; number = refl; then = refl; shown = refl };
   asked = asked;
-  saves = saves;
+  saves = apart.0;
   stamp_kept = kept.0;
   shown_still = kept.1;
   bytes_kept = kept.2;
-  late = late;
+  late = apart.1;
   newer = newer;
   one_text = one-text;
 }
