@@ -1,10 +1,11 @@
 -- One entry there and back: its 16 bytes and its fields, its fields and its message.
 use mathlib.Core.Path.{◌≡◌, refl, sym, ◌∙◌}
-use mathlib.Core.Bool.{true, false}
+use mathlib.Core.Bool.{true, false, ◌&&◌, and-true}
 use mathlib.Core.List.{List, [], ◌∷◌, ◌++◌}
 use Prim.Native.Nat.{ℕ, ◌≤◌}
-use borrow.Author.Tests.{leb-true}
-use lib.Dec.{leb}
+use native.Mathlib.Omega.{arith}
+use borrow.Author.Tests.{leb-true, eq-eqb, ne_eqb, le-leb}
+use lib.Dec.{leb, eqb}
 use lib.ListN.{length, drop, get_or}
 use Rattle.hermes_record.specs.declared.timestamp.Timestamp.{Timestamp}
 use Rattle.hermes.specs.Kind.{inv, val, known}
@@ -85,6 +86,16 @@ good-parts f h =
 
 pub not_good : (f : Fields) → (Good f → ⊥) → false ≡ good f
 not_good f n = sym (false_from_ne_true (good f) (λ h. n (good-parts f h)))
+
+-- fields whose sender, tie-breaker, record and length are within their limits
+module _ (f : Fields) (sender : f.sender ≤ 15) (tie : f.tie ≤ 15) (index : f.index ≤ 4095) (len : f.len ≤ 192) where
+  pub of_inv : f.kind ≡ 1 → true ≡ good f
+  unfolding good
+  of_inv k = simp (le-leb 1 f.kind (omega arith), le-leb f.kind 3 (omega arith), le-leb _ _ sender, le-leb _ _ tie, le-leb _ _ index, le-leb _ _ len, eq-eqb _ _ k)
+
+  pub of_other : (f.kind ≡ 1 → ⊥) → (leb 1 f.kind && leb f.kind 3 && eqb f.len 0) ≡ good f
+  unfolding good
+  of_other k = simp (le-leb _ _ sender, le-leb _ _ tie, le-leb _ _ index, le-leb _ _ len, ne_eqb _ _ k, and-true)
 
 -- an offset is no part of `good`
 pub good-offset : (e : Entry) (a b : ℕ) → good (fields_for e a) ≡ good (fields_for e b)

@@ -4,6 +4,8 @@ use Rattle.std.specs.Prelude.{Option, None, Some}
 use Rattle.hermes_record.specs.declared.timestamp.Timestamp.{Timestamp}
 use Rattle.hermes_record.specs.declared.record.Record.{Record}
 use Rattle.hermes.specs.declared.event.Replica.{Replica}
+use Rattle.hermes.specs.declared.event.Event.{Event}
+use Rattle.hermes.specs.declared.event.Event.TheVariants.{Read, Ask, Write, Commit, Replay, Deliver, Validate, Resend}
 use Rattle.hermes.specs.declared.event.Moved.{Moved}
 use Rattle.hermes_record.specs.Order.{ties}
 use Rattle.hermes.specs.Guards.{AllYes, question8, question9}
@@ -12,6 +14,28 @@ use Rattle.hermes.proofs.Guards.{event-passed, own-passed, write-own, commit-own
 use Rattle.replica_outcome.specs.Placing.{room, stored_for}
 use Rattle.replica_outcome.proofs.Bytes.{room-passed, stored-for}
 use Rattle.replica_saving.specs.Saving.{save_of, first_of}
+
+-- the events that save their value
+abbrev pub Saves : Event → Type 0
+Saves Read = ⊥
+Saves Ask = ⊥
+Saves Write = Unit
+Saves (Commit t) = Unit
+Saves Replay = ⊥
+Saves (Deliver m) = ⊥
+Saves Validate = ⊥
+Saves Resend = ⊥
+
+-- each of them is a write or a commit
+pub saves_as : (e : Event) → Saves e → (opened : Option Timestamp) × (save_of opened ≡ e)
+saves_as Write s = (None, refl)
+saves_as (Commit t) s = (Some t, refl)
+saves_as Read s = absurd s
+saves_as Ask s = absurd s
+saves_as Replay s = absurd s
+saves_as (Deliver m) s = absurd s
+saves_as Validate s = absurd s
+saves_as Resend s = absurd s
 
 module _ (me : Replica) (i : ℕ) (r : Record) where
   -- the questions of a write and of a commit differ in the first
