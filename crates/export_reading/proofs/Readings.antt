@@ -1,28 +1,42 @@
 -- A read and an ask by the number of their refusal: what hermes's `apply`, `read` and `asked` say of it.
-use Rattle.std.specs.Prelude.{ℕ, zero, suc, ◌<◌, ◌≡◌, Ok, Err, List, [], length}
+use Rattle.std.specs.Prelude.{ℕ, zero, suc, ◌<◌, ◌≡◌, Result, Ok, Err, List, [], length}
 use Rattle.std.proofs.Common.{refl, sym, ap, ◌∙◌, arith}
 use Rattle.hermes_record.specs.declared.timestamp.Timestamp.{Timestamp}
 use Rattle.hermes_record.specs.declared.record.Record.{Record}
 use Rattle.hermes.specs.declared.event.Refused.{Refused}
-use Rattle.hermes.specs.declared.event.Replica.{Replica}
-use Rattle.hermes.specs.declared.event.Event.TheVariants.{Read}
+use Rattle.hermes.specs.declared.event.Subject.{Subject}
+use Rattle.hermes.specs.declared.event.Moved.{Moved}
+use Rattle.hermes.specs.declared.event.Event.TheVariants.{Read, Ask}
 use Rattle.hermes.specs.Answer.{Answer, Outgoing}
 use Rattle.hermes_record.specs.Order.{ties}
 use Rattle.hermes.specs.Event.{Step, read_step, moved, moved_by, effect, number_of, part_of, read_part, ask_stamp, ask_hands, refusal}
 use Rattle.hermes.specs.Store.{value_at}
 use Rattle.hermes.specs.Node.{Node, Outcome, record_of, apply, asked}
 use Rattle.hermes.proofs.Apply.{refusal_of}
-use Rattle.hermes.proofs.Asking.{as_read_lem, ask-gives}
+use Rattle.hermes.proofs.Asking.{as_read_lem, moves-as-read, ask-gives}
 use Rattle.hermes.proofs.Guards.{event-passed, slot-fits}
 use Rattle.replica_outcome.proofs.Outcomes.{no-stamp}
+use Rattle.replica_reading.specs.Asking.{handed_by}
 use Rattle.export_numbers.specs.declared.numbers.CetskobiReading.{CetskobiReading}
 use Rattle.export_numbers.specs.declared.numbers.CetskobiReplica.{CetskobiReplica}
+use Rattle.export_numbers.specs.Crossing.{replica_of}
+use Rattle.export_records.specs.Layout.{count_of}
 use Rattle.export_records.proofs.Lent.{length-table}
 use Rattle.export_calls.specs.Part.{PartAt}
-use Rattle.export_calls.specs.Calls.{node_of}
+use Rattle.export_calls.specs.Calls.{node_of, beginning}
+use Rattle.export_calls.proofs.Beginnings.{begun-passed}
 use Rattle.export_calls.proofs.Parts.{whole_part, no_part}
 use Rattle.export_calls.proofs.Ends.{Taken}
-use Rattle.export_reading.specs.Reading.{ReadDone, AskDone, HandedOut}
+use Rattle.export_reading.specs.Reading.{reading_of, ReadDone, AskDone}
+
+-- what a read or an ask comes to, of the record that it hands out or of the question that said no
+abbrev pub stamp_of : Result Record Refused → Timestamp
+stamp_of (Ok r) = r.timestamp
+stamp_of (Err e) = record { version = 0; tie = 0 }
+
+pub record HandedOut (n : Node) (i : ℕ) (h : Result Record Refused) : Type 0 where
+  pub reading : ReadDone n i (reading_of h)
+  pub stamp : stamp_of h ≡ (asked n i).timestamp
 
 -- the number of an answer is that of the first no
 number-moved : (k : ℕ) (r : Record) (s : Step) → number_of (moved_by k r s).answer ≡ k
@@ -37,6 +51,15 @@ said-no (suc k) r s e h = let q : suc k ≡ e.0 = ap number_of h in (q, omega (a
 said-yes : (k : ℕ) (r : Record) (s : Step) (o : Outgoing) → (moved_by k r s).answer ≡ Ok o → k ≡ 0
 said-yes zero r s o h = refl
 said-yes (suc k) r s o h = absurd (cc)
+
+-- what an ask hands out tells its answer
+handed-no : (a : Answer) (t : Timestamp) (e : Refused) → handed_by a t ≡ Err e → a ≡ Err e
+handed-no (Ok o) t e h = absurd (cc)
+handed-no (Err x) t e h = let q : x ≡ e = cc in rw q
+
+handed-yes : (a : Answer) (t u : Timestamp) → handed_by a t ≡ Ok u → (o : Outgoing) × (a ≡ Ok o) × (u ≡ t)
+handed-yes (Ok o) t u h = (o, refl, cc)
+handed-yes (Err e) t u h = absurd (cc)
 
 module _ (n : Node) (i : ℕ) where
   answered : number_of (apply ties n i Read []).answer ≡ refusal_of n i Read []
@@ -71,22 +94,50 @@ module _ (n : Node) (i : ℕ) where
         stamp = rw z;
       })
 
--- the same of the code, which took the record out of the bytes and asked the engine
-module _ (me : CetskobiReplica) (bytes store : List ℕ) (i : ℕ) (who : Replica) (count : ℕ) (r : Record) (t : Taken me bytes i who count r) (a : Answer) (answers : a ≡ (moved ties who count (length store) i r Read []).answer) where
+-- the same of the code, which took the subject out of the bytes and asked the engine
+module _ (me : CetskobiReplica) (bytes store : List ℕ) (i : ℕ) (s : Subject) (whole : s ≡ record { me = replica_of me; count = count_of (length bytes); index = i; found = s.found }) (begins : Ok s.found ≡ beginning (replica_of me) bytes (length store) i) where
   abbrev n : Node
   n = node_of me bytes store
 
-  here : a ≡ (moved_by (refusal_of n i Read []) (record_of i n) (read_step (record_of i n))).answer
-  unfolding moved
-  here = rw (t.identity, t.counted, t.found, ← length-table bytes) at answers
+  identity : s.me ≡ replica_of me
+  identity = ap (λ (x : Subject). x.me) whole
 
-  pub read-refused : (e : Refused) → a ≡ Err e → HandedOut n i (Err e)
-  read-refused e refused =
-      let (said, l) = said-no (refusal_of n i Read []) (record_of i n) (read_step (record_of i n)) e (sym here ∙ refused) in
-      refuses n i e said l
+  counted : s.count ≡ count_of (length bytes)
+  counted = ap (λ (x : Subject). x.count) whole
 
-  pub read-accepted : (o : Outgoing) → a ≡ Ok o → HandedOut n i (Ok r)
-  read-accepted o passed = hands n i r t.found (said-yes (refusal_of n i Read []) (record_of i n) (read_step (record_of i n)) o (sym here ∙ passed))
+  placed : s.index ≡ i
+  placed = ap (λ (x : Subject). x.index) whole
+
+  found : s.found ≡ record_of i n
+  found = begun-passed (replica_of me) bytes (length store) i s.found (sym begins)
+
+  module _ (a : Answer) (answers : a ≡ (moved ties s.me s.count (length store) s.index s.found Read []).answer) where
+    here : a ≡ (moved_by (refusal_of n i Read []) (record_of i n) (read_step (record_of i n))).answer
+    unfolding moved
+    here = rw (identity, counted, placed, found, ← length-table bytes) at answers
+
+    pub read-refused : (e : Refused) → a ≡ Err e → HandedOut n i (Err e)
+    read-refused e refused =
+        let (said, l) = said-no (refusal_of n i Read []) (record_of i n) (read_step (record_of i n)) e (sym here ∙ refused) in
+        refuses n i e said l
+
+    pub read-accepted : (o : Outgoing) → a ≡ Ok o → HandedOut n i (Ok s.found)
+    read-accepted o passed = hands n i s.found found (said-yes (refusal_of n i Read []) (record_of i n) (read_step (record_of i n)) o (sym here ∙ passed))
+
+  -- an ask answers as a read
+  module _ (h : Result Timestamp Refused) (asks : h ≡ handed_by (moved ties s.me s.count (length store) s.index s.found Ask []).answer (ask_stamp s.me s.count (length store) s.index s.found)) where
+    as-read : (moved ties s.me s.count (length store) s.index s.found Ask []).answer ≡ (moved ties s.me s.count (length store) s.index s.found Read []).answer
+    as-read = ap (λ (m : Moved). m.answer) (moves-as-read ties s.me s.count (length store) s.index s.found)
+
+    pub ask-refused : (e : Refused) → h ≡ Err e → HandedOut n i (Err e)
+    ask-refused e refused = read-refused _ as-read e (handed-no _ _ e (sym asks ∙ refused))
+
+    -- and hands out the timestamp of the record
+    pub ask-accepted : (t : Timestamp) → h ≡ Ok t → ReadDone n i (reading_of (Ok s.found)) × (t ≡ (asked n i).timestamp)
+    unfolding ask_hands
+    ask-accepted t passed =
+        let (o, was, is) = handed-yes _ _ t (sym asks ∙ passed) in
+        ((read-accepted _ as-read o was).reading, is ∙ rw (identity, counted, placed, found, length-table bytes))
 
 -- an ask beside a read
 pub ask_done : (n : Node) (i : ℕ) (p : CetskobiReading) (t : Timestamp) → ReadDone n i p → t ≡ (asked n i).timestamp

@@ -3,6 +3,7 @@ use Rattle.std.specs.Prelude.{ℕ, ◌≡◌, Result, Ok, Err, []}
 use Rattle.hermes_record.specs.declared.timestamp.Timestamp.{Timestamp}
 use Rattle.hermes_record.specs.declared.record.Record.{Record}
 use Rattle.hermes.specs.declared.event.Refused.{Refused}
+use Rattle.hermes.specs.declared.event.Subject.{Subject}
 use Rattle.hermes.specs.declared.event.Event.TheVariants.{Read, Ask}
 use Rattle.hermes_record.specs.Order.{ties}
 use Rattle.hermes.specs.Event.{number_of}
@@ -23,16 +24,16 @@ pub record AskDone (n : Node) (i : ℕ) (p : CetskobiAsked) : Type 0 where
   pub version : p.version ≡ (asked n i).timestamp.version
   pub tie : p.tie ≡ (asked n i).timestamp.tie
 
--- ---- both, of the record that was handed out, or of the question that said no
+-- ---- the same of what the code hands out, or of the question that said no
+
+abbrev pub found_by : Result Subject Refused → Result Record Refused
+found_by (Ok s) = Ok s.found
+found_by (Err e) = Err e
 
 abbrev pub reading_of : Result Record Refused → CetskobiReading
 reading_of (Ok r) = record { number = 0; len = r.len }
 reading_of (Err e) = record { number = e.0; len = 0 }
 
-abbrev pub stamp_of : Result Record Refused → Timestamp
-stamp_of (Ok r) = r.timestamp
-stamp_of (Err e) = record { version = 0; tie = 0 }
-
-pub record HandedOut (n : Node) (i : ℕ) (h : Result Record Refused) : Type 0 where
-  pub reading : ReadDone n i (reading_of h)
-  pub stamp : stamp_of h ≡ (asked n i).timestamp
+abbrev pub asked_of : Result (Record × Timestamp) Refused → CetskobiAsked
+asked_of (Ok p) = record { number = 0; tie = p.1.tie; version = p.1.version; len = p.0.len }
+asked_of (Err e) = record { number = e.0; tie = 0; version = 0; len = 0 }

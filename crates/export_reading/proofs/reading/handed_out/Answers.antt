@@ -1,0 +1,25 @@
+-- `export_reading::reading::handed_out` meets its contract.
+use Rattle.std.specs.Prelude.{refl}
+use Rattle.std.proofs.Common.{sym, ap}
+use Rattle.std.proofs.lemmas.Result.{err_from_is_err_and}
+use Rattle.export_calls.proofs.Beginnings.{refused-by}
+use Rattle.export_reading.specs.Reading.{found_by}
+use Rattle.export_reading.proofs.Readings.{refuses, read-refused, read-accepted}
+use Rattle.export_calls.specs.Calls.{node_of}
+use Rattle.hermes.specs.declared.event.Event.TheVariants.{Read}
+use Rattle.export_reading.proofs.reading.handed_out.Goals as goal
+
+pub returns-in_err-s : goal.returns-in_err-s
+returns-in_err-s c = let w = c.args in
+    let p = err_from_is_err_and c.from_residual.result c.from_residual.ensures.1 in
+    let (said, l) = refused-by w.me w.table.now w.store.now w.i _ _ _ refl c.subject.ensures.begins (ap found_by c.in_err-s.was) Read 0 in
+    rw (p.1, p.2) (refuses (node_of w.me w.table.now w.store.now) w.i _ said l).reading
+
+pub returns-in_err-read_number : goal.returns-in_err-read_number
+returns-in_err-read_number c = let w = c.args in
+    let p = err_from_is_err_and c.from_residual-in_err-read_number.result c.from_residual-in_err-read_number.ensures.1 in
+    rw (p.1, p.2) (read-refused w.me w.table.now w.store.now w.i c.in_ok-s.s c.in_ok-s.ensures.whole c.in_ok-s.ensures.begins _ c.read_number.ensures _ c.in_err-read_number.was).reading
+
+pub returns : goal.returns
+returns c = let w = c.args in
+    (read-accepted w.me w.table.now w.store.now w.i c.in_ok-s.s c.in_ok-s.ensures.whole c.in_ok-s.ensures.begins _ c.read_number.ensures _ c.in_ok-read_number.was).reading
