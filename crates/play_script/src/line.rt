@@ -75,7 +75,7 @@ fn rest(s: &[u8]) -> &[u8]
 {
     match split(s) {
         Some((_, rest)) => rest,
-        None => &[],
+        None => &s[s.len()..],
     }
 }
 
