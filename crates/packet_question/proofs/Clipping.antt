@@ -1,5 +1,5 @@
 -- Clipped fields are good where the fields themselves are, and are then the same: question 22 may be asked of them.
-use Rattle.std.proofs.Common.{◌≡◌, ℕ, min, ◌≤◌, Bool, true, false, sym, ap, ◌∙◌, arith}
+use Rattle.std.proofs.Common.{◌≡◌, ℕ, min, ◌<◌, ◌≤◌, Bool, true, false, refl, sym, ap, ◌∙◌, arith}
 use Rattle.packet_format.specs.declared.entry.Fields.{Fields}
 use Rattle.packet_format.specs.Entry.{good}
 use Rattle.std.specs.Bool.{then_some}
@@ -27,6 +27,10 @@ clipped-bad f h =
     (λ t. let g = good-parts f t in let e = same f (omega (arith, g.last)) (omega (arith, g.sender)) (omega (arith, g.tie)) (omega (arith, g.len)) in false≢true (sym h ∙ ap good e ∙ t))
 
 -- the length of the body, where clipped fields are good
-pub body-of : (f : Fields) (yes : Bool) (len : ℕ) → yes ≡ good (clipped f) → len ≡ (clipped f).len → BodyOf f (then_some yes len)
-body-of f true len y e = let is = clipped-good f (sym y) in (sym (ap good is) ∙ sym y, e ∙ ap (λ (g : Fields). g.len) is)
-body-of f false len y e = clipped-bad f (sym y)
+pub body-of : (f : Fields) (yes : Bool) → yes ≡ good (clipped f) → BodyOf f (then_some yes f.len)
+body-of f true y = (sym (ap good (clipped-good f (sym y))) ∙ sym y, refl)
+body-of f false y = clipped-bad f (sym y)
+
+-- a kind that is no byte is none of the three
+pub no-kind : (f : Fields) → 255 < f.kind → good f ≡ false
+no-kind f l = false_from_ne_true (good f) (λ t. let g = good-parts f t in absurd (omega (arith, g.last)))

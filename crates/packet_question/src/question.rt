@@ -30,13 +30,18 @@ fn fields_at(words: &[u32], w: usize) -> Fields
     }
 }
 
-// The length of the body of the message at w, if its fields are as question 22 asks.
+// The length of the body of the message at w, if its fields are as question 22 asks. The kind is asked by itself, and the length is the word: the
+// compiler then compares the words, and makes no bytes of them.
 fn body_len(words: &[u32], w: usize) -> Option<usize>
     requires { w + 7 ≤ length words.now }
     ensures { BodyOf (fields_at words.now w 0) result }
 {
-    let f = fields_at(words, w);
-    f.good().then_some(f.len as usize)
+    if 255 < words[w] {
+        return None;
+    }
+    fields_at(words, w)
+        .good()
+        .then_some(words[w + 6] as usize)
 }
 
 // The question, of the first `count` messages.
