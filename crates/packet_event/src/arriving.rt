@@ -2,9 +2,9 @@
 ghost use Rattle.std.specs.Prelude.{◌≡◌};
 ghost use Rattle.packet_format.specs.Reading.{fetched};
 ghost use Rattle.packet_event.specs.Arrival.{received_of};
-ghost use Rattle.packet_event.specs.Arriving.{arriving_of};
+ghost use Rattle.packet_event.specs.Arriving.{arriving_of, delivery_of};
 
-use hermes::{Event, Received, Refused, Replica};
+use hermes::{Event, Received, Record, Refused, Replica};
 use packet_format::{Entry, Fetched};
 
 // What a packet's message comes to: an event on the record of this number. Its body goes with the fetch.
@@ -27,8 +27,8 @@ fn received(entry: Entry) -> Received
 }
 
 // The event of message i, read by the rule of replica me's group: its delivery. Of a refused packet there is none.
-pub fn event_in(me: Replica, bytes: &[u8], i: usize) -> Result<Arriving, Refused>
-    ensures { result ≡ arriving_of (fetched me.settings.rule bytes.now i) }
+pub fn delivery_in(me: Replica, bytes: &[u8], i: usize) -> Result<Arriving, Refused>
+    ensures { result ≡ delivery_of (fetched me.settings.rule bytes.now i) }
 {
     let fetched = packet_reader::fetch(me.settings.rule, bytes, i);
     let (entry, _) = fetched?;
@@ -37,4 +37,19 @@ pub fn event_in(me: Replica, bytes: &[u8], i: usize) -> Result<Arriving, Refused
         index: entry.header.index,
         event: Event::Deliver(received(entry)),
     })
+}
+
+// The same of every packet: a refused packet's event is refused too.
+pub fn event_in(me: Replica, bytes: &[u8], i: usize) -> Arriving
+    ensures { result ≡ arriving_of (fetched me.settings.rule bytes.now i) }
+{
+    match delivery_in(me, bytes, i) {
+        Ok(arriving) => arriving,
+        Err(no) => Arriving {
+            fetched: Err(no),
+            // no table that question 2 admits has a record of this number
+            index: Record::COUNT_MAX,
+            event: Event::Read,
+        },
+    }
 }

@@ -3,4 +3,4 @@
 
 mod arriving;
 
-pub use arriving::{Arriving, event_in};
+pub use arriving::{Arriving, delivery_in, event_in};

@@ -7,7 +7,7 @@ use Rattle.packet_format.specs.Answer.{Fetched}
 use Rattle.packet_format.specs.Reading.{body_of}
 use Rattle.packet_event.specs.declared.arriving.Arriving.{Arriving}
 use Rattle.packet_event.specs.Arrival.{receipt_of}
-use Rattle.packet_event.specs.Arriving.{arriving_of}
+use Rattle.packet_event.specs.Arriving.{delivery_of}
 
 module _ (wins : Orders) (n : Node) (p : List ℕ) where
   -- the outcome of what a fetch comes to
@@ -15,9 +15,9 @@ module _ (wins : Orders) (n : Node) (p : List ℕ) where
   outcome_of (Ok a) = apply wins n a.index a.event (body_of p a.fetched)
   outcome_of (Err r) = record { answer = Err r; node = n }
 
-  same : (f : Fetched) → outcome_of (arriving_of f) ≡ receipt_of wins n p f
+  same : (f : Fetched) → outcome_of (delivery_of f) ≡ receipt_of wins n p f
   same (Ok (e, at)) = refl
   same (Err r) = refl
 
-  pub met : (f : Fetched) (a : Result Arriving Refused) → a ≡ arriving_of f → outcome_of a ≡ receipt_of wins n p f
+  pub met : (f : Fetched) (a : Result Arriving Refused) → a ≡ delivery_of f → outcome_of a ≡ receipt_of wins n p f
   met f a e = ap outcome_of e ∙ same f

@@ -7,7 +7,7 @@ ghost use Rattle.hermes.specs.Node.{lent};
 ghost use Rattle.packet_event.specs.Arrival.{receipt};
 
 use hermes::{Answer, Record, Replica};
-use packet_event::event_in;
+use packet_event::delivery_in;
 
 // Message i of a packet is delivered to the record that it is about. A packet that the reader refuses changes nothing.
 pub fn receive(
@@ -21,7 +21,7 @@ pub fn receive(
         × ((table.new ≡ (receipt ties (lent me table.old store.old) bytes.now i).node.table)
         × (store.new ≡ (receipt ties (lent me table.old store.old) bytes.now i).node.store)) }
 {
-    let arriving = event_in(me, bytes, i)?;
+    let arriving = delivery_in(me, bytes, i)?;
     let value = packet_reader::body(bytes, arriving.fetched);
     replica_table::apply(me, table, store, arriving.index, arriving.event, value)
 }
