@@ -9,7 +9,7 @@ pub struct Envelope {
     sender: u8,
     epoch: u32,
     message: Message,
-    len: usize,
+    len: u8,
     bytes: [u8; 192],
     ghost fits: { len ≤ 192 },
 }
@@ -38,7 +38,7 @@ impl Envelope {
             sender: header.sender,
             epoch: header.epoch,
             message,
-            len: body.len(),
+            len: body.len() as u8,
             bytes,
         }
     }
@@ -57,7 +57,7 @@ impl Envelope {
     pub fn body(&self) -> &[u8]
         ensures { result.now ≡ (logged_of self.now).body }
     {
-        &self.bytes[..self.len]
+        &self.bytes[..self.len as usize]
     }
 }
 
