@@ -8,12 +8,7 @@ use hermes::{Record, Refused};
 
 // Record i, if a read hands it out.
 #[inline(always)]
-fn handed_out(
-    me: CetskobiReplica,
-    table: &[u8],
-    store: &[u8],
-    i: usize,
-) -> Result<Record, Refused>
+fn handed_out(me: CetskobiReplica, table: &[u8], store: &[u8], i: usize) -> Result<Record, Refused>
     ensures { ReadDone (node_of me table.now store.now) i (reading_of result) }
 {
     let s = subject(me, table, store.len(), i)?;

@@ -39,9 +39,7 @@ fn body_len(words: &[u32], w: usize) -> Option<usize>
     if 255 < words[w] {
         return None;
     }
-    fields_at(words, w)
-        .good()
-        .then_some(words[w + 6] as usize)
+    fields_at(words, w).good().then_some(words[w + 6] as usize)
 }
 
 // The question, of the first `count` messages.
