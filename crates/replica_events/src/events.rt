@@ -15,7 +15,8 @@ pub fn step(s: Subject, store: &mut [u8], e: Event, value: &[u8]) -> Moved
         × (store.new ≡ (effect ties s.me s.count s.index s.found store.old e value.now).store) }
 {
     match e {
-        Event::Read | Event::Ask => read_event(s, store.len()),
+        Event::Read => read_event(s, store.len()),
+        Event::Ask => read_event(s, store.len()),
         Event::Write => write(s, store, value),
         Event::Commit(t) => commit(s, store, t, value),
         Event::Replay => replay(s, store.len()),
