@@ -26,7 +26,6 @@ use Rattle.export_calls.specs.Part.{PartAt}
 use Rattle.export_calls.specs.Calls.{node_of, beginning}
 use Rattle.export_calls.proofs.Beginnings.{begun-passed}
 use Rattle.export_calls.proofs.Parts.{whole_part, no_part}
-use Rattle.export_calls.proofs.Ends.{Taken}
 use Rattle.export_reading.specs.Reading.{reading_of, ReadDone, AskDone}
 
 -- what a read or an ask comes to, of the record that it hands out or of the question that said no

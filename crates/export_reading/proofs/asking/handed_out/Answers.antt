@@ -1,6 +1,6 @@
 -- `export_reading::asking::handed_out` meets its contract.
 use Rattle.std.specs.Prelude.{refl}
-use Rattle.std.proofs.Common.{sym, ap}
+use Rattle.std.proofs.Common.{ap}
 use Rattle.std.proofs.lemmas.Result.{err_from_is_err_and}
 use Rattle.export_calls.proofs.Beginnings.{refused-by}
 use Rattle.export_reading.specs.Reading.{found_by}

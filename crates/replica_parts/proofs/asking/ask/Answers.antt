@@ -4,7 +4,6 @@ use Rattle.std.proofs.Common.{[], ap, length, refl}
 use Rattle.hermes_record.specs.declared.timestamp.Timestamp.{Timestamp}
 use Rattle.hermes_record.specs.declared.record.Record.{Record}
 use Rattle.hermes.specs.declared.event.Refused.{Refused}
-use Rattle.hermes.specs.Answer.{Answer}
 use Rattle.hermes_record.specs.Order.{ties}
 use Rattle.hermes.specs.declared.event.Event.TheVariants.{Ask}
 use Rattle.hermes.specs.Event.{Effect, refusal, moved, ask_stamp, ask_hands, moved_by, read_step}
