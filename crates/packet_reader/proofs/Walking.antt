@@ -34,6 +34,10 @@ module _ (p : List ℕ) (k at : ℕ) (w : Walked p k at) (more : k < count_of p)
   pub walked-bad : false ≡ (good f && eqb f.offset at) → (question22 p).yes ≡ false
   walked-bad unfit = w.rest ∙ turn p (count_of p) k at (length p) f false more reads unfit
 
+-- the same walk, where the code gives its numbers other names
+pub walked_at : (p : List ℕ) (k at : ℕ) → Walked p k at → (k' at' : ℕ) → k' ≡ k → at' ≡ at → Walked p k' at'
+walked_at p k at w k' at' e e' = rw (e, e') w
+
 -- behind the last entry: the last body ends at the total, or not
 pub walked_all : (p : List ℕ) (at : ℕ) → Walked p (count_of p) at → eqb at (length p) ≡ (question22 p).yes
 walked_all p at w = sym (w.rest ∙ walk-done (count_of p - count_of p) (drop (entry_place (count_of p)) p) at (length p) (omega arith))

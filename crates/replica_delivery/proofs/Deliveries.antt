@@ -19,6 +19,10 @@ use Rattle.replica_outcome.proofs.Outcomes.{accepted, goes}
 use Rattle.replica_delivery.specs.Storing.{stores}
 
 module _ (me : Replica) (count bytes i : ℕ) (r : Record) (m : Received) (v : List ℕ) where
+  -- the same questions, where the code gives their operands other names
+  pub as_asked : {a b : Asked} → a ≡ b → b ≡ asked (common me count bytes i r (own me r (Deliver m) (length v))) r → a ≡ asked (common me count bytes i r (own me r (Deliver m) (length v))) r
+  as_asked e is = e ∙ is
+
   -- an accepted invalidation brings no more than 192 bytes
   short : (t : Timestamp) → m.message ≡ Inv t → refusal me count bytes i r (Deliver m) (length v) ≡ 0 → length v ≤ 192
   short t is z = inv-fits m.message t (length v) is (deliver-own me r m (length v) (own-passed me count bytes i r (Deliver m) (length v) z)).shape

@@ -9,8 +9,9 @@ use Rattle.hermes.specs.declared.event.Event.TheVariants.{Read, Ask, Write, Comm
 use Rattle.hermes.specs.declared.event.Moved.{Moved}
 use Rattle.hermes_record.specs.Order.{ties}
 use Rattle.hermes.specs.Guards.{AllYes, question8, question9}
-use Rattle.hermes.specs.Event.{own, refusal, step, moved, effect, write_step}
+use Rattle.hermes.specs.Event.{common, own, refusal, step, moved, effect, write_step}
 use Rattle.hermes.proofs.Guards.{event-passed, own-passed, write-own, commit-own}
+use Rattle.replica_asking.specs.Cascade.{Asked, asked}
 use Rattle.replica_outcome.specs.Placing.{room, stored_for}
 use Rattle.replica_outcome.proofs.Bytes.{room-passed, stored-for}
 use Rattle.replica_saving.specs.Saving.{save_of, first_of}
@@ -43,6 +44,11 @@ module _ (me : Replica) (i : ℕ) (r : Record) where
   saves-own None n = refl
   saves-own (Some t) n = refl
 
+  -- the same questions, where the code gives the number of bytes another name
+  pub as_asked : (opened : Option Timestamp) (count bytes n : ℕ) {a : Asked} → a ≡ asked (common me count bytes i r (own me r (save_of opened) n)) r
+      → (n' : ℕ) → n ≡ n' → a ≡ asked (common me count bytes i r (own me r (save_of opened) n')) r
+  as_asked opened count bytes n e n' is = e ∙ ap (λ (k : ℕ). asked (common me count bytes i r (own me r (save_of opened) k)) r) is
+
   fits-own : (opened : Option Timestamp) (n : ℕ) → AllYes (own me r (save_of opened) n) → n ≤ 192
   fits-own None n y = (write-own me r n y).fits
   fits-own (Some t) n y = (commit-own me r t n y).fits
@@ -73,3 +79,6 @@ module _ (me : Replica) (count i : ℕ) (r : Record) (store v : List ℕ) (opene
   save-stored d h =
       ap (λ (x : Moved). stored_for x.answer count i v store) h
       ∙ stored-for no count i r (step ties me i r (save_of opened) v) v store (rw (saves-step me i r opened v)) fits
+
+-- `save` is proved by these: a proof that names its operands would refuse a right edit of one too
+pub ruleset saves = (save-moved, save-stored)

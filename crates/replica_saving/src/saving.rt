@@ -52,6 +52,7 @@ pub fn move_save(s: Subject, bytes: usize, opened: Option<Timestamp>, value: &[u
 }
 
 // A save of a value.
+#[tactic(auto, using(crate::proofs::Saves::saves))]
 pub(crate) fn save(s: Subject, store: &mut [u8], opened: Option<Timestamp>, value: &[u8]) -> Moved
     ensures { (result ≡ (effect ties s.me s.count s.index s.found store.old (save_of opened) value.now).moved)
         × (store.new ≡ (effect ties s.me s.count s.index s.found store.old (save_of opened) value.now).store) }

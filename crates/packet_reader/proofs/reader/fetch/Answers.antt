@@ -2,7 +2,7 @@
 use Rattle.std.proofs.Common.{sym, ap, ◌∙◌, arith, Ok}
 use Rattle.packet_format.specs.declared.entry.Entry.{Entry}
 use Rattle.packet_format.proofs.Reading.{fetch-23, fetch-0}
-use Rattle.packet_reader.proofs.Walking.{table, walked_more, walked-bad, turned-22}
+use Rattle.packet_reader.proofs.Walking.{table, walked_more, walked_at, walked-bad, turned-22}
 use Rattle.packet_reader.proofs.reader.fetch.Goals as goal
 
 pub returns-then-count-i : goal.returns-then-count-i
@@ -21,8 +21,8 @@ walk_on-requires-2 c =
     let (w, e) = c.in_ok-count.ensures in
     let f = c.fields_of-f in (
       table c.args.packet.now w.header w.whole,
-      walked_more c.args.packet.now c.args.i c.in_ok-at.at c.in_ok-at.ensures (omega (arith, e, c.if-count-i.false)) f.result f.ensures (sym c.if-not-fits.false ∙ c.fits.ensures),
-      omega (arith, c.if-count-i.false),
+      walked_at c.args.packet.now _ _ (walked_more c.args.packet.now c.args.i c.in_ok-at.at c.in_ok-at.ensures (omega (arith, e, c.if-count-i.false)) f.result f.ensures (sym c.if-not-fits.false ∙ c.fits.ensures)) _ _ (grind arith) (grind arith),
+      grind (arith, c.if-count-i.false),
       e,
     )
 
